@@ -1,0 +1,91 @@
+use Rattle.std.proofs.Common.{◌≡◌, ◌≢◌, ℕ, ◌+◌, ◌-◌, ◌*◌, ◌/◌, ◌%◌, ◌≤◌, Bool, true, false, List, length, take, drop, refl, ap, ◌∙◌, sym, arith, subst}
+use Rattle.std.proofs.lemmas.Bool.{false≢true, and_parts}
+use Rattle.std.proofs.lemmas.List.{length-take-le}
+use Rattle.base64ct.specs.Encoding.{Alphabet, padding_len, IsMisaligned, AreCharacters, EachBelow, Reads, decoded_len}
+use Rattle.base64ct.specs.Tables.{shaped}
+use Rattle.base64ct.proofs.Encodings.{below-take}
+use Rattle.base64ct.proofs.DecodingLaws.{decoding-None, decoding_is}
+use Rattle.base64ct.proofs.DecodingAnswers.{decoding-misaligned}
+use Rattle.base64ct.proofs.CountedAnswers.{Compares, found, refused, comparisons, encoding_found, encoding_passes}
+use Rattle.base64ct.proofs.tables.decode_with_into.Goals as goal
+use Rattle.base64ct.proofs.tables.decode_with_into.Goals.{else-shape-via-then-shape+else-src-ne0, else-shape-via-else-shape}
+
+pub returns-then-src-ne0-clause-decoded : goal.returns-then-src-ne0-clause-decoded
+returns-then-src-ne0-clause-decoded g c = λ equal room.
+    (refl, decoding-misaligned (shaped (g.T.CodeTable.characters c.args.table.now) c.args.shape) c.args.src.now (c.if-shape.true, c.if-src-ne0.true))
+
+pub returns-then-read-passed-clause-answer : goal.returns-then-read-passed-clause-answer
+returns-then-read-passed-clause-answer g c = λ ok room.
+    let a = shaped (g.T.CodeTable.characters c.args.table.now) c.args.shape in
+    let both = and_parts _ _ c.if-read-passed.true in
+    found g.C.SameByte.related a c.args.src.now c.read_stem-read.new.dst _ c.padding_under-padding.result _ c.compare_stem-passed.result (g.met.T.CodeTable.lawful c.args.table.now) c.padding_under-padding.ensures.count refl ok refl (omega arith)
+    (rw (← c.spell-zero.ensures.characters) (c.read_stem-read.ensures.read both.0))
+    (rw (← c.spell-zero.ensures.characters, ← c.read_stem-read.ensures.characters) c.compare_stem-passed.ensures.answer) both.1
+
+pub returns-then-read-passed-clause-equal : goal.returns-then-read-passed-clause-equal
+returns-then-read-passed-clause-equal g c = λ equal ok room.
+    let a = shaped (g.T.CodeTable.characters c.args.table.now) c.args.shape in
+    let answer = returns-then-read-passed-clause-answer g c ok room in
+    encoding_found g.C.SameByte.related a c.args.src.now _ (g.met.T.CodeTable.lawful c.args.table.now) (below-take 256 _ c.read_stem-read.new.dst (omega arith) c.read_stem-read.ensures.bytes) ok
+    (length-take-le _ c.read_stem-read.new.dst (omega arith) ∙ answer.0) equal answer.1 answer.2
+
+pub returns-then-read-passed-clause-decoded : goal.returns-then-read-passed-clause-decoded
+returns-then-read-passed-clause-decoded g c = λ equal room.
+    let a = shaped (g.T.CodeTable.characters c.args.table.now) c.args.shape in
+    let ok : IsMisaligned a c.args.src.now → ⊥ = λ wrong. elim c.else-shape.branch [
+      | else-shape-via-then-shape+else-src-ne0 w ↦ wrong.1 w.if-src-ne0.false
+      | else-shape-via-else-shape w ↦ false≢true (sym w.if-shape.false ∙ wrong.0)
+    ] in
+    decoding_is a c.args.src.now _ (g.met.T.CodeTable.lawful c.args.table.now) (below-take 256 _ c.read_stem-read.new.dst (omega arith) c.read_stem-read.ensures.bytes)
+    (returns-then-read-passed-clause-equal g c equal ok room)
+
+pub returns-then-read-passed-clause-sames : goal.returns-then-read-passed-clause-sames
+returns-then-read-passed-clause-sames g c =
+    let a = shaped (g.T.CodeTable.characters c.args.table.now) c.args.shape in
+    let ok : IsMisaligned a c.args.src.now → ⊥ = λ wrong. elim c.else-shape.branch [
+      | else-shape-via-then-shape+else-src-ne0 w ↦ wrong.1 w.if-src-ne0.false
+      | else-shape-via-else-shape w ↦ false≢true (sym w.if-shape.false ∙ wrong.0)
+    ] in
+    let n : ℕ = c.padding_under-padding.result in
+    let count : n ≡ padding_len a c.args.src.now = c.padding_under-padding.ensures.count in
+    let fits : decoded_len a c.args.src.now ≤ length c.args.dst.now = rw (← count) (omega (arith, length-take-le (length c.args.src.now - n) c.args.src.now (omega arith))) in
+    c.compare_stem-passed.ensures.sames ∙ rw (comparisons a c.args.src.now _ n (length c.args.dst.now) count refl ok fits) refl
+
+pub returns-else-read-passed-clause-answer : goal.returns-else-read-passed-clause-answer
+returns-else-read-passed-clause-answer g c = λ ok room.
+    let a = shaped (g.T.CodeTable.characters c.args.table.now) c.args.shape in (
+      refl,
+      refused g.C.SameByte.related a c.args.src.now c.read_stem-read.new.dst _ c.padding_under-padding.result _ c.read_stem-read.result c.compare_stem-passed.result (g.met.T.CodeTable.lawful c.args.table.now) c.padding_under-padding.ensures.count refl ok refl (omega arith)
+          (rw (← c.spell-zero.ensures.characters) c.read_stem-read.ensures.read) (rw (← c.spell-zero.ensures.characters) c.read_stem-read.ensures.accepted)
+          (rw (← c.spell-zero.ensures.characters, ← c.read_stem-read.ensures.characters) c.compare_stem-passed.ensures.answer) c.compare_stem-passed.ensures.empty c.if-read-passed.false,
+    )
+
+pub returns-else-read-passed-clause-equal : goal.returns-else-read-passed-clause-equal
+returns-else-read-passed-clause-equal g c = λ equal ok room. (
+  refl,
+  λ b below is.
+      let a = shaped (g.T.CodeTable.characters c.args.table.now) c.args.shape in
+      let pass = encoding_passes g.C.SameByte.related a c.args.src.now b (g.met.T.CodeTable.lawful c.args.table.now) below equal (sym is) in
+      (returns-else-read-passed-clause-answer g c ok room).1 b pass.0 pass.1,
+)
+
+pub returns-else-read-passed-clause-decoded : goal.returns-else-read-passed-clause-decoded
+returns-else-read-passed-clause-decoded g c = λ equal room.
+    let a = shaped (g.T.CodeTable.characters c.args.table.now) c.args.shape in
+    let ok : IsMisaligned a c.args.src.now → ⊥ = λ wrong. elim c.else-shape.branch [
+      | else-shape-via-then-shape+else-src-ne0 w ↦ wrong.1 w.if-src-ne0.false
+      | else-shape-via-else-shape w ↦ false≢true (sym w.if-shape.false ∙ wrong.0)
+    ] in
+    (refl, decoding-None a c.args.src.now (returns-else-read-passed-clause-equal g c equal ok room).1)
+
+pub returns-else-read-passed-clause-sames : goal.returns-else-read-passed-clause-sames
+returns-else-read-passed-clause-sames g c =
+    let a = shaped (g.T.CodeTable.characters c.args.table.now) c.args.shape in
+    let ok : IsMisaligned a c.args.src.now → ⊥ = λ wrong. elim c.else-shape.branch [
+      | else-shape-via-then-shape+else-src-ne0 w ↦ wrong.1 w.if-src-ne0.false
+      | else-shape-via-else-shape w ↦ false≢true (sym w.if-shape.false ∙ wrong.0)
+    ] in
+    let n : ℕ = c.padding_under-padding.result in
+    let count : n ≡ padding_len a c.args.src.now = c.padding_under-padding.ensures.count in
+    let fits : decoded_len a c.args.src.now ≤ length c.args.dst.now = rw (← count) (omega (arith, length-take-le (length c.args.src.now - n) c.args.src.now (omega arith))) in
+    c.compare_stem-passed.ensures.sames ∙ rw (comparisons a c.args.src.now _ n (length c.args.dst.now) count refl ok fits) refl

@@ -1,0 +1,11 @@
+pub mod Encoding
+pub mod Steps
+pub mod Alphabets
+pub mod StepsAgree
+pub mod Decoding
+pub mod Blocks
+pub mod Tables
+pub mod Counts
+pub mod Texts
+pub mod LineEndings
+pub mod Lent

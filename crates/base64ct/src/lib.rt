@@ -1,0 +1,32 @@
+//! Base64 in eight alphabets, by arithmetic without tables of characters and without branches on them.
+//!
+//! [`Encoding`] encodes and decodes whole texts. [`decode_with`] and [`Counts`] count how often characters
+//! are looked up and compared, so that a caller can see that the numbers tell nothing but lengths.
+#![tactic(auto)]
+
+mod alphabet;
+mod blocks;
+mod counts;
+mod decode;
+mod encode;
+mod encoding;
+mod errors;
+mod in_place;
+pub mod laws;
+mod lent;
+mod line_ending;
+mod tables;
+#[cfg(test)]
+mod tests;
+
+pub use alphabet::bcrypt::Base64Bcrypt;
+pub use alphabet::crypt::Base64Crypt;
+pub use alphabet::pbkdf2::Base64Pbkdf2;
+pub use alphabet::shacrypt::Base64ShaCrypt;
+pub use alphabet::standard::{Base64, Base64Unpadded};
+pub use alphabet::url::{Base64Url, Base64UrlUnpadded};
+pub use counts::{Counted, Counts, decode_with};
+pub use encoding::Encoding;
+pub use errors::{DecodeVecError, Error, InvalidEncodingError, InvalidLengthError};
+pub use line_ending::LineEnding;
+pub use tables::{CodeTable, Shape, decode_with_into};

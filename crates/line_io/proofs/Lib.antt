@@ -1,0 +1,5 @@
+pub mod LineLaws
+pub mod Moved
+pub mod BufferLaws
+pub mod Runs
+mod LineVectors

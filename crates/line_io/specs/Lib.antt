@@ -1,0 +1,7 @@
+pub mod Devices
+pub mod Memory
+pub mod Lines
+pub mod Buffer
+pub mod Steps
+pub mod System
+pub mod Runs

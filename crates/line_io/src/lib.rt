@@ -1,0 +1,20 @@
+//! The outside of a program: sources and sinks of bytes that count their faults, and the lines of a
+//! source in fixed memory.
+//!
+//! No call takes memory. A program generic over [`Source`] and [`Sink`] is run on standard input and
+//! output by [`StdSource`] and [`StdSink`], and tested by [`MemorySource`] and [`MemorySink`], which
+//! give few bytes at a time and fail at the calls that are listed.
+#![tactic(auto)]
+
+mod buffer;
+mod device;
+pub mod laws;
+mod memory;
+mod system;
+#[cfg(test)]
+mod tests;
+
+pub use buffer::{Line, LineBuffer};
+pub use device::{Failed, Sink, Source};
+pub use memory::{MemorySink, MemorySource};
+pub use system::{StdSink, StdSource};

@@ -1,0 +1,274 @@
+ghost use Rattle.std.specs.Prelude.{◌≤◌, ◌<◌, ◌^◌};
+
+use crate::{Failed, Line, LineBuffer, MemorySink, MemorySource, Sink, Source, StdSink, StdSource};
+use std::alloc::Global;
+use std::io::{self, ErrorKind, Read, Write};
+use std::process::Abort;
+use std::test::Fail;
+
+const STEPS: [usize; 3] = [1, 7, 16_384];
+
+/// Runs of a byte: the byte and how often it stands.
+fn text(alloc: Global, runs: &[(u8, usize)]) -> Result<Vec<u8>, Fail> {
+    let mut text = Vec::new(alloc);
+    for (byte, count) in runs {
+        for _ in 0..*count {
+            text.push(*byte)?;
+        }
+    }
+    Ok(text)
+}
+
+/// Compares the answers on a new buffer, up to the last one.
+fn expect_answers<R: Abort>(
+    rt: &R,
+    text: &[u8],
+    step: usize,
+    failing: &[u64],
+    max: u64,
+    expected: &[Line],
+)
+    requires some { 0 < step }
+    requires within { max ≤ 2 ^ 40 }
+{
+    let mut source = MemorySource::new(text, step, failing);
+    let mut buffer = LineBuffer::new(max);
+    for want in expected {
+        let answer = buffer.next_line(&mut source);
+        assert_eq!(rt; answer, *want, "step {step}, max {max}");
+        match answer {
+            Line::Whole(_) | Line::TooLong => {}
+            Line::End | Line::Failed | Line::Budget => return,
+        }
+    }
+}
+
+#[test]
+fn lines_by_length(rt: HostRuntime) -> Result<(), Fail> {
+    const MAX: u64 = 1 << 40;
+    let rows: [(&[(u8, usize)], &[Line]); 9] = [
+        (&[], &[Line::End]),
+        (
+            &[(b'\n', 2), (b'a', 1)],
+            &[Line::Whole(0), Line::Whole(0), Line::Whole(1), Line::End],
+        ),
+        (
+            &[(b'a', 8_192), (b'\n', 1), (b'b', 2)],
+            &[Line::Whole(8_192), Line::Whole(2), Line::End],
+        ),
+        (&[(b'a', 8_192)], &[Line::Whole(8_192), Line::End]),
+        (
+            &[(b'a', 8_193), (b'\n', 1), (b'b', 2)],
+            &[Line::TooLong, Line::Whole(2), Line::End],
+        ),
+        (&[(b'a', 8_193)], &[Line::TooLong, Line::End]),
+        (
+            &[
+                (b'a', 3),
+                (b'\n', 1),
+                (b'b', 20_000),
+                (b'\n', 1),
+                (b'c', 4),
+                (b'\n', 1),
+            ],
+            &[Line::Whole(3), Line::TooLong, Line::Whole(4), Line::End],
+        ),
+        (
+            &[
+                (b'a', 8_000),
+                (b'\n', 1),
+                (b'b', 8_192),
+                (b'\n', 1),
+                (b'c', 8_192),
+            ],
+            &[
+                Line::Whole(8_000),
+                Line::Whole(8_192),
+                Line::Whole(8_192),
+                Line::End,
+            ],
+        ),
+        (
+            &[(b'a', 16_385), (b'\n', 2)],
+            &[Line::TooLong, Line::Whole(0), Line::End],
+        ),
+    ];
+    for (runs, expected) in rows {
+        let text = text(rt.alloc(), runs)?;
+        for step in STEPS {
+            assert!(rt; step > 0);
+            expect_answers(&rt, text.as_slice(), step, &[], MAX, expected);
+        }
+    }
+    Ok(())
+}
+
+#[test]
+fn budgets_and_faults(rt: HostRuntime) {
+    // A text, the calls that fail at step 1, the bytes that count, the answers.
+    let rows: [(&[u8], &[u64], u64, &[Line]); 11] = [
+        (
+            b"ab\ncd\n",
+            &[],
+            6,
+            &[Line::Whole(2), Line::Whole(2), Line::End],
+        ),
+        (b"ab\ncd\n", &[], 5, &[Line::Whole(2), Line::Budget]),
+        (b"ab\ncd\n", &[], 3, &[Line::Whole(2), Line::Budget]),
+        (b"ab\ncd\n", &[], 2, &[Line::Budget]),
+        (b"ab", &[], 2, &[Line::Whole(2), Line::End]),
+        (b"ab", &[], 1, &[Line::Budget]),
+        (b"", &[], 0, &[Line::End]),
+        (b"a", &[], 0, &[Line::Budget]),
+        (b"ab\ncd", &[0], 9, &[Line::Failed]),
+        // A read that comes before the line is answered would fail.
+        (b"ab\ncd", &[3], 9, &[Line::Whole(2), Line::Failed]),
+        // After the end nothing is read.
+        (b"ab", &[3], 9, &[Line::Whole(2), Line::End]),
+    ];
+    for (text, failing, max, expected) in rows {
+        assert!(rt; max <= 9);
+        expect_answers(&rt, text, 1, failing, max, expected);
+    }
+}
+
+#[test]
+fn lines_as_they_stand(rt: HostRuntime) {
+    let mut source = MemorySource::new(b"one\r\n\n\xff\ntwo", 2, &[]);
+    let mut buffer = LineBuffer::new(100);
+    assert_eq!(rt; buffer.line(), b"".as_slice());
+    assert_eq!(rt; buffer.next_line(&mut source), Line::Whole(4));
+    assert_eq!(rt; buffer.line(), b"one\r".as_slice());
+    assert_eq!(rt; buffer.next_line(&mut source), Line::Whole(0));
+    assert_eq!(rt; buffer.line(), b"".as_slice());
+    assert_eq!(rt; buffer.next_line(&mut source), Line::Whole(1));
+    assert_eq!(rt; buffer.line(), b"\xff".as_slice());
+    assert_eq!(rt; buffer.next_line(&mut source), Line::Whole(3));
+    assert_eq!(rt; buffer.line(), b"two".as_slice());
+    assert_eq!(rt; buffer.next_line(&mut source), Line::End);
+    assert_eq!(rt; buffer.line(), b"".as_slice());
+}
+
+#[test]
+fn memory_reads_and_writes(rt: HostRuntime) {
+    let mut room = [0; 4];
+    let mut source = MemorySource::new(b"abcdefgh", 5, &[1]);
+    let mut buf = [0; 7];
+    assert_eq!(rt; source.read(&mut buf[..3]), Ok(3));
+    assert_eq!(rt; source.read(&mut buf[3..]), Err(Failed));
+    assert_eq!(rt; source.read(&mut buf[3..]), Ok(4));
+    assert_eq!(rt; buf, *b"abcdefg");
+    assert_eq!(rt; source.read(&mut buf), Ok(1));
+    assert_eq!(rt; source.read(&mut buf), Ok(0));
+
+    let mut sink = MemorySink::new(&mut room, 3, &[1]);
+    assert_eq!(rt; sink.write(b"abcd"), Ok(3));
+    assert_eq!(rt; sink.write(b"d"), Err(Failed));
+    assert_eq!(rt; sink.write(b"de"), Ok(1));
+    assert_eq!(rt; sink.write(b"e"), Err(Failed));
+    assert_eq!(rt; sink.write(b""), Ok(0));
+    assert_eq!(rt; sink.bytes(), b"abcd".as_slice());
+}
+
+/// Some interruptions, and then a fault or none.
+#[derive(Clone, Copy, Debug)]
+struct Script {
+    interrupts: u32,
+    fails: bool,
+}
+
+impl Script {
+    fn next(&mut self) -> io::Result<()> {
+        if self.interrupts > 0 {
+            self.interrupts -= 1;
+            return Err(io::Error::from(ErrorKind::Interrupted));
+        }
+        if self.fails {
+            return Err(io::Error::from(ErrorKind::BrokenPipe));
+        }
+        Ok(())
+    }
+}
+
+/// A reader and a writer that follow scripts, for at most `count` bytes at a call.
+#[derive(Drop)]
+struct Scripted {
+    count: usize,
+    bytes: Script,
+    flush: Script,
+}
+
+impl Read for Scripted {
+    fn read(&mut self, buf: &mut [u8]) -> io::Result<usize> {
+        self.bytes.next()?;
+        Ok(self.count.min(buf.len()))
+    }
+}
+
+impl Write for Scripted {
+    fn write(&mut self, buf: &[u8]) -> io::Result<usize> {
+        self.bytes.next()?;
+        Ok(self.count.min(buf.len()))
+    }
+
+    fn flush(&mut self) -> io::Result<()> {
+        self.flush.next()
+    }
+}
+
+#[test]
+fn system_calls_are_tried_again(rt: HostRuntime) {
+    let well = |interrupts| Script {
+        interrupts,
+        fails: false,
+    };
+    let fault = Script {
+        interrupts: 1,
+        fails: true,
+    };
+    let mut buf = [0; 4];
+    for (count, bytes, expected) in [
+        (3, well(0), Ok(3)),
+        (9, well(2), Ok(4)),
+        (3, fault, Err(Failed)),
+        (3, well(65_535), Ok(3)),
+        (3, well(65_536), Err(Failed)),
+    ] {
+        let mut source = StdSource::new(Scripted {
+            count,
+            bytes,
+            flush: well(0),
+        });
+        assert_eq!(rt; source.read(&mut buf), expected, "{bytes:?}");
+    }
+    for (count, bytes, flush, expected) in [
+        (3, well(0), well(0), Ok(3)),
+        (9, well(2), well(3), Ok(4)),
+        (3, fault, well(0), Err(Failed)),
+        (3, well(0), fault, Err(Failed)),
+        (0, well(0), well(0), Err(Failed)),
+        (3, well(65_535), well(65_535), Ok(3)),
+        (3, well(65_536), well(0), Err(Failed)),
+        (3, well(0), well(65_536), Err(Failed)),
+    ] {
+        let mut sink = StdSink::new(Scripted {
+            count,
+            bytes,
+            flush,
+        });
+        assert_eq!(rt; sink.write(b"abcd"), expected, "{bytes:?} {flush:?}");
+    }
+}
+
+#[test]
+fn system_bytes(rt: HostRuntime) -> Result<(), Fail> {
+    let mut source = StdSource::new(b"one\ntwo".as_slice());
+    let mut buffer = LineBuffer::new(100);
+    let mut written = Vec::new(rt.alloc());
+    let mut sink = StdSink::new(&mut written);
+    assert_eq!(rt; buffer.next_line(&mut source), Line::Whole(3));
+    assert_eq!(rt; sink.write(buffer.line()), Ok(3));
+    assert_eq!(rt; sink.write(b""), Ok(0));
+    assert_eq!(rt; written.as_slice(), b"one".as_slice());
+    Ok(())
+}

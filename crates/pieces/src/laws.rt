@@ -1,0 +1,21 @@
+//! Laws over the definitions.
+
+ghost use Rattle.std.specs.Prelude.{◌≡◌, ℕ, List, ◌∷◌, ◌++◌};
+ghost use Rattle.std.specs.List.{join_with_byte};
+ghost use Rattle.pieces.specs.Pieces.{EachLacks, LacksByte, pieces_at};
+
+/// The pieces of a text, joined with the byte at which it was cut, are the text.
+pub fn join_pieces()
+    ensures text { (c : ℕ) (text : List ℕ) → join_with_byte c (pieces_at c text) ≡ text }
+{}
+
+/// Pieces without the byte, joined with it and cut again, are these pieces.
+pub fn cut_joined()
+    ensures pieces { (c : ℕ) (first : List ℕ) (others : List (List ℕ)) → LacksByte c first → EachLacks c others
+        → pieces_at c (join_with_byte c (first ∷ others)) ≡ first ∷ others }
+{}
+
+/// The pieces of a text that goes on behind a cut are those before it, followed by those behind it.
+pub fn cut_append()
+    ensures pieces { (c : ℕ) (front back : List ℕ) → pieces_at c (front ++ c ∷ back) ≡ pieces_at c front ++ pieces_at c back }
+{}

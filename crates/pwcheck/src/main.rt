@@ -1,0 +1,55 @@
+//! `pwcheck check`: answers each line of a password file with one word.
+//!
+//! A line is a password, a tab and a stored text. The lines come from standard input, and each word goes
+//! to standard output with a line feed. The status says how the run ended.
+#![tactic(auto)]
+
+mod answer;
+mod check;
+mod next;
+mod program;
+mod status;
+mod stop;
+#[cfg(test)]
+mod tests;
+mod words;
+mod write;
+
+ghost use Rattle.std.specs.Prelude.{◌≡◌, ◌⊎◌, IfErr};
+
+use line_io::{StdSink, StdSource};
+pub use program::{run, run_limited};
+use status::{NO_MEMORY, NO_WORDS};
+use std::process::ExitCode;
+use std::rt::Env;
+use std::{env, io};
+pub use words::Words;
+
+// The words of the command line without the program's name, or the status.
+fn command_line<R: Env + AllocGlobal>(rt: &R) -> Result<Words, u8>
+    ensures status { IfErr result (λ status. (status ≡ 5) ⊎ (status ≡ 8)) }
+{
+    let mut args = match env::args(rt) {
+        Ok(args) => args,
+        Err(error) if error.kind() == io::ErrorKind::OutOfMemory => return Err(NO_MEMORY),
+        Err(_) => return Err(NO_WORDS),
+    };
+    let mut words = Words::new(rt.alloc());
+    let _ = args.next();
+    for word in args {
+        if words.push(word.as_str()).is_err() {
+            return Err(NO_MEMORY);
+        }
+    }
+    Ok(words)
+}
+
+fn main(rt: HostRuntime) -> ExitCode {
+    let words = match command_line(&rt) {
+        Ok(words) => words,
+        Err(status) => return ExitCode::from(status),
+    };
+    let mut source = StdSource::new(rt.reader());
+    let mut sink = StdSink::new(io::writer(&rt));
+    ExitCode::from(run(rt.alloc(), &words, &mut source, &mut sink))
+}

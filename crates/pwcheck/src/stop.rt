@@ -1,0 +1,12 @@
+//! Why no further line is answered.
+
+/// Why no further line is answered.
+#[derive(Clone, Copy, Debug, PartialEq, Eq)]
+pub enum Stop {
+    /// The source has ended.
+    End,
+    /// A read failed.
+    Failed,
+    /// The source holds more bytes than may be read.
+    Budget,
+}

@@ -1,0 +1,4 @@
+mod Repeats
+mod Rounds
+mod Vectors
+pub mod HashFields

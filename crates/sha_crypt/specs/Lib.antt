@@ -1,0 +1,5 @@
+pub mod Digest
+pub mod HashField
+pub mod PlainText
+pub mod Views
+pub mod Families

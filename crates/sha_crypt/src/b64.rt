@@ -1,0 +1,84 @@
+//! Hash fields.
+
+ghost use Rattle.std.specs.Prelude.{◌≡◌, ◌≢◌, ◌≤◌, ℕ, List, length, true, MatchResult};
+ghost use Rattle.base64ct.specs.Encoding.{EachBelow, byte_count, unpadded_len};
+ghost use Rattle.sha_crypt.specs.HashField.{are_places, field_bytes, hash_field, in_order, undoes};
+
+use crate::DecodeError;
+use base64ct::{Base64ShaCrypt, Encoding};
+
+// How many bytes as many characters stand for.
+fn byte_count(text: &[u8]) -> usize
+    ensures { result ≡ byte_count (length text.now) }
+{
+    3 * (text.len() / 4) + 3 * (text.len() % 4) / 4
+}
+
+/// The `N` bytes whose encoding a text is.
+pub(crate) fn field_bytes<const N: usize>(text: &[u8]) -> Option<[u8; N]>
+    ensures { result ≡ field_bytes N text.now }
+{
+    let mut bytes = [0; N];
+    if byte_count(text) != N {
+        return None;
+    }
+    match Base64ShaCrypt::decode_into(text, &mut bytes) {
+        Ok(_) => Some(bytes),
+        Err(_) => None,
+    }
+}
+
+// Writes the bytes of a digest in the order of these places.
+fn put_in_order(places: &[u8], digest: &[u8], bytes: &mut [u8])
+    requires places { are_places (length digest.now) places.now ≡ true }
+    requires len { length bytes.old ≡ length places.now }
+    ensures small { EachBelow 256 bytes.new }
+    ensures value { bytes.new ≡ in_order places.now digest.now }
+{
+    'places: for k in 0..bytes.len() {
+        bytes[k] = digest[places[k] as usize];
+    }
+}
+
+/// The bytes of a digest in the order of these places.
+pub(crate) fn in_order<const N: usize>(places: &[u8; N], digest: &[u8; N]) -> [u8; N]
+    requires { are_places N places.now ≡ true }
+    ensures small { EachBelow 256 result }
+    ensures value { result ≡ in_order places.now digest.now }
+{
+    let mut bytes = [0; N];
+    put_in_order(places, digest, &mut bytes);
+    bytes
+}
+
+/// The hash field of a digest, of `M` characters.
+pub(crate) fn encode<const N: usize, const M: usize>(places: &[u8; N], digest: &[u8; N]) -> [u8; M]
+    requires places { are_places N places.now ≡ true }
+    requires len { unpadded_len N ≡ M }
+    requires short { N ≤ 64 }
+    ensures { result ≡ hash_field places.now digest.now }
+{
+    let bytes = in_order(places, digest);
+    let mut field = [0; M];
+    let _ = Base64ShaCrypt::encode_into(&bytes, &mut field);
+    field
+}
+
+/// The digest whose hash field a text is, where `back` tells at which place each of its bytes stands.
+pub(crate) fn decode<const N: usize>(
+    places: &[u8; N],
+    back: &[u8; N],
+    source: &[u8],
+) -> Result<[u8; N], DecodeError>
+    requires places { are_places N places.now ≡ true }
+    requires back { are_places N back.now ≡ true }
+    requires undoes { undoes N places.now back.now ≡ true }
+    ensures { MatchResult result
+        (λ digest. source.now ≡ hash_field places.now digest)
+        (λ _. (digest : List ℕ) → length digest ≡ N → EachBelow 256 digest → hash_field places.now digest ≢ source.now) }
+{
+    match field_bytes::<N>(source) {
+        Some(bytes) => Ok(in_order(back, &bytes)),
+        None => Err(DecodeError),
+    }
+}
