@@ -1,10 +1,10 @@
 -- A lenient text is an encoding exactly where its last block is encoded again as it stands.
-use Rattle.std.proofs.Common.{◌≡◌, ◌≢◌, ◌↔◌, ℕ, zero, suc, ◌+◌, ◌-◌, ◌*◌, ◌/◌, ◌%◌, ◌<◌, ◌≤◌, Bool, true, false, List, [], ◌∷◌, ◌++◌, length, map, take, drop, slice_index, refl, sym, ap, ◌∙◌, subst, arith}
+use Rattle.std.proofs.Common.{◌≡◌, ℕ, zero, suc, ◌+◌, ◌*◌, ◌%◌, ◌<◌, ◌≤◌, Bool, true, List, [], ◌∷◌, ◌++◌, length, map, take, drop, refl, sym, ap, ◌∙◌, arith}
 use Rattle.std.proofs.lemmas.List.{length-append, length-map, take-append-drop, take_at, length-take-le, take-map}
 use Rattle.base64ct.specs.Encoding.{Alphabet, is_alphabet, character, unpadded_encoding, encoding, groups, whole_bytes, EachBelow, IsLenient}
 use Rattle.base64ct.proofs.Sextets.{groups-append, groups-nil, groups-whole_bytes, whole_bytes-block, whole_bytes-append, whole_bytes-nil, whole_bytes-groups}
 use Rattle.base64ct.proofs.Encodings.{stem, stem-text, groups-below, length-groups, below-take}
-use Rattle.base64ct.proofs.Unpadded.{unpadded-append, length-unpadded}
+use Rattle.base64ct.proofs.Unpadded.{unpadded-append}
 use Rattle.base64ct.proofs.Padding.{encoding-is, encoding-from_stem, stem-encoding, length-text_padded}
 use Rattle.base64ct.proofs.Decoded.{rest_encoded}
 

@@ -1,12 +1,12 @@
 -- What decoding by a table and a test answers, over plain lists.
-use Rattle.std.proofs.Common.{◌≡◌, ◌≢◌, ◌⊎◌, ℕ, zero, suc, ◌+◌, ◌-◌, ◌*◌, ◌/◌, ◌%◌, ◌==◌, ◌<◌, ◌≤◌, Bool, true, false, cond, not, ◌&&◌, ◌||◌, List, [], ◌∷◌, ◌++◌, length, map, take, drop, replicate, refl, sym, ap, ◌∙◌, subst, arith, inl, inr}
+use Rattle.std.proofs.Common.{◌≡◌, ◌≢◌, ℕ, ◌+◌, ◌-◌, ◌*◌, ◌/◌, ◌%◌, ◌==◌, ◌<◌, ◌≤◌, Bool, true, false, cond, not, ◌&&◌, ◌||◌, List, [], ◌∷◌, length, map, take, drop, refl, sym, ap, ◌∙◌, subst, arith, inl, inr}
 use Rattle.std.specs.Cmp.Lexicographic.{pointwise, same_text}
-use Rattle.std.specs.Prelude.{count_by, nat_lt}
-use Rattle.std.proofs.lemmas.Bool.{cases_Bool, cases_eq, ne_eqb, eq-eqb, false≢true, le-ltb}
-use Rattle.std.proofs.lemmas.List.{length-map, length-take-le, length-drop, drop-take, take_at, nil_from_length}
+use Rattle.std.specs.Prelude.{nat_lt}
+use Rattle.std.proofs.lemmas.Bool.{cases_eq, ne_eqb, eq-eqb, false≢true, le-ltb}
+use Rattle.std.proofs.lemmas.List.{length-map, length-take-le, length-drop, take_at, nil_from_length}
 use Rattle.std.proofs.lemmas.List.Sums.{count_by-le-length}
-use Rattle.base64ct.specs.Encoding.{Alphabet, is_alphabet, character, unpadded_encoding, encoding, whole_bytes, byte_count, padding_len, equals_sign, decoded_len, EachBelow, AreCharacters, IsMisaligned, Reads, IsLenient}
-use Rattle.base64ct.specs.Tables.{stem, filled, last_of, last_four, compared, reencoded, Passes}
+use Rattle.base64ct.specs.Encoding.{Alphabet, is_alphabet, character, unpadded_encoding, encoding, byte_count, padding_len, equals_sign, decoded_len, EachBelow, AreCharacters, IsMisaligned, Reads, IsLenient}
+use Rattle.base64ct.specs.Tables.{stem, filled, last_four, compared, reencoded, Passes}
 use Rattle.base64ct.specs.Counts.{is_refused, look_count, comparison_count}
 use Rattle.base64ct.proofs.Values.{value_at, map-value-character}
 use Rattle.base64ct.proofs.Encodings.{stem-text, below-drop}

@@ -1,15 +1,11 @@
 -- What decoding by a table and a test rests on.
-use Rattle.std.proofs.Common.{◌≡◌, ◌≢◌, ◌↔◌, ℕ, zero, suc, ◌+◌, ◌-◌, ◌*◌, ◌/◌, ◌%◌, ◌==◌, ◌<◌, ◌≤◌, Bool, true, false, ◌&&◌, List, [], ◌∷◌, ◌++◌, length, map, take, drop, replicate, slice_index, None, bit_or, refl, sym, ap, ◌∙◌, subst, arith}
+use Rattle.std.proofs.Common.{◌≡◌, ◌≢◌, ℕ, ◌+◌, ◌-◌, ◌*◌, ◌/◌, ◌%◌, ◌≤◌, Bool, true, false, ◌&&◌, List, [], ◌∷◌, ◌++◌, length, take, drop, replicate, slice_index, None, bit_or, refl, sym, ap, ◌∙◌, subst, arith}
 use Rattle.std.specs.Cmp.Lexicographic.{pointwise}
-use Rattle.std.specs.Prelude.{count_by}
-use Rattle.std.proofs.lemmas.List.{append-nil, length-map, length-take-le, length-drop, drop-take, get_or-drop, take_at}
-use Rattle.std.proofs.lemmas.List.Sums.{count_by-le-length}
+use Rattle.std.proofs.lemmas.List.{append-nil, length-map, length-take-le, length-drop, get_or-drop}
 use borrow.Rule.Slice.PartMut.{put_mid}
-use Rattle.base64ct.specs.Encoding.{Alphabet, is_alphabet, character, value_of, unpadded_encoding, whole_bytes, byte_count, padding_len, equals_sign, EachBelow, AreCharacters, IsMisaligned, Reads, IsLenient}
+use Rattle.base64ct.specs.Encoding.{Alphabet, is_alphabet, character, value_of, unpadded_encoding, whole_bytes, byte_count, EachBelow, AreCharacters, Reads}
 use Rattle.base64ct.specs.Tables.{filled}
-use Rattle.base64ct.proofs.Values.{value_at, map-value-character}
-use Rattle.base64ct.proofs.Encodings.{stem-text, below-one, below-two}
-use Rattle.base64ct.proofs.Unpadded.{length-unpadded, unpadded-fill_one, unpadded-fill_two, are_characters-map}
+use Rattle.base64ct.proofs.Unpadded.{length-unpadded, unpadded-fill_one, unpadded-fill_two}
 use Rattle.base64ct.proofs.Last.{or_zero_l, or_zero_r}
 use Rattle.base64ct.proofs.Decoded.{Progress}
 use Rattle.base64ct.proofs.Lenience.{lenient_end, are_filled, zero_is}

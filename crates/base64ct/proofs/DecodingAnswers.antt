@@ -1,6 +1,6 @@
 -- What decoding answers, in the words of `decoding`.
-use Rattle.std.proofs.Common.{◌≡◌, ◌≢◌, ℕ, ◌%◌, List, length, take, sym, ap, ◌∙◌, true, arith}
-use Rattle.std.specs.Prelude.{Option, Some, None}
+use Rattle.std.proofs.Common.{◌≡◌, ℕ, ◌%◌, List, length, take, sym, ap, ◌∙◌, true, arith}
+use Rattle.std.specs.Prelude.{Some, None}
 use Rattle.base64ct.specs.Encoding.{Alphabet, is_alphabet, EachBelow, encoding, decoded_len, IsMisaligned}
 use Rattle.base64ct.specs.Decoding.{decoding}
 use Rattle.base64ct.proofs.Encodings.{below-take}

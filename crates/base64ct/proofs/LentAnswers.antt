@@ -1,7 +1,7 @@
 -- What the calls that lend a buffer say, from what was done to it and what is answered.
-use Rattle.std.proofs.Common.{◌≡◌, ◌≢◌, ℕ, ◌<◌, ◌≤◌, Bool, true, false, List, length, take, drop, Result, Ok, Err, refl, sym, ap, ◌∙◌, subst}
-use Rattle.std.specs.Prelude.{Some, None, MatchResult, IfOk, OnErr, IsErr, ◌↔◌, ◌⊎◌, ◌++◌, ◌==◌, if◌then◌else◌}
-use Rattle.std.proofs.lemmas.Bool.{eq-eqb, ne_eqb, false≢true}
+use Rattle.std.proofs.Common.{◌≡◌, ◌≢◌, ℕ, ◌<◌, ◌≤◌, List, length, take, drop, Result, Ok, Err, refl, sym, ap, ◌∙◌, subst}
+use Rattle.std.specs.Prelude.{Some, None, MatchResult, IfOk, OnErr, IsErr, ◌↔◌, ◌⊎◌, ◌++◌}
+use Rattle.std.proofs.lemmas.Bool.{ne_eqb, false≢true}
 use Rattle.std.proofs.lemmas.List.{length-take-le, take_at}
 use denote.Ref.{Bor}
 use Rattle.base64ct.specs.Encoding.{Alphabet, encoding, decoded_len, longest_input, EachBelow, IsMisaligned}

@@ -1,5 +1,5 @@
 -- The masked steps, computed for each byte.
-use Rattle.std.proofs.Common.{◌≡◌, ◌⊎◌, ℕ, ◌+◌, ◌%◌, ◌==◌, ◌<◌, ◌≤◌, Bool, true, false, cond, ◌&&◌, List, ℤ, pos, negsuc, ◌-ℤ◌, to_z, of_z, w16, ◌-◌, bit_and, slice_index, refl, sym, ap, ◌∙◌, arith, inl, inr}
+use Rattle.std.proofs.Common.{◌≡◌, ◌⊎◌, ℕ, ◌+◌, ◌%◌, ◌==◌, ◌<◌, Bool, true, false, cond, ◌&&◌, List, ℤ, pos, negsuc, ◌-ℤ◌, to_z, of_z, w16, ◌-◌, bit_and, slice_index, refl, ◌∙◌, inl, inr}
 use Rattle.std.specs.Prelude.{position, MatchOption, nat_lt, length, ◌+ℤ◌}
 use Rattle.std.specs.List.{position_or_len}
 use Rattle.std.proofs.lemmas.Bool.{agree_below, agree_below_at, and_parts, eqb-true, ltb-true, cases_Bool}

@@ -1,6 +1,6 @@
 -- The shifts that make six-bit values of bytes and bytes of values.
 use Rattle.std.proofs.Common.{◌≡◌, ℕ, zero, suc, slice_index, w32, ◌+◌, ◌*◌, ◌/◌, ◌%◌, ◌^◌, ◌<◌, true, false, List, [], ◌∷◌, bit_and, bit_or, refl, ◌∙◌, arith}
-use Rattle.std.specs.Int.{to_le_bytes, from_le_bytes}
+use Rattle.std.specs.Int.{to_le_bytes}
 use Rattle.std.proofs.lemmas.Nat.{and_mask, or_shifted, or_comm, le_bytes_4}
 use Rattle.base64ct.specs.Encoding.{groups, whole_bytes, EachBelow}
 use Rattle.base64ct.proofs.Sextets.{cons_equal, groups-three, groups-nil, whole_bytes-four, whole_bytes-nil}

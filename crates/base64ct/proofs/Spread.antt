@@ -1,8 +1,8 @@
 -- Bytes are taken apart to their values, block by block.
-use Rattle.std.proofs.Common.{◌≡◌, ℕ, zero, suc, ◌+◌, ◌*◌, ◌/◌, ◌%◌, ◌<◌, ◌≤◌, Bool, List, [], ◌∷◌, ◌++◌, length, map, take, drop, slice_index, refl, sym, ap, ◌∙◌, arith}
-use Rattle.std.proofs.lemmas.List.{append_assoc, take_at, take_more, take-append-drop, length-take-le, take_all, drop_more}
+use Rattle.std.proofs.Common.{◌≡◌, ℕ, ◌+◌, ◌*◌, ◌/◌, ◌<◌, ◌≤◌, Bool, List, [], ◌∷◌, ◌++◌, length, take, drop, slice_index, refl, sym, ap, ◌∙◌, arith}
+use Rattle.std.proofs.lemmas.List.{append_assoc, take_at, take_more, take-append-drop, length-take-le, take_all}
 use borrow.Rule.Slice.PartMut.{put_mid}
-use Rattle.base64ct.specs.Encoding.{Alphabet, character, groups, EachBelow}
+use Rattle.base64ct.specs.Encoding.{groups, EachBelow}
 use Rattle.base64ct.proofs.Sextets.{groups-append, groups-fill_one, groups-fill_two}
 use Rattle.base64ct.proofs.Encodings.{length-groups, below-take, below-one, below-two}
 use Rattle.base64ct.proofs.Unpadded.{put_after}

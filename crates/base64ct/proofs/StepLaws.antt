@@ -1,5 +1,5 @@
 -- What the steps of an alphabet give.
-use Rattle.std.proofs.Common.{◌≡◌, ℕ, zero, suc, ◌<◌, Bool, true, ◌&&◌, ◌==◌, ap, ◌∙◌, arith, inl, inr}
+use Rattle.std.proofs.Common.{◌≡◌, ℕ, zero, suc, ◌<◌, Bool, true, ◌==◌, ap, ◌∙◌, arith, inl, inr}
 use Rattle.std.proofs.lemmas.Bool.{and_parts, eqb-true, cases_eq}
 use Rattle.base64ct.specs.Encoding.{Alphabet, character, value_of}
 use Rattle.base64ct.specs.Steps.{Steps, all_below, decoded_by, encoded_by, word_of, steps_agree}

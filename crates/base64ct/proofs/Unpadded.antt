@@ -1,11 +1,11 @@
 -- The characters of bytes, block by block.
-use Rattle.std.proofs.Common.{◌≡◌, ℕ, zero, suc, ◌+◌, ◌*◌, ◌/◌, ◌%◌, ◌<◌, ◌≤◌, true, List, [], ◌∷◌, ◌++◌, length, map, take, drop, slice_index, Option, Some, None, refl, sym, ap, ◌∙◌, subst, arith}
-use Rattle.std.proofs.lemmas.List.{append_assoc, length-map, map-append, take_at, drop_at, take_more, take-append-drop, length-take-le, drop-drop, take_all, drop_all, drop_more}
+use Rattle.std.proofs.Common.{◌≡◌, ℕ, zero, suc, ◌+◌, ◌*◌, ◌/◌, ◌%◌, ◌<◌, true, List, [], ◌∷◌, ◌++◌, length, map, take, drop, slice_index, Option, Some, None, refl, sym, ap, ◌∙◌, subst, arith}
+use Rattle.std.proofs.lemmas.List.{append_assoc, length-map, map-append, take_at, drop_at, drop-drop, drop_all, drop_more}
 use borrow.Rule.Slice.PartMut.{put_mid, post_of}
 use Rattle.base64ct.specs.Encoding.{Alphabet, is_alphabet, character, unpadded_encoding, groups, whole_bytes, EachBelow, AreCharacters}
 use Rattle.base64ct.proofs.Sextets.{groups-append, groups-fill_one, groups-fill_two, groups-nil, whole_bytes-groups}
 use Rattle.base64ct.proofs.Values.{value_at, map-value-character, value_of-character}
-use Rattle.base64ct.proofs.Encodings.{length-groups, groups-below, below-take, below-one, below-two}
+use Rattle.base64ct.proofs.Encodings.{length-groups, groups-below}
 
 pub length-unpadded : (a : Alphabet) (bytes : List ℕ) → EachBelow 256 bytes → length (unpadded_encoding a bytes) ≡ (4 * length bytes + 2) / 3
 length-unpadded a bytes h = length-map (groups a.low_first bytes) (character a) ∙ length-groups a.low_first bytes h

@@ -1,6 +1,6 @@
 -- The definitions, computed on vectors from outside: the tests of the Rust crate `base64ct`, and RFC 4648.
 use Rattle.std.proofs.Common.{◌≡◌, true, [], ◌∷◌, refl}
-use Rattle.std.specs.Prelude.{codes, Some, None, List, ℕ}
+use Rattle.std.specs.Prelude.{codes, Some, None}
 use Rattle.base64ct.specs.Encoding.{low_bits, number, bits, sixes, eights, groups, whole_bytes, encoding, is_alphabet}
 use Rattle.base64ct.specs.Decoding.{decoding}
 use Rattle.base64ct.specs.Blocks.{blocks}

@@ -1,6 +1,6 @@
 //! Vectors from outside, rows that say what is refused, and the counts.
 
-ghost use Rattle.std.specs.Prelude.{◌≡◌, ◌+◌, ◌<◌, ◌^◌, ℕ, true, false};
+ghost use Rattle.std.specs.Prelude.{◌≡◌, ◌+◌, ◌<◌, ◌≤◌, ◌^◌, ℕ, length, true, false};
 
 use crate::{
     Base64, Base64Bcrypt, Base64Crypt, Base64Pbkdf2, Base64ShaCrypt, Base64Unpadded, Base64Url,
@@ -228,7 +228,9 @@ const UNPADDED: Shape = Shape {
 };
 
 // Decodes with the table of `Base64Unpadded` and equality, and tells what was counted.
-fn counted(rt: &impl Abort, text: &[u8], dst: &mut [u8], ok: bool, looks: u64, sames: u64) {
+fn counted(rt: &impl Abort, text: &[u8], dst: &mut [u8], ok: bool, looks: u64, sames: u64)
+    requires { length text.now ≤ 16 }
+{
     let mut table = Counted::<Base64Unpadded>::new();
     let mut cmp = Counting::new();
     let answer = decode_with_into(&mut table, &mut cmp, UNPADDED, text, dst);

@@ -49,10 +49,10 @@ same_hash places digest bytes hash small is =
     let m : List ℕ = in_order places digest in
     let parts = decoding-Some base64_sha_crypt hash bytes is in
     let there : pointwise nat_eq m bytes ≡ true → pointwise nat_eq (encoding base64_sha_crypt m) hash ≡ true =
-        λ h. rw (same_true m bytes h, ← parts.1) (true_same hash) in
+    λ h. rw (same_true m bytes h, ← parts.1) (true_same hash) in
     let back : pointwise nat_eq (encoding base64_sha_crypt m) hash ≡ true → pointwise nat_eq m bytes ≡ true =
-        λ h. let e : m ≡ bytes = encoding_once base64_sha_crypt m bytes refl small parts.0 (same_true (encoding base64_sha_crypt m) hash h ∙ parts.1) in
-        rw e (true_same bytes) in
+    λ h. let e : m ≡ bytes = encoding_once base64_sha_crypt m bytes refl small parts.0 (same_true (encoding base64_sha_crypt m) hash h ∙ parts.1) in
+    rw e (true_same bytes) in
     same_tests (pointwise nat_eq m bytes) (pointwise nat_eq (encoding base64_sha_crypt m) hash) there back
 
 none_some : (b : List ℕ) → None ≡ Some b → ⊥
@@ -72,7 +72,7 @@ pub answer_same : (H : List ℕ → List ℕ) (places password : List ℕ) (n : 
     → (if r then Ok tt else Err HashMismatch) ≡ fields_answer H places password (Some f)
 answer_same H places password n f bytes digest m r len found digest_is m_is small r_is =
     let same : pointwise nat_eq (in_order places digest) bytes ≡ pointwise nat_eq (hash_field places digest) f.hash =
-        same_hash places digest bytes f.hash (rw m_is at small) (decoded_of n bytes (decoding base64_sha_crypt f.hash) found) in
+    same_hash places digest bytes f.hash (rw m_is at small) (decoded_of n bytes (decoding base64_sha_crypt f.hash) found) in
     let test : r ≡ pointwise nat_eq (hash_field places digest) f.hash = r_is ∙ ap (λ (x : List ℕ). pointwise nat_eq x bytes) m_is ∙ same in
     rw (len, found, ← digest_is, ← test) refl
 
@@ -112,9 +112,9 @@ ordered_back n places back bytes lp lb len small undone =
     let f : ℕ → ℕ = λ k. slice_index bytes k in
     ordered places (in_order back bytes) bytes n (omega (arith, len, lp)) (omega (arith, len))
     (λ k lt.
-        let pos : 0 < n = omega (arith, lt) in
-        let in_back : slice_index places k < length back = omega (arith, all_below n places pos small k, lb) in
-        sym (get_or-map f back (slice_index places k) 0 0 in_back ∙ ap f (at_undone n k places back undone lt)))
+    let pos : 0 < n = omega (arith, lt) in
+    let in_back : slice_index places k < length back = omega (arith, all_below n places pos small k, lb) in
+    sym (get_or-map f back (slice_index places k) 0 0 in_back ∙ ap f (at_undone n k places back undone lt)))
 
 pub decoded : (n : ℕ) (places back source bytes digest : List ℕ) → length places ≡ n → length back ≡ n → length bytes ≡ n → are_places n places ≡ true → undoes n places back ≡ true
     → field_bytes n source ≡ Some bytes → digest ≡ in_order back bytes → source ≡ hash_field places digest
@@ -160,9 +160,12 @@ pub field_found : (n : ℕ) (places back text : List ℕ) (r : Option (List ℕ)
 field_found n places back text None is some lp lb small undone = absurd (false_true some)
 field_found n places back text (Some bytes) is some lp lb small undone =
     let f : ℕ → ℕ = λ k. slice_index bytes k in
-    let parts = decoding-Some base64_sha_crypt text bytes (decoded_of n bytes (decoding base64_sha_crypt text) is) in
-    (in_order back bytes, length-map back f ∙ lb, below_map back bytes parts.0,
-        decoded n places back text bytes (in_order back bytes) lp lb (kept_length n bytes (decoding base64_sha_crypt text) is) small undone is refl)
+    let parts = decoding-Some base64_sha_crypt text bytes (decoded_of n bytes (decoding base64_sha_crypt text) is) in (
+      in_order back bytes,
+      length-map back f ∙ lb,
+      below_map back bytes parts.0,
+      decoded n places back text bytes (in_order back bytes) lp lb (kept_length n bytes (decoding base64_sha_crypt text) is) small undone is refl,
+    )
 
 pub field_is_found : (n : ℕ) (places text : List ℕ) (r : Option (List ℕ)) → field_bytes n text ≡ r → length places ≡ n → IsHashField n places text → is_some r ≡ true
 field_is_found n places text None is lp h = absurd (not_decoded n places text h.0 lp is h.1 h.2 (sym h.3))
@@ -174,7 +177,7 @@ pub field_once : (n : ℕ) (places back x y : List ℕ) → length places ≡ n 
 unfolding hash_field
 field_once n places back x y lp lb small undone lx ly below_x below_y same =
     let ordered_same : in_order places x ≡ in_order places y =
-        encoding_once base64_sha_crypt (in_order places x) (in_order places y) refl (below_map places x below_x) (below_map places y below_y) same in
+    encoding_once base64_sha_crypt (in_order places x) (in_order places y) refl (below_map places x below_x) (below_map places y below_y) same in
     ordered_back n back places x lb lp lx small undone ∙ ap (in_order back) ordered_same ∙ sym (ordered_back n back places y lb lp ly small undone)
 
 -- an unpadded encoding has the length that its bytes ask for

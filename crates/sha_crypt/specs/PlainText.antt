@@ -35,7 +35,7 @@ abbrev pub fields_answer : (List ℕ → List ℕ) → List ℕ → List ℕ →
 fields_answer H places password None = Err (InvalidFormat NotBuilt)
 fields_answer H places password (Some f) =
     if is_hash_field (length places) f.hash then
-      (if pointwise nat_eq (hash_field places (sha_crypt_digest H password f.salt 5000)) f.hash then Ok tt else Err HashMismatch)
+    (if pointwise nat_eq (hash_field places (sha_crypt_digest H password f.salt 5000)) f.hash then Ok tt else Err HashMismatch)
     else Err (InvalidFormat Base64)
 
 -- the answer for a password and a stored text, under a hash function and its places

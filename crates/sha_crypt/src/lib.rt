@@ -22,14 +22,13 @@ mod params;
 #[cfg(test)]
 mod tests;
 
+use defs::BACK_SHA256;
 pub use defs::{
     BLOCK_SIZE_SHA256, BLOCK_SIZE_SHA512, MAP_SHA256, MAP_SHA512, PW_SIZE_SHA256, PW_SIZE_SHA512,
     SALT_MAX_LEN, TAB,
 };
 pub use errors::{CheckError, DecodeError, FormatFault};
 pub use params::{ROUNDS_DEFAULT, ROUNDS_MAX, ROUNDS_MIN, Sha256Params};
-
-use defs::BACK_SHA256;
 use sha2::Sha256;
 
 /// The SHA-256-crypt digest of a password and a salt, of which the first 16 bytes count.

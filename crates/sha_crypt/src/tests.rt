@@ -30,9 +30,18 @@ const DIGESTS: [(&str, &str, [u8; 32], [u8; 43]); 3] = [
 
 // Texts that are the password's.
 const MATCHES: [(&str, &str); 4] = [
-    ("Hello world!", "$5$saltstring$5B8vYYiY.CVt1RlTTf8KbXBH3hsxY/GNooZaBBGWEc5"),
-    ("This is just a test", "$5$toolongsaltstrin$Un/5jzAHMgOGZ5.mWJpuVolil07guHPvOW8mGRcvxa5"),
-    ("This is just a test", "$5$toolongsaltstring$Un/5jzAHMgOGZ5.mWJpuVolil07guHPvOW8mGRcvxa5"),
+    (
+        "Hello world!",
+        "$5$saltstring$5B8vYYiY.CVt1RlTTf8KbXBH3hsxY/GNooZaBBGWEc5",
+    ),
+    (
+        "This is just a test",
+        "$5$toolongsaltstrin$Un/5jzAHMgOGZ5.mWJpuVolil07guHPvOW8mGRcvxa5",
+    ),
+    (
+        "This is just a test",
+        "$5$toolongsaltstring$Un/5jzAHMgOGZ5.mWJpuVolil07guHPvOW8mGRcvxa5",
+    ),
     (
         "a very much longer text to encrypt.  This one even stretches over morethan one line.",
         "$5$anotherlongsaltst$xDOFsdwNAstVE3491M3cBSSbHS4ksOOPoR7XlHBf4G1",
@@ -41,18 +50,51 @@ const MATCHES: [(&str, &str); 4] = [
 
 // Texts that `Hello world!` doesn't match, and the answer.
 const REFUSED: [(&str, CheckError); 12] = [
-    ("$5$saltstring$5B8vYYiY.CVt1RlTTf8KbXBH3hsxY/GNooZaBBGWEc8", CheckError::HashMismatch),
-    ("$5$x$yHbtfs4Y8t6X1xcJemNX.4JQRfUTafA2qQenWGLBee2", CheckError::HashMismatch),
-    ("$5$saltstring$5B8vYYiY.CVt1RlTTf8KbXBH3hsxY/GNooZaBBGWEcL", CheckError::InvalidFormat(FormatFault::Base64)),
-    ("$5$saltstring$5B8vYYiY.CVt1RlTTf8KbXBH3hsxY/GNooZaBBGWEc", CheckError::InvalidFormat(FormatFault::Base64)),
-    ("$5$saltstring$5B8vYYiY.CVt1RlTTf8KbXBH3hsxY/GNooZaBBGWEc5.", CheckError::InvalidFormat(FormatFault::Base64)),
-    ("$5$saltstring$", CheckError::InvalidFormat(FormatFault::Base64)),
+    (
+        "$5$saltstring$5B8vYYiY.CVt1RlTTf8KbXBH3hsxY/GNooZaBBGWEc8",
+        CheckError::HashMismatch,
+    ),
+    (
+        "$5$x$yHbtfs4Y8t6X1xcJemNX.4JQRfUTafA2qQenWGLBee2",
+        CheckError::HashMismatch,
+    ),
+    (
+        "$5$saltstring$5B8vYYiY.CVt1RlTTf8KbXBH3hsxY/GNooZaBBGWEcL",
+        CheckError::InvalidFormat(FormatFault::Base64),
+    ),
+    (
+        "$5$saltstring$5B8vYYiY.CVt1RlTTf8KbXBH3hsxY/GNooZaBBGWEc",
+        CheckError::InvalidFormat(FormatFault::Base64),
+    ),
+    (
+        "$5$saltstring$5B8vYYiY.CVt1RlTTf8KbXBH3hsxY/GNooZaBBGWEc5.",
+        CheckError::InvalidFormat(FormatFault::Base64),
+    ),
+    (
+        "$5$saltstring$",
+        CheckError::InvalidFormat(FormatFault::Base64),
+    ),
     ("", CheckError::InvalidFormat(FormatFault::NotBuilt)),
-    ("$5$saltstring", CheckError::InvalidFormat(FormatFault::NotBuilt)),
-    ("5$saltstring$5B8vYYiY.CVt1RlTTf8KbXBH3hsxY/GNooZaBBGWEc5", CheckError::InvalidFormat(FormatFault::NotBuilt)),
-    ("$6$saltstring$5B8vYYiY.CVt1RlTTf8KbXBH3hsxY/GNooZaBBGWEc5", CheckError::InvalidFormat(FormatFault::NotBuilt)),
-    ("$5$rounds=5000$5B8vYYiY.CVt1RlTTf8KbXBH3hsxY/GNooZaBBGWEc5", CheckError::InvalidFormat(FormatFault::NotBuilt)),
-    ("$5$saltstring$5B8vYYiY.CVt1RlTTf8KbXBH3hsxY/GNooZaBBGWEc5$", CheckError::InvalidFormat(FormatFault::NotBuilt)),
+    (
+        "$5$saltstring",
+        CheckError::InvalidFormat(FormatFault::NotBuilt),
+    ),
+    (
+        "5$saltstring$5B8vYYiY.CVt1RlTTf8KbXBH3hsxY/GNooZaBBGWEc5",
+        CheckError::InvalidFormat(FormatFault::NotBuilt),
+    ),
+    (
+        "$6$saltstring$5B8vYYiY.CVt1RlTTf8KbXBH3hsxY/GNooZaBBGWEc5",
+        CheckError::InvalidFormat(FormatFault::NotBuilt),
+    ),
+    (
+        "$5$rounds=5000$5B8vYYiY.CVt1RlTTf8KbXBH3hsxY/GNooZaBBGWEc5",
+        CheckError::InvalidFormat(FormatFault::NotBuilt),
+    ),
+    (
+        "$5$saltstring$5B8vYYiY.CVt1RlTTf8KbXBH3hsxY/GNooZaBBGWEc5$",
+        CheckError::InvalidFormat(FormatFault::NotBuilt),
+    ),
 ];
 
 #[test]
@@ -80,7 +122,9 @@ fn texts_that_no_digest_has(rt: HostRuntime) {
         "5B8vYYiY.CVt1RlTTf8KbXBH3hsxY=GNooZaBBGWEc5",
     ] {
         assert!(rt; decode_sha256(text.as_bytes()) == Err(DecodeError));
-        assert!(rt; CheckError::from(DecodeError) == CheckError::InvalidFormat(FormatFault::Base64));
+        assert!(rt;
+            CheckError::from(DecodeError) == CheckError::InvalidFormat(FormatFault::Base64)
+        );
     }
 }
 

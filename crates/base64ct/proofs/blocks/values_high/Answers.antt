@@ -1,5 +1,4 @@
-use Rattle.std.proofs.Common.{◌≡◌, [], ◌∷◌, true, false, arith, ◌∙◌, refl}
-use Rattle.base64ct.specs.Encoding.{groups}
+use Rattle.std.proofs.Common.{[], ◌∷◌, false, arith, ◌∙◌, refl}
 use Rattle.base64ct.proofs.Shifts.{values_high, same-below}
 use Rattle.base64ct.proofs.Encodings.{groups-below, below-three}
 use Rattle.base64ct.proofs.blocks.values_high.Goals as goal

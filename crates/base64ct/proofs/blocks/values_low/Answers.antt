@@ -1,5 +1,4 @@
-use Rattle.std.proofs.Common.{◌≡◌, [], ◌∷◌, true, false, arith, ◌∙◌, refl}
-use Rattle.base64ct.specs.Encoding.{groups}
+use Rattle.std.proofs.Common.{[], ◌∷◌, true, arith, ◌∙◌, refl}
 use Rattle.base64ct.proofs.Shifts.{values_low, same-below}
 use Rattle.base64ct.proofs.Encodings.{groups-below, below-three}
 use Rattle.base64ct.proofs.blocks.values_low.Goals as goal

@@ -1,5 +1,5 @@
-use Rattle.std.proofs.Common.{◌≡◌, List, ℕ, take, arith, sym, subst}
-use Rattle.base64ct.specs.Encoding.{EachBelow, groups}
+use Rattle.std.proofs.Common.{arith, sym, subst}
+use Rattle.base64ct.specs.Encoding.{EachBelow}
 use Rattle.base64ct.proofs.Encodings.{groups-below}
 use Rattle.base64ct.proofs.Spread.{values_front}
 use Rattle.base64ct.proofs.encode.encode_unpadded.Goals as goal

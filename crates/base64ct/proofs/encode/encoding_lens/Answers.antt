@@ -1,4 +1,4 @@
-use Rattle.std.proofs.Common.{◌≡◌, ℕ, ◌+◌, ◌*◌, ◌/◌, true, false, length, ◌∙◌, sym, arith}
+use Rattle.std.proofs.Common.{◌+◌, ◌*◌, ◌/◌, true, false, length, ◌∙◌, sym, arith}
 use Rattle.base64ct.proofs.Padding.{padding_count_of, length-encoding}
 use Rattle.base64ct.proofs.encode.encoding_lens.Goals as goal
 

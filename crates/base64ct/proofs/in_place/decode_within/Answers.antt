@@ -1,4 +1,4 @@
-use Rattle.std.proofs.Common.{◌≡◌, true, false, ◌∙◌, sym}
+use Rattle.std.proofs.Common.{◌∙◌, sym}
 use Rattle.std.proofs.lemmas.Bool.{false≢true}
 use Rattle.base64ct.specs.Encoding.{IsMisaligned}
 use Rattle.base64ct.proofs.Padding.{lenient_found, lenient_refused}

@@ -1,4 +1,4 @@
-use Rattle.std.proofs.Common.{true, false}
+use Rattle.std.proofs.Common.{false}
 use Rattle.base64ct.specs.Tables.{shaped}
 use Rattle.base64ct.proofs.Values.{value_of-character}
 use Rattle.base64ct.proofs.laws.look_spell.Goals as goal

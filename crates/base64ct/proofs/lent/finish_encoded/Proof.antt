@@ -1,9 +1,9 @@
-use Prim.Native.Nat.{ℕ, ◌≤◌, ◌<◌}
+use Prim.Native.Nat.{ℕ, ◌≤◌}
 use mathlib.Core.Path.{◌≡◌, refl, sym, subst, ◌∙◌}
 use mathlib.Core.List.{List, [], ◌∷◌}
 use Rattle.std.specs.Str.{IsUtf8}
 use lib.ListN.{length, take}
-use Rattle.std.specs.Prelude.{◌≢◌, MatchResult, Ok, Err, Result}
+use Rattle.std.specs.Prelude.{Ok, Err, Result}
 use Rattle.base64ct.specs.declared.errors.InvalidLengthError.{InvalidLengthError}
 use Rattle.base64ct.proofs.LentAnswers.{EncodeAnswers}
 use base.Fml.{ftrue, flft}

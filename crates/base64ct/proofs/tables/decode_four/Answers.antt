@@ -1,6 +1,6 @@
-use Rattle.std.proofs.Common.{◌∙◌, sym}
+use Rattle.std.proofs.Common.{sym}
 use Rattle.base64ct.specs.Tables.{shaped}
-use Rattle.base64ct.proofs.Reading.{fault_from_values, unpadded_from_values, bytes_from_values}
+use Rattle.base64ct.proofs.Reading.{fault_from_values, unpadded_from_values}
 use Rattle.base64ct.proofs.tables.decode_four.Goals as goal
 
 pub returns-then-shape-clause-fault : goal.returns-then-shape-clause-fault

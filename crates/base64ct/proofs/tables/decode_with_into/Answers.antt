@@ -1,12 +1,12 @@
-use Rattle.std.proofs.Common.{◌≡◌, ◌≢◌, ℕ, ◌+◌, ◌-◌, ◌*◌, ◌/◌, ◌%◌, ◌≤◌, Bool, true, false, List, length, take, drop, refl, ap, ◌∙◌, sym, arith, subst}
+use Rattle.std.proofs.Common.{◌≡◌, ℕ, ◌-◌, ◌≤◌, length, refl, ◌∙◌, sym, arith}
 use Rattle.std.proofs.lemmas.Bool.{false≢true, and_parts}
 use Rattle.std.proofs.lemmas.List.{length-take-le}
-use Rattle.base64ct.specs.Encoding.{Alphabet, padding_len, IsMisaligned, AreCharacters, EachBelow, Reads, decoded_len}
+use Rattle.base64ct.specs.Encoding.{padding_len, IsMisaligned, decoded_len}
 use Rattle.base64ct.specs.Tables.{shaped}
 use Rattle.base64ct.proofs.Encodings.{below-take}
 use Rattle.base64ct.proofs.DecodingLaws.{decoding-None, decoding_is}
 use Rattle.base64ct.proofs.DecodingAnswers.{decoding-misaligned}
-use Rattle.base64ct.proofs.CountedAnswers.{Compares, found, refused, comparisons, encoding_found, encoding_passes}
+use Rattle.base64ct.proofs.CountedAnswers.{found, refused, comparisons, encoding_found, encoding_passes}
 use Rattle.base64ct.proofs.tables.decode_with_into.Goals as goal
 use Rattle.base64ct.proofs.tables.decode_with_into.Goals.{else-shape-via-then-shape+else-src-ne0, else-shape-via-else-shape}
 

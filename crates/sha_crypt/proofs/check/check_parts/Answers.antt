@@ -10,7 +10,7 @@ returns-then-from g c =
     let f : PlainFields = record { salt = c.args.parts.salt.now; hash = c.args.parts.hash.now } in
     let found : field_bytes g.row.N c.args.parts.hash.now ≡ Some c.in-Some.bytes = sym (c.field_bytes.ensures ∙ ap (field_bytes g.row.N) c.as_bytes.ensures.value) ∙ c.in-Some.is in
     let digest_is : c.sha_crypt_digest-digest.result ≡ sha_crypt_digest g.H.Hasher.hash c.args.password.now c.args.parts.salt.now 5000 =
-        c.sha_crypt_digest-digest.ensures ∙ ap (λ (s : List ℕ). sha_crypt_digest g.H.Hasher.hash c.args.password.now s 5000) c.as_bytes-2.ensures.value in
+    c.sha_crypt_digest-digest.ensures ∙ ap (λ (s : List ℕ). sha_crypt_digest g.H.Hasher.hash c.args.password.now s 5000) c.as_bytes-2.ensures.value in
     answer_same g.H.Hasher.hash c.args.places.now c.args.password.now g.row.N f c.in-Some.bytes c.sha_crypt_digest-digest.result c.in_order-wanted.result _
     c.told-places found digest_is c.in_order-wanted.ensures.value c.in_order-wanted.ensures.small (sym c.if-from.true ∙ c.from.ensures ∙ c.ct_eq_slices.ensures)
 
@@ -19,6 +19,6 @@ returns-else-from g c =
     let f : PlainFields = record { salt = c.args.parts.salt.now; hash = c.args.parts.hash.now } in
     let found : field_bytes g.row.N c.args.parts.hash.now ≡ Some c.in-Some.bytes = sym (c.field_bytes.ensures ∙ ap (field_bytes g.row.N) c.as_bytes.ensures.value) ∙ c.in-Some.is in
     let digest_is : c.sha_crypt_digest-digest.result ≡ sha_crypt_digest g.H.Hasher.hash c.args.password.now c.args.parts.salt.now 5000 =
-        c.sha_crypt_digest-digest.ensures ∙ ap (λ (s : List ℕ). sha_crypt_digest g.H.Hasher.hash c.args.password.now s 5000) c.as_bytes-2.ensures.value in
+    c.sha_crypt_digest-digest.ensures ∙ ap (λ (s : List ℕ). sha_crypt_digest g.H.Hasher.hash c.args.password.now s 5000) c.as_bytes-2.ensures.value in
     answer_same g.H.Hasher.hash c.args.places.now c.args.password.now g.row.N f c.in-Some.bytes c.sha_crypt_digest-digest.result c.in_order-wanted.result _
     c.told-places found digest_is c.in_order-wanted.ensures.value c.in_order-wanted.ensures.small (sym c.if-from.false ∙ c.from.ensures ∙ c.ct_eq_slices.ensures)

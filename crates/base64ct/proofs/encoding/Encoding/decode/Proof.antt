@@ -1,6 +1,6 @@
-use Prim.Native.Nat.{ℕ, ◌≤◌}
-use mathlib.Core.Path.{◌≡◌, refl, sym, ap, ◌∙◌}
-use mathlib.Core.List.{List, [], ◌∷◌}
+use Prim.Native.Nat.{◌≤◌}
+use mathlib.Core.Path.{◌≡◌, refl}
+use mathlib.Core.List.{[], ◌∷◌}
 use Rattle.base64ct.specs.Lent.{decoding_answer, Decodes}
 use Rattle.base64ct.proofs.LentAnswers.{DecodeAnswers, DecodeEnds, SaysMisaligned, SaysNoRoom, SaysAnswer, decode_says}
 use base.Fml.{ftrue, flft}
@@ -13,9 +13,7 @@ use types.Part.{whole, sub, agg}
 use types.Run.{enter, stop, fld, hop, from, addr, and_then, no_more, returns}
 use denote.Laws.{Is}
 use denote.Struct.Laws.{lawful as struct_lawful}
-use lib.ListN.{length, take, drop as drop_list}
-use Rattle.std.specs.Prelude.{IfOk, IfErr, Ok, Err, Result}
-use denote.Ref.{Bor}
+use lib.ListN.{length, take}
 use types.ByLocal.{alloc_all, pass_all, free_all, look_at, look_in_at, get, get_in, sets, lands_as}
 use denote.Builtin.{u8, SliceRefOf}
 use denote.Exit.{no, yes}

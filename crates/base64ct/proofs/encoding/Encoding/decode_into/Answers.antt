@@ -1,4 +1,4 @@
-use Rattle.std.proofs.Common.{◌≡◌, true, false, ◌∙◌, sym, arith, refl}
+use Rattle.std.proofs.Common.{◌∙◌, sym, arith, refl}
 use Rattle.std.proofs.lemmas.Bool.{false≢true}
 use Rattle.base64ct.specs.Encoding.{IsMisaligned}
 use Rattle.base64ct.proofs.Padding.{decoded_end, refused_end}

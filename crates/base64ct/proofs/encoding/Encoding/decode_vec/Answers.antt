@@ -1,4 +1,4 @@
-use Rattle.std.proofs.Common.{arith, rules}
+use Rattle.std.proofs.Common.{rules}
 use Rattle.base64ct.proofs.DecodingLaws.{undecodable}
 use Rattle.base64ct.proofs.encoding.Encoding.decode_vec.Goals as goal
 
