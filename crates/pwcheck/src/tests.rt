@@ -12,7 +12,7 @@ const TWO_LINES: &str = "Hello world!\t$5$saltstring$5B8vYYiY.CVt1RlTTf8KbXBH3hs
     Hello world\t$5$saltstring$5B8vYYiY.CVt1RlTTf8KbXBH3hsxY/GNooZaBBGWEc5\n";
 
 // An input, the output and the status.
-const ROWS: [(&[u8], &str, u8); 14] = [
+const ROWS: [(&[u8], &str, u8); 26] = [
     (b"", "", 0),
     (
         b"Hello world!\t$5$saltstring$5B8vYYiY.CVt1RlTTf8KbXBH3hsxY/GNooZaBBGWEc5\n",
@@ -36,33 +36,81 @@ const ROWS: [(&[u8], &str, u8); 14] = [
     ),
     (
         b"Hello world!\t$5$saltstring$5B8vYYiY.CVt1RlTTf8KbXBH3hsxY/GNooZaBBGWEcL\n",
-        "invalid\n",
+        "sha-format\n",
         1,
     ),
     (
         b"Hello world!\t$5$saltstring$5B8vYYiY.CVt1RlTTf8KbXBH3hsxY/GNooZaBBGWEcO\n",
-        "invalid\n",
+        "sha-format\n",
         1,
     ),
     (
         b"Hello world!\t$5$rounds=+05000$saltstring$5B8vYYiY.CVt1RlTTf8KbXBH3hsxY/GNooZaBBGWEc5\n",
-        "unsupported\n",
-        1,
+        "match\n",
+        0,
     ),
     (
         b"Hello world!\t$6$saltstring$5B8vYYiY.CVt1RlTTf8KbXBH3hsxY/GNooZaBBGWEc5\n",
-        "unsupported\n",
+        "sha-format\n",
         1,
     ),
     (b"Hello world!\n", "badline\n", 1),
     (b"\n", "badline\n", 1),
     (b"\xff\t$\n", "badline\n", 1),
-    (b"a\tb\t\n\tx\r\n", "unsupported\nunsupported\n", 1),
+    (b"a\tb\t\n\tx\r\n", "mcf-delimiter\nmcf-delimiter\n", 1),
     (
         b"tab\tin it\t$5$x$yHbtfs4Y8t6X1xcJemNX.4JQRfUTafA2qQenWGLBee2\n\t$5$x$yHbtfs4Y8t6X1xcJemNX.4JQRfUTafA2qQenWGLBee2",
         "mismatch\nmatch\n",
         1,
     ),
+    (
+        b"\t$5$saltstring$5B8vYYiY.CVt1RlTTf8KbXBH3hsxY/GNooZaBBGWEc5$\n",
+        "mcf-delimiter\n",
+        1,
+    ),
+    (
+        b"\t5$saltstring$5B8vYYiY.CVt1RlTTf8KbXBH3hsxY/GNooZaBBGWEc5\n",
+        "mcf-delimiter\n",
+        1,
+    ),
+    (
+        b"\t$5$$saltstring$5B8vYYiY.CVt1RlTTf8KbXBH3hsxY/GNooZaBBGWEc5\n",
+        "mcf-field\n",
+        1,
+    ),
+    (
+        b"\t$5$saltstring$5B8vYYiY.CVt1RlTTf8KbXBH3hsxY/GNooZaBBGWEc5=\n",
+        "sha-format\n",
+        1,
+    ),
+    (b"\t$5$salt string$x\n", "mcf-encoding\n", 1),
+    (b"\t$-a$x\n", "mcf-identifier\n", 1),
+    (b"\t$2b$12$abc\n", "unsupported\n", 1),
+    (b"\t$5$rounds=999$s$x\n", "sha-rounds\n", 1),
+    (b"\t$6$rounds=x$s\n", "sha-format\n", 1),
+    (b"\t$5\n\t$5$a\n", "sha-format\nsha-format\n", 1),
+    (
+        b"Hello world!\t$6$saltstring$svn8UoSVapNtMuq1ukKS4tPQd8iKwSMHWjl/O817G3uBnIFNjnQJuesI68u4OTLiBFdcbYEdFCoEOfaS35inz1",
+        "match\n",
+        0,
+    ),
+    (
+        b"Hello world\t$6$saltstring$svn8UoSVapNtMuq1ukKS4tPQd8iKwSMHWjl/O817G3uBnIFNjnQJuesI68u4OTLiBFdcbYEdFCoEOfaS35inz1",
+        "mismatch\n",
+        1,
+    ),
+];
+
+// How many bytes of a stored text are kept, and the word.
+const PREFIXES: [(usize, usize, &str); 8] = [
+    (0, 2, "mcf-delimiter\n"),
+    (2, 3, "sha-format\n"),
+    (3, 4, "mcf-delimiter\n"),
+    (4, 14, "sha-format\n"),
+    (14, 15, "mcf-delimiter\n"),
+    (15, 36, "sha-format\n"),
+    (36, 57, "sha-format\n"),
+    (57, 58, "match\n"),
 ];
 
 // The step of a source, the call of it that fails, and the output before status 3.
@@ -90,6 +138,49 @@ fn lines_and_their_words(rt: HostRuntime) -> Result<(), Fail> {
         let mut sink = MemorySink::new(&mut room, 64, &[]);
         let got = run(rt.alloc(), &words, &mut source, &mut sink);
         assert_eq!(rt; got, status, "{output:?}");
+        assert_eq!(rt; sink.bytes(), output.as_bytes());
+    }
+    Ok(())
+}
+
+#[test]
+fn prefixes_of_a_stored_text(rt: HostRuntime) -> Result<(), Fail> {
+    let words = check_word(rt.alloc())?;
+    let line = TWO_LINES.as_bytes();
+    assert!(rt; line.len() == 141);
+    for (from, to, word) in PREFIXES {
+        assert!(rt; to <= 58);
+        for kept in from..to {
+            let mut room = [0; 64];
+            let mut source = MemorySource::new(&line[..13 + kept], 16_384, &[]);
+            let mut sink = MemorySink::new(&mut room, 64, &[]);
+            let _ = run(rt.alloc(), &words, &mut source, &mut sink);
+            assert_eq!(rt; sink.bytes(), word.as_bytes(), "{kept}");
+        }
+    }
+    Ok(())
+}
+
+// A password of `length` letters, a tab and `$`.
+fn long_password(buffer: &mut [u8; 8_400], length: usize) -> &[u8]
+    requires { length ≤ 8200 }
+{
+    buffer[..length].fill(b'a');
+    buffer[length..length + 2].copy_from_slice(b"\t$");
+    &buffer[..length + 2]
+}
+
+#[test]
+fn passwords_of_the_greatest_length(rt: HostRuntime) -> Result<(), Fail> {
+    let words = check_word(rt.alloc())?;
+    for (length, output) in [(4_096, "mcf-delimiter\n"), (4_097, "password-too-long\n")] {
+        assert!(rt; length <= 8_200);
+        let mut buffer = [0; 8_400];
+        let mut room = [0; 64];
+        let mut source = MemorySource::new(long_password(&mut buffer, length), 16_384, &[]);
+        let mut sink = MemorySink::new(&mut room, 64, &[]);
+        let got = run(rt.alloc(), &words, &mut source, &mut sink);
+        assert_eq!(rt; got, 1);
         assert_eq!(rt; sink.bytes(), output.as_bytes());
     }
     Ok(())

@@ -13,15 +13,15 @@ use Rattle.std.proofs.Common.{◌≤◌, rules}
 use Rattle.std.proofs.lemmas.List.{ext_get_or, length-map, get_or-map}
 use Rattle.std.proofs.lemmas.Bool.{and_parts}
 use Rattle.sha_crypt.specs.Digest.{sha_crypt_digest}
-use Rattle.sha_crypt.specs.PlainText.{PlainFields, fields_answer}
-use Rattle.sha_crypt.specs.HashField.{is_hash_field, are_places, undoes, IsHashField}
+use Rattle.sha_crypt.specs.Fields.{ShaFields, tested}
+use Rattle.sha_crypt.specs.Check.{fields_answer}
+use Rattle.sha_crypt.specs.HashField.{is_hash_field, are_places, undoes, IsHashField, IsHashFieldOf}
 use Rattle.std.specs.Prelude.{is_some, IsErr, IfOk, ◌↔◌, ◌⊎◌, ◌++◌, drop}
 use Rattle.std.proofs.lemmas.List.{drop_all, append-nil}
 use Rattle.base64ct.specs.declared.errors.InvalidLengthError.{InvalidLengthError}
 use Rattle.std.proofs.lemmas.Bool.{cases_lt}
 use Rattle.std.proofs.Common.{inl, inr}
-use Rattle.sha_crypt.specs.declared.errors.CheckError.TheVariants.{InvalidFormat, HashMismatch}
-use Rattle.sha_crypt.specs.declared.errors.FormatFault.TheVariants.{Base64}
+use Rattle.sha_crypt.specs.declared.errors.CheckError.TheVariants.{HashMismatch}
 use Rattle.sha_crypt.specs.HashField.{in_order, hash_field, of_length, field_bytes}
 
 by_length : (n : ℕ) (t : List ℕ) (r : Option (List ℕ)) → decoding base64_sha_crypt t ≡ r → byte_count (length t) ≢ n → None ≡ of_length n r
@@ -67,19 +67,14 @@ decoded_of n bytes None h = h
 decoded_of n bytes (Some b) h = kept n b bytes (length b == n) refl h
 
 -- what the bytes of the password's digest and of the hash field tell
-pub answer_same : (H : List ℕ → List ℕ) (places password : List ℕ) (n : ℕ) (f : PlainFields) (bytes digest m : List ℕ) (r : Bool)
-    → length places ≡ n → field_bytes n f.hash ≡ Some bytes → digest ≡ sha_crypt_digest H password f.salt 5000 → m ≡ in_order places digest → EachBelow 256 m → r ≡ pointwise nat_eq m bytes
-    → (if r then Ok tt else Err HashMismatch) ≡ fields_answer H places password (Some f)
-answer_same H places password n f bytes digest m r len found digest_is m_is small r_is =
+pub answer_same : (H : List ℕ → List ℕ) (places password : List ℕ) (n : ℕ) (f : ShaFields) (bytes digest m : List ℕ) (r : Bool)
+    → field_bytes n f.hash ≡ Some bytes → digest ≡ sha_crypt_digest H password f.salt f.rounds → m ≡ in_order places digest → EachBelow 256 m → r ≡ pointwise nat_eq m bytes
+    → (if r then Ok tt else Err HashMismatch) ≡ fields_answer H places password (tested (is_hash_field n) (Ok f))
+answer_same H places password n f bytes digest m r found digest_is m_is small r_is =
     let same : pointwise nat_eq (in_order places digest) bytes ≡ pointwise nat_eq (hash_field places digest) f.hash =
     same_hash places digest bytes f.hash (rw m_is at small) (decoded_of n bytes (decoding base64_sha_crypt f.hash) found) in
     let test : r ≡ pointwise nat_eq (hash_field places digest) f.hash = r_is ∙ ap (λ (x : List ℕ). pointwise nat_eq x bytes) m_is ∙ same in
-    rw (len, found, ← digest_is, ← test) refl
-
--- a hash text that is no hash field
-pub answer_other : (H : List ℕ → List ℕ) (places password : List ℕ) (n : ℕ) (f : PlainFields)
-    → length places ≡ n → field_bytes n f.hash ≡ None → Err (InvalidFormat Base64) ≡ fields_answer H places password (Some f)
-answer_other H places password n f len none = rw (len, none) refl
+    rw (found, ← digest_is, ← test) refl
 
 -- each of these is below n
 pub all_below : (n : ℕ) (xs : List ℕ) → 0 < n → are_places n xs ≡ true → (k : ℕ) → slice_index xs k < n
@@ -116,27 +111,31 @@ ordered_back n places back bytes lp lb len small undone =
     let in_back : slice_index places k < length back = omega (arith, all_below n places pos small k, lb) in
     sym (get_or-map f back (slice_index places k) 0 0 in_back ∙ ap f (at_undone n k places back undone lt)))
 
-pub decoded : (n : ℕ) (places back source bytes digest : List ℕ) → length places ≡ n → length back ≡ n → length bytes ≡ n → are_places n places ≡ true → undoes n places back ≡ true
-    → field_bytes n source ≡ Some bytes → digest ≡ in_order back bytes → source ≡ hash_field places digest
-unfolding hash_field
-decoded n places back source bytes digest lp lb len small undone found is =
-    let parts = decoding-Some base64_sha_crypt source bytes (decoded_of n bytes (decoding base64_sha_crypt source) found) in
-    parts.1 ∙ ap (encoding base64_sha_crypt) (ordered_back n places back bytes lp lb len small undone ∙ ap (in_order places) (sym is))
-
 below_map : (places digest : List ℕ) → EachBelow 256 digest → EachBelow 256 (in_order places digest)
 below_map [] digest small i = omega arith
 below_map (p ∷ places) digest small zero = small p
 below_map (p ∷ places) digest small (suc i) = below_map places digest small i
 
+pub decoded : (n : ℕ) (places back source bytes digest : List ℕ) → length places ≡ n → length back ≡ n → length bytes ≡ n → are_places n places ≡ true → undoes n places back ≡ true
+    → field_bytes n source ≡ Some bytes → digest ≡ in_order back bytes → IsHashFieldOf n places source digest
+unfolding hash_field
+decoded n places back source bytes digest lp lb len small undone found is =
+    let at : ℕ → ℕ = λ k. slice_index bytes k in
+    let parts = decoding-Some base64_sha_crypt source bytes (decoded_of n bytes (decoding base64_sha_crypt source) found) in (
+      ap length is ∙ length-map back at ∙ lb,
+      rw is (below_map back bytes parts.0),
+      parts.1 ∙ ap (encoding base64_sha_crypt) (ordered_back n places back bytes lp lb len small undone ∙ ap (in_order places) (sym is)),
+    )
+
 of_right_length : (n : ℕ) (b : List ℕ) → length b ≡ n → of_length n (Some b) ≡ Some b
 of_right_length n b len = let test : (length b == n) ≡ true = grind (arith, nat_tests) in rw test refl
 
-pub not_decoded : (n : ℕ) (places source digest : List ℕ) → length places ≡ n → field_bytes n source ≡ None → length digest ≡ n → EachBelow 256 digest → hash_field places digest ≢ source
+pub not_decoded : (n : ℕ) (places source digest : List ℕ) → length places ≡ n → field_bytes n source ≡ None → IsHashFieldOf n places source digest → ⊥
 unfolding hash_field
-not_decoded n places source digest lp none len small same =
+not_decoded n places source digest lp none is =
     let m : List ℕ = in_order places digest in
     let f : ℕ → ℕ = λ k. slice_index digest k in
-    let found : decoding base64_sha_crypt source ≡ Some m = decoding_is base64_sha_crypt source m refl (below_map places digest small) (sym same) in
+    let found : decoding base64_sha_crypt source ≡ Some m = decoding_is base64_sha_crypt source m refl (below_map places digest is.1) is.2 in
     let right : length m ≡ n = length-map places f ∙ lp in
     absurd (none_some m (sym none ∙ ap (of_length n) found ∙ of_right_length n m right))
 
@@ -159,16 +158,10 @@ pub field_found : (n : ℕ) (places back text : List ℕ) (r : Option (List ℕ)
     → length places ≡ n → length back ≡ n → are_places n places ≡ true → undoes n places back ≡ true → IsHashField n places text
 field_found n places back text None is some lp lb small undone = absurd (false_true some)
 field_found n places back text (Some bytes) is some lp lb small undone =
-    let f : ℕ → ℕ = λ k. slice_index bytes k in
-    let parts = decoding-Some base64_sha_crypt text bytes (decoded_of n bytes (decoding base64_sha_crypt text) is) in (
-      in_order back bytes,
-      length-map back f ∙ lb,
-      below_map back bytes parts.0,
-      decoded n places back text bytes (in_order back bytes) lp lb (kept_length n bytes (decoding base64_sha_crypt text) is) small undone is refl,
-    )
+    (in_order back bytes, decoded n places back text bytes (in_order back bytes) lp lb (kept_length n bytes (decoding base64_sha_crypt text) is) small undone is refl)
 
 pub field_is_found : (n : ℕ) (places text : List ℕ) (r : Option (List ℕ)) → field_bytes n text ≡ r → length places ≡ n → IsHashField n places text → is_some r ≡ true
-field_is_found n places text None is lp h = absurd (not_decoded n places text h.0 lp is h.1 h.2 (sym h.3))
+field_is_found n places text None is lp h = absurd (not_decoded n places text h.0 lp is h.1)
 field_is_found n places text (Some bytes) is lp h = refl
 
 -- two digests with one hash field
@@ -198,3 +191,9 @@ encoded places digest bytes old new (Ok n) is small short room refused written =
 encoded places digest bytes old new (Err e) is small short room refused written =
     let len = encoding_len bytes small in
     elim (refused.0 (search rules)) [ inl long ↦ absurd (omega arith) | inr full ↦ absurd (omega arith) ]
+
+-- what is decoded from the hash field of a digest is that digest
+pub decoded_again : (n : ℕ) (places back x y text : List ℕ) → length places ≡ n → length back ≡ n → are_places n back ≡ true → undoes n back places ≡ true
+    → length x ≡ n → EachBelow 256 x → text ≡ hash_field places x → IsHashFieldOf n places text y → y ≡ x
+decoded_again n places back x y text lp lb small undone lx below_x is other =
+    field_once n places back y x lp lb small undone other.0 lx other.1 below_x (sym other.2 ∙ is)

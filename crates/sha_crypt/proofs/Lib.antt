@@ -1,4 +1,6 @@
 mod Repeats
 mod Rounds
 mod Vectors
+mod Numbers
 pub mod HashFields
+pub mod Faults

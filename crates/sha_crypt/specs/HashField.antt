@@ -17,9 +17,13 @@ in_order places digest = map (λ k. slice_index digest k) places
 unfoldable pub hash_field : List ℕ → List ℕ → List ℕ
 hash_field places digest = encoding base64_sha_crypt (in_order places digest)
 
+-- a text is the hash field of this digest of n bytes
+abbrev pub IsHashFieldOf : ℕ → List ℕ → List ℕ → List ℕ → Type 0
+IsHashFieldOf n places text digest = (length digest ≡ n) × EachBelow 256 digest × (text ≡ hash_field places digest)
+
 -- a text is the hash field of some digest of n bytes
 abbrev pub IsHashField : ℕ → List ℕ → List ℕ → Type 0
-IsHashField n places text = (digest : List ℕ) × (length digest ≡ n) × EachBelow 256 digest × (text ≡ hash_field places digest)
+IsHashField n places text = (digest : List ℕ) × IsHashFieldOf n places text digest
 
 -- these bytes, where there are n
 abbrev pub of_length : ℕ → Option (List ℕ) → Option (List ℕ)

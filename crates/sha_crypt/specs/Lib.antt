@@ -1,5 +1,7 @@
 pub mod Digest
 pub mod HashField
-pub mod PlainText
-pub mod Views
+pub mod Fields
+pub mod Check
 pub mod Families
+pub mod Texts
+pub mod Views

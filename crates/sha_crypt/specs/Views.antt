@@ -1,9 +1,14 @@
--- What the fields of a text show.
-use Rattle.std.specs.Prelude.{Option, Some, None}
-use Rattle.sha_crypt.specs.PlainText.{PlainFields}
-use Rattle.sha_crypt.specs.declared.check.PlainParts.{PlainParts}
+-- What the parts of a text show.
+use Rattle.std.specs.Prelude.{Result, Ok, Err}
+use Rattle.sha_crypt.specs.Fields.{ShaFields}
+use Rattle.sha_crypt.specs.declared.errors.CheckError.{CheckError}
+use Rattle.sha_crypt.specs.declared.fields.ShaText.{ShaText}
 
--- the fields as lists, where there are any
-abbrev pub as_fields : Option PlainParts → Option PlainFields
-as_fields None = None
-as_fields (Some parts) = Some (record { salt = parts.salt.now; hash = parts.hash.now })
+-- the parts as lists
+abbrev pub fields_of : ShaText → ShaFields
+fields_of t = record { rounds = t.rounds; salt = t.salt.now; hash = t.hash.now }
+
+-- the same of an answer
+abbrev pub as_fields : Result ShaText CheckError → Result ShaFields CheckError
+as_fields (Err e) = Err e
+as_fields (Ok t) = Ok (fields_of t)

@@ -1,17 +1,17 @@
 //! Hash fields.
 
-ghost use Rattle.std.specs.Prelude.{◌≡◌, ◌≢◌, ◌≤◌, ℕ, List, length, true, MatchResult};
+ghost use Rattle.std.specs.Prelude.{◌≡◌, ◌≢◌, ◌≤◌, ◌+◌, ◌*◌, ◌/◌, ◌^◌, ◌==◌, ℕ, List, OnSome, length, true, MatchResult};
 ghost use Rattle.base64ct.specs.Encoding.{EachBelow, byte_count, unpadded_len};
-ghost use Rattle.sha_crypt.specs.HashField.{are_places, field_bytes, hash_field, in_order, undoes};
+ghost use Rattle.sha_crypt.specs.HashField.{are_places, field_bytes, hash_field, in_order, undoes, IsHashFieldOf};
 
 use crate::DecodeError;
-use base64ct::{Base64ShaCrypt, Encoding};
+use base64ct::{Base64ShaCrypt, Counts, Encoding};
 
-// How many bytes as many characters stand for.
-fn byte_count(text: &[u8]) -> usize
-    ensures { result ≡ byte_count (length text.now) }
+// Whether a text has the length of a hash field of `n` bytes.
+fn has_field_length(text: &[u8], n: usize) -> bool
+    ensures { result ≡ (byte_count (length text.now) == n) }
 {
-    3 * (text.len() / 4) + 3 * (text.len() % 4) / 4
+    3 * (text.len() / 4) + 3 * (text.len() % 4) / 4 == n
 }
 
 /// The `N` bytes whose encoding a text is.
@@ -19,11 +19,37 @@ pub(crate) fn field_bytes<const N: usize>(text: &[u8]) -> Option<[u8; N]>
     ensures { result ≡ field_bytes N text.now }
 {
     let mut bytes = [0; N];
-    if byte_count(text) != N {
+    if !has_field_length(text, N) {
         return None;
     }
     match Base64ShaCrypt::decode_into(text, &mut bytes) {
         Ok(_) => Some(bytes),
+        Err(_) => None,
+    }
+}
+
+/// The `N` bytes whose encoding a text is, with its look-ups and comparisons counted.
+pub(crate) fn counted_bytes<const N: usize>(text: &[u8], counts: &mut Counts) -> Option<[u8; N]>
+    requires wide { 16 ≤ N }
+    requires short { N ≤ 64 }
+    requires looks { counts.old.looks ≤ 2 ^ 62 }
+    requires sames { counts.old.sames ≤ 2 ^ 62 }
+    ensures bytes { result ≡ field_bytes N text.now }
+    ensures looks { OnSome result (counts.new.looks ≡ counts.old.looks + (4 * (unpadded_len N / 4) + 4)) }
+    ensures sames { OnSome result (counts.new.sames ≡ counts.old.sames + 4) }
+    ensures most_looks { counts.new.looks ≤ counts.old.looks + (4 * (unpadded_len N / 4) + 4) }
+    ensures most_sames { counts.new.sames ≤ counts.old.sames + 4 }
+{
+    if !has_field_length(text, N) {
+        return None;
+    }
+    let mut room = [0; N];
+    let mut bytes = [0; N];
+    match counts.decode::<Base64ShaCrypt>(text, &mut room) {
+        Ok(decoded) => {
+            bytes.copy_from_slice(decoded);
+            Some(bytes)
+        }
         Err(_) => None,
     }
 }
@@ -74,8 +100,8 @@ pub(crate) fn decode<const N: usize>(
     requires back { are_places N back.now ≡ true }
     requires undoes { undoes N places.now back.now ≡ true }
     ensures { MatchResult result
-        (λ digest. source.now ≡ hash_field places.now digest)
-        (λ _. (digest : List ℕ) → length digest ≡ N → EachBelow 256 digest → hash_field places.now digest ≢ source.now) }
+        (λ digest. IsHashFieldOf N places.now source.now digest)
+        (λ _. (digest : List ℕ) → IsHashFieldOf N places.now source.now digest → ⊥) }
 {
     match field_bytes::<N>(source) {
         Some(bytes) => Ok(in_order(back, &bytes)),

@@ -4,32 +4,35 @@
 //! Nothing here takes memory. One body serves both hash functions.
 #![tactic(auto)]
 
-ghost use Rattle.std.specs.Prelude.{◌≡◌, ◌≢◌, ◌^◌, ◌<◌, ℕ, List, MatchResult, length};
-ghost use Rattle.base64ct.specs.Encoding.{EachBelow};
+ghost use Rattle.std.specs.Prelude.{◌≡◌, ◌≤◌, ◌+◌, ◌^◌, ◌<◌, ℕ, List, MatchResult, false, length, true};
 ghost use Rattle.sha2.specs.Sha256.{sha256};
+ghost use Rattle.sha2.specs.Sha512.{sha512};
+ghost use Rattle.sha_crypt.specs.Check.{is_verdict};
 ghost use Rattle.sha_crypt.specs.Digest.{sha_crypt_digest};
-ghost use Rattle.sha_crypt.specs.HashField.{hash_field};
-ghost use Rattle.sha_crypt.specs.Families.{sha256_answer};
+ghost use Rattle.sha_crypt.specs.Families.{sha256_answer, sha512_answer};
+ghost use Rattle.sha_crypt.specs.HashField.{hash_field, IsHashFieldOf};
 
 mod b64;
 mod check;
 mod defs;
 mod digest;
 mod errors;
+mod fields;
 mod hasher;
 pub mod laws;
 mod params;
 #[cfg(test)]
 mod tests;
 
-use defs::BACK_SHA256;
+use base64ct::Counts;
 pub use defs::{
     BLOCK_SIZE_SHA256, BLOCK_SIZE_SHA512, MAP_SHA256, MAP_SHA512, PW_SIZE_SHA256, PW_SIZE_SHA512,
     SALT_MAX_LEN, TAB,
 };
-pub use errors::{CheckError, DecodeError, FormatFault};
-pub use params::{ROUNDS_DEFAULT, ROUNDS_MAX, ROUNDS_MIN, Sha256Params};
-use sha2::Sha256;
+use defs::{BACK_SHA256, BACK_SHA512};
+pub use errors::{CheckError, CryptError, DecodeError, Family, FormatFault};
+pub use params::{ROUNDS_DEFAULT, ROUNDS_MAX, ROUNDS_MIN, Sha256Params, Sha512Params};
+use sha2::{Sha256, Sha512};
 
 /// The SHA-256-crypt digest of a password and a salt, of which the first 16 bytes count.
 ///
@@ -41,15 +44,42 @@ pub fn sha256_crypt(password: &[u8], salt: &[u8], params: &Sha256Params) -> [u8;
     digest::sha_crypt_digest::<32, Sha256>(password, salt, params.rounds())
 }
 
-/// Checks a password against a SHA-256-crypt text of the plain form `$5$salt$hash`.
+/// Checks a password against a SHA-256-crypt text `$5$[rounds=N$]salt$hash`.
 ///
-/// A text of any other form is refused with `InvalidFormat(NotBuilt)`, a text whose last field is the hash
-/// field of no digest with `InvalidFormat(Base64)`, and another password with `HashMismatch`.
+/// The first fault of the text is answered, in the order of `FormatFault` with the rounds out of range before
+/// `Base64`, and else `HashMismatch` for another password.
 pub fn sha256_check(password: &str, hashed_value: &str) -> Result<(), CheckError>
     requires short { length password.now < 2 ^ 30 }
     ensures answer { result ≡ sha256_answer password.now hashed_value.now }
 {
-    check::check_text::<32, Sha256>(&MAP_SHA256, "5", password.as_bytes(), hashed_value)
+    let mut counts = Counts::new();
+    sha256_check_counted(password, hashed_value, &mut counts)
+}
+
+/// The same check, whose look-ups and comparisons of secret bytes are counted.
+pub fn sha256_check_counted(
+    password: &str,
+    hashed_value: &str,
+    counts: &mut Counts,
+) -> Result<(), CheckError>
+    requires short { length password.now < 2 ^ 30 }
+    requires looks { counts.old.looks ≤ 2 ^ 62 }
+    requires sames { counts.old.sames ≤ 2 ^ 62 }
+    ensures answer { result ≡ sha256_answer password.now hashed_value.now }
+    ensures looks { is_verdict result ≡ true → counts.new.looks ≡ counts.old.looks + 44 }
+    ensures sames { is_verdict result ≡ true → counts.new.sames ≡ counts.old.sames + 36 }
+    ensures most_looks { counts.new.looks ≤ counts.old.looks + 44 }
+    ensures most_sames { is_verdict result ≡ false → counts.new.sames ≤ counts.old.sames + 4 }
+{
+    let password = password.as_bytes();
+    check::check_text::<32, Sha256>(
+        &MAP_SHA256,
+        Family::Sha256,
+        "5",
+        password,
+        hashed_value,
+        counts,
+    )
 }
 
 /// The hash field of a SHA-256-crypt digest: 43 characters.
@@ -62,8 +92,72 @@ pub fn encode_sha256(source: &[u8; 32]) -> [u8; 43]
 /// The SHA-256-crypt digest whose hash field `source` is.
 pub fn decode_sha256(source: &[u8]) -> Result<[u8; 32], DecodeError>
     ensures found { MatchResult result
-        (λ digest. source.now ≡ hash_field MAP_SHA256 digest)
-        (λ _. (digest : List ℕ) → length digest ≡ 32 → EachBelow 256 digest → hash_field MAP_SHA256 digest ≢ source.now) }
+        (λ digest. IsHashFieldOf 32 MAP_SHA256 source.now digest)
+        (λ _. (digest : List ℕ) → IsHashFieldOf 32 MAP_SHA256 source.now digest → ⊥) }
 {
     b64::decode::<32>(&MAP_SHA256, &BACK_SHA256, source)
+}
+
+/// The SHA-512-crypt digest of a password and a salt, of which the first 16 bytes count.
+///
+/// Every password below 2^30 bytes is taken: then each message that is hashed has fewer than 2^61 bytes.
+pub fn sha512_crypt(password: &[u8], salt: &[u8], params: &Sha512Params) -> [u8; 64]
+    requires short { length password.now < 2 ^ 30 }
+    ensures digest { result ≡ sha_crypt_digest sha512 password.now salt.now params.now }
+{
+    digest::sha_crypt_digest::<64, Sha512>(password, salt, params.rounds())
+}
+
+/// Checks a password against a SHA-512-crypt text `$6$[rounds=N$]salt$hash`.
+///
+/// The first fault of the text is answered, in the order of `FormatFault` with the rounds out of range before
+/// `Base64`, and else `HashMismatch` for another password.
+pub fn sha512_check(password: &str, hashed_value: &str) -> Result<(), CheckError>
+    requires short { length password.now < 2 ^ 30 }
+    ensures answer { result ≡ sha512_answer password.now hashed_value.now }
+{
+    let mut counts = Counts::new();
+    sha512_check_counted(password, hashed_value, &mut counts)
+}
+
+/// The same check, whose look-ups and comparisons of secret bytes are counted.
+pub fn sha512_check_counted(
+    password: &str,
+    hashed_value: &str,
+    counts: &mut Counts,
+) -> Result<(), CheckError>
+    requires short { length password.now < 2 ^ 30 }
+    requires looks { counts.old.looks ≤ 2 ^ 62 }
+    requires sames { counts.old.sames ≤ 2 ^ 62 }
+    ensures answer { result ≡ sha512_answer password.now hashed_value.now }
+    ensures looks { is_verdict result ≡ true → counts.new.looks ≡ counts.old.looks + 88 }
+    ensures sames { is_verdict result ≡ true → counts.new.sames ≡ counts.old.sames + 68 }
+    ensures most_looks { counts.new.looks ≤ counts.old.looks + 88 }
+    ensures most_sames { is_verdict result ≡ false → counts.new.sames ≤ counts.old.sames + 4 }
+{
+    let password = password.as_bytes();
+    check::check_text::<64, Sha512>(
+        &MAP_SHA512,
+        Family::Sha512,
+        "6",
+        password,
+        hashed_value,
+        counts,
+    )
+}
+
+/// The hash field of a SHA-512-crypt digest: 86 characters.
+pub fn encode_sha512(source: &[u8; 64]) -> [u8; 86]
+    ensures field { result ≡ hash_field MAP_SHA512 source.now }
+{
+    b64::encode::<64, 86>(&MAP_SHA512, source)
+}
+
+/// The SHA-512-crypt digest whose hash field `source` is.
+pub fn decode_sha512(source: &[u8]) -> Result<[u8; 64], DecodeError>
+    ensures found { MatchResult result
+        (λ digest. IsHashFieldOf 64 MAP_SHA512 source.now digest)
+        (λ _. (digest : List ℕ) → IsHashFieldOf 64 MAP_SHA512 source.now digest → ⊥) }
+{
+    b64::decode::<64>(&MAP_SHA512, &BACK_SHA512, source)
 }

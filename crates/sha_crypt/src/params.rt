@@ -1,7 +1,8 @@
 //! The number of rounds.
 
-ghost use Rattle.std.specs.Prelude.{◌≡◌, ◌≤◌};
+ghost use Rattle.std.specs.Prelude.{◌≡◌, ◌≤◌, ◌<◌, ◌⊎◌, Ok, Err};
 
+use crate::CryptError;
 use std::marker::Model;
 
 /// The rounds where none are named.
@@ -32,6 +33,17 @@ impl Model for Sha256Params {
 }
 
 impl Sha256Params {
+    /// Parameters with this number of rounds.
+    pub fn new(rounds: usize) -> Result<Sha256Params, CryptError>
+        ensures inside { 1000 ≤ rounds → rounds ≤ 999999999 → result ≡ Ok rounds }
+        ensures outside { (rounds < 1000) ⊎ (999999999 < rounds) → result ≡ Err CryptError.RoundsError }
+    {
+        if rounds < ROUNDS_MIN || rounds > ROUNDS_MAX {
+            return Err(CryptError::RoundsError);
+        }
+        Ok(Sha256Params { rounds })
+    }
+
     /// The rounds.
     pub fn rounds(&self) -> usize
         ensures number { result ≡ self.now }
@@ -47,6 +59,56 @@ impl Default for Sha256Params {
 
     fn default() -> Self {
         Sha256Params {
+            rounds: ROUNDS_DEFAULT,
+        }
+    }
+}
+
+/// The rounds of SHA-512-crypt, from 1,000 to 999,999,999. Contracts see the number.
+#[derive(Clone, Copy, Debug)]
+pub struct Sha512Params {
+    rounds: usize,
+}
+
+impl Model for Sha512Params {
+    ghost use Rattle.std.specs.Prelude.{ℕ, ◌≤◌};
+
+    ghost Value = { ℕ };
+
+    ghost view = { λ p. p.rounds };
+
+    ghost invariant = { λ p. (1000 ≤ p.rounds) × (p.rounds ≤ 999999999) };
+
+    ghost inverse = { λ n. record { rounds = n } };
+}
+
+impl Sha512Params {
+    /// Parameters with this number of rounds.
+    pub fn new(rounds: usize) -> Result<Sha512Params, CryptError>
+        ensures inside { 1000 ≤ rounds → rounds ≤ 999999999 → result ≡ Ok rounds }
+        ensures outside { (rounds < 1000) ⊎ (999999999 < rounds) → result ≡ Err CryptError.RoundsError }
+    {
+        if rounds < ROUNDS_MIN || rounds > ROUNDS_MAX {
+            return Err(CryptError::RoundsError);
+        }
+        Ok(Sha512Params { rounds })
+    }
+
+    /// The rounds.
+    pub fn rounds(&self) -> usize
+        ensures number { result ≡ self.now }
+        ensures least { 1000 ≤ result }
+        ensures most { result ≤ 999999999 }
+    {
+        self.rounds
+    }
+}
+
+impl Default for Sha512Params {
+    ghost is_default = { λ p. p ≡ 5000 };
+
+    fn default() -> Self {
+        Sha512Params {
             rounds: ROUNDS_DEFAULT,
         }
     }

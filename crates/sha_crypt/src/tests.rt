@@ -1,62 +1,140 @@
 //! Texts and digests of libxcrypt and openssl, and texts that are refused.
 
 use crate::{
-    CheckError, DecodeError, FormatFault, Sha256Params, decode_sha256, encode_sha256, sha256_check,
-    sha256_crypt,
+    CheckError, CryptError, DecodeError, Family, FormatFault, Sha256Params, Sha512Params,
+    decode_sha256, decode_sha512, encode_sha256, encode_sha512, sha256_check, sha256_check_counted,
+    sha256_crypt, sha512_check, sha512_check_counted, sha512_crypt,
 };
+use base64ct::Counts;
 use std::process::Abort;
+use std::test::Fail;
 
-// A password, a salt, the digest after 5,000 rounds and its hash field.
-const DIGESTS: [(&str, &str, [u8; 32], [u8; 43]); 3] = [
+// A password, a salt, the rounds, the digest and its hash field.
+const DIGESTS_256: [(&str, &str, usize, [u8; 32], [u8; 43]); 3] = [
     (
         "Hello world!",
         "saltstring",
+        5_000,
         *b"\xec\xe9\x80\x7f\xaa\xe7\xf7\x20\x34\x89\xa3\x24\xe6\x17\xdf\x4c\x8b\x64\x9a\x23\x47\x92\x13\x43\x58\xd8\x45\x65\x5d\x4d\x10\x7a",
         *b"5B8vYYiY.CVt1RlTTf8KbXBH3hsxY/GNooZaBBGWEc5",
     ),
     (
-        "This is just a test",
-        "toolongsaltstring",
-        *b"\x1c\xcf\x18\xc8\x55\x21\xb0\xb4\x9a\xee\x1c\xef\x49\x01\x62\xbb\x90\xfa\xc8\x87\xe0\x4c\xab\xe5\xeb\x1d\xb1\xed\xa8\x52\xbd\x79",
-        *b"Un/5jzAHMgOGZ5.mWJpuVolil07guHPvOW8mGRcvxa5",
+        "Hello world!",
+        "saltstringsaltstring",
+        10_000,
+        *b"\x03\xe9\xcd\x30\xa5\x6f\xf0\x84\x04\x23\xbf\xe1\x0c\xb5\xfb\x97\xc3\x76\xd7\xea\x45\x4d\x69\xcc\xea\x09\x5d\xfd\x40\xb6\x14\xca",
+        *b"3xv.VbSHBb41AL9AvLeujZkZRBAwqFMz2.opqey6IcA",
     ),
     (
         "",
         "x",
-        *b"\xe6\x6e\x4a\x56\x9c\x80\x7e\xca\x36\x35\x74\x2b\x8c\x8f\xaa\x71\x0a\xe6\xce\x74\xfe\x90\x8e\x43\x8d\x51\xdd\x10\xa7\xa2\xaa\x4a",
-        *b"yHbtfs4Y8t6X1xcJemNX.4JQRfUTafA2qQenWGLBee2",
+        1_000,
+        *b"\xb4\xb8\x45\xfe\x82\x63\x75\x1a\x98\x29\xd5\x29\xd5\xf7\x9d\x17\x30\x95\xae\x1e\x30\x7f\x3d\xeb\x0f\xa5\x7e\xf5\xb7\x4d\x6f\xbf",
+        *b"kIBhdUvT3pHpfTjzR8s1XJu3y/HRJeFxMSffBtF8jx9",
     ),
 ];
 
-// Texts that are the password's.
-const MATCHES: [(&str, &str); 4] = [
+const DIGESTS_512: [(&str, &str, usize, [u8; 64], [u8; 86]); 3] = [
+    (
+        "Hello world!",
+        "saltstring",
+        5_000,
+        *b"\x2b\x20\x9d\x0f\x3a\xbe\x5a\xbc\x1b\x24\x52\x15\x55\xba\xa2\xb9\x4d\x09\x43\xda\xe1\x3e\x85\x66\x6e\x79\x46\xe2\x4d\xe2\x32\x37\x33\xcc\x53\x88\x77\xa2\x27\x43\x7a\xc5\xf8\xed\xe5\x98\x6c\x71\xa9\x87\x07\x9a\xa1\x65\xef\x8a\x1b\xda\x94\xa5\x91\x6a\xce\xff",
+        *b"svn8UoSVapNtMuq1ukKS4tPQd8iKwSMHWjl/O817G3uBnIFNjnQJuesI68u4OTLiBFdcbYEdFCoEOfaS35inz1",
+    ),
+    (
+        "Hello world!",
+        "saltstringsaltstring",
+        10_000,
+        *b"\x04\x1a\x88\xea\x0a\xf9\x68\xaa\x39\x84\x99\x00\x09\x4f\x5e\x07\xe4\x85\x07\x7e\xc9\x38\x90\x53\x58\xaa\xe3\x59\x0a\xf8\xe6\x3b\x58\x8c\xec\x9a\xe3\xc8\x9e\x8d\xcd\x9a\x9a\xd2\x34\xe8\x17\x88\xb7\xdd\x9d\x27\x37\xde\xaf\xad\xaa\x53\xd7\x4c\x8b\xd1\x1f\x3b",
+        *b"OW1/O6BYHV6BcXZu8QVeXbDWra3Oeqh0sbHbbMCVNSnCM/UrjmM0Dp8vOuZeHBy/YTBmSK6H9qs/y3RnOaw5v.",
+    ),
+    (
+        "",
+        "x",
+        1_000,
+        *b"\x4e\x90\x6c\x70\x7f\xc4\x01\xfc\x5e\xa1\xec\x81\xb9\x7d\x8b\xee\xcb\x3c\x87\x76\x73\xc8\x7e\x81\x08\xdd\x30\x96\x05\x12\xd4\x0a\xa6\x19\xe6\x96\x73\x49\xc1\x5a\x76\x49\x15\xb7\x75\xc4\xb0\x36\x54\x39\xb5\x6d\x7d\xbd\x21\x3f\xa2\x68\xe6\xc0\x61\xe9\xef\x03",
+        *b"JUgHESfT/mKR2X.Qz/PrkEgBINN.wbH/GsJhhFRcgrb0a4MjVYFixxXtKicccBbv9PSG/n1kVdpVqZiR7Brv1.",
+    ),
+];
+
+// A password, its text, and whether the text is SHA-256-crypt's.
+const MATCHES: [(&str, &str, bool); 8] = [
     (
         "Hello world!",
         "$5$saltstring$5B8vYYiY.CVt1RlTTf8KbXBH3hsxY/GNooZaBBGWEc5",
+        true,
     ),
     (
-        "This is just a test",
-        "$5$toolongsaltstrin$Un/5jzAHMgOGZ5.mWJpuVolil07guHPvOW8mGRcvxa5",
+        "Hello world!",
+        "$5$rounds=+05000$saltstring$5B8vYYiY.CVt1RlTTf8KbXBH3hsxY/GNooZaBBGWEc5",
+        true,
+    ),
+    (
+        "Hello world!",
+        "$5$rounds=10000$saltstringsaltst$3xv.VbSHBb41AL9AvLeujZkZRBAwqFMz2.opqey6IcA",
+        true,
     ),
     (
         "This is just a test",
         "$5$toolongsaltstring$Un/5jzAHMgOGZ5.mWJpuVolil07guHPvOW8mGRcvxa5",
+        true,
+    ),
+    (
+        "Hello world!",
+        "$6$saltstring$svn8UoSVapNtMuq1ukKS4tPQd8iKwSMHWjl/O817G3uBnIFNjnQJuesI68u4OTLiBFdcbYEdFCoEOfaS35inz1",
+        false,
+    ),
+    (
+        "This is just a test",
+        "$6$rounds=5000$toolongsaltstring$lQ8jolhgVRVhY4b5pZKaysCLi0QBxGoNeKQzQ3glMhwllF7oGDZxUhx1yxdYcz/e1JSbq3y6JMxxl8audkUEm0",
+        false,
     ),
     (
         "a very much longer text to encrypt.  This one even stretches over morethan one line.",
-        "$5$anotherlongsaltst$xDOFsdwNAstVE3491M3cBSSbHS4ksOOPoR7XlHBf4G1",
+        "$5$rounds=1400$anotherlongsaltstring$Rx.j8H.h8HjEDGomFU8bDkXm3XIUnzyxf12oP84Bnq1",
+        true,
+    ),
+    (
+        "a very much longer text to encrypt.  This one even stretches over morethan one line.",
+        "$6$rounds=1400$anotherlongsaltstring$POfYwTEok97VWcjxIiSOjiykti.o/pQs.wPvMxQ6Fm7I6IoYN3CmLs66x9t0oSwbtEW7o7UmJEiDwGqd8p4ur1",
+        false,
     ),
 ];
 
-// Texts that `Hello world!` doesn't match, and the answer.
-const REFUSED: [(&str, CheckError); 12] = [
+// A text that `sha256_check` refuses for `Hello world!`, and the answer.
+const REFUSED_256: [(&str, CheckError); 14] = [
+    ("x", CheckError::InvalidFormat(FormatFault::NoDollar)),
     (
-        "$5$saltstring$5B8vYYiY.CVt1RlTTf8KbXBH3hsxY/GNooZaBBGWEc8",
-        CheckError::HashMismatch,
+        "",
+        CheckError::InvalidFormat(FormatFault::WrongId(Family::Sha256)),
     ),
     (
-        "$5$x$yHbtfs4Y8t6X1xcJemNX.4JQRfUTafA2qQenWGLBee2",
-        CheckError::HashMismatch,
+        "$6$a$b",
+        CheckError::InvalidFormat(FormatFault::WrongId(Family::Sha256)),
+    ),
+    ("$5", CheckError::InvalidFormat(FormatFault::NoFields)),
+    (
+        "$5$rounds=5000",
+        CheckError::InvalidFormat(FormatFault::NoSalt),
+    ),
+    (
+        "$5$rounds=++5000$s$x",
+        CheckError::InvalidFormat(FormatFault::RoundsNotNumber),
+    ),
+    (
+        "$5$rounds=18446744073709551616$s",
+        CheckError::InvalidFormat(FormatFault::RoundsNotNumber),
+    ),
+    ("$5$a", CheckError::InvalidFormat(FormatFault::NoHash)),
+    ("$5$a$b$c", CheckError::InvalidFormat(FormatFault::Trailing)),
+    (
+        "$5$rounds=999$s$x",
+        CheckError::Crypt(CryptError::RoundsError),
+    ),
+    (
+        "$5$rounds=1000000000$s$x",
+        CheckError::Crypt(CryptError::RoundsError),
     ),
     (
         "$5$saltstring$5B8vYYiY.CVt1RlTTf8KbXBH3hsxY/GNooZaBBGWEcL",
@@ -67,78 +145,155 @@ const REFUSED: [(&str, CheckError); 12] = [
         CheckError::InvalidFormat(FormatFault::Base64),
     ),
     (
-        "$5$saltstring$5B8vYYiY.CVt1RlTTf8KbXBH3hsxY/GNooZaBBGWEc5.",
+        "$5$saltstring$5B8vYYiY.CVt1RlTTf8KbXBH3hsxY/GNooZaBBGWEc8",
+        CheckError::HashMismatch,
+    ),
+];
+
+// The same of `sha512_check`.
+const REFUSED_512: [(&str, CheckError); 5] = [
+    (
+        "$5$saltstring$5B8vYYiY.CVt1RlTTf8KbXBH3hsxY/GNooZaBBGWEc5",
+        CheckError::InvalidFormat(FormatFault::WrongId(Family::Sha512)),
+    ),
+    (
+        "$6$rounds=x$s",
+        CheckError::InvalidFormat(FormatFault::RoundsNotNumber),
+    ),
+    ("$6$s$x", CheckError::InvalidFormat(FormatFault::Base64)),
+    (
+        "$6$saltstring$svn8UoSVapNtMuq1ukKS4tPQd8iKwSMHWjl/O817G3uBnIFNjnQJuesI68u4OTLiBFdcbYEdFCoEOfaS35inz2",
         CheckError::InvalidFormat(FormatFault::Base64),
     ),
     (
-        "$5$saltstring$",
-        CheckError::InvalidFormat(FormatFault::Base64),
-    ),
-    ("", CheckError::InvalidFormat(FormatFault::NotBuilt)),
-    (
-        "$5$saltstring",
-        CheckError::InvalidFormat(FormatFault::NotBuilt),
-    ),
-    (
-        "5$saltstring$5B8vYYiY.CVt1RlTTf8KbXBH3hsxY/GNooZaBBGWEc5",
-        CheckError::InvalidFormat(FormatFault::NotBuilt),
-    ),
-    (
-        "$6$saltstring$5B8vYYiY.CVt1RlTTf8KbXBH3hsxY/GNooZaBBGWEc5",
-        CheckError::InvalidFormat(FormatFault::NotBuilt),
-    ),
-    (
-        "$5$rounds=5000$5B8vYYiY.CVt1RlTTf8KbXBH3hsxY/GNooZaBBGWEc5",
-        CheckError::InvalidFormat(FormatFault::NotBuilt),
-    ),
-    (
-        "$5$saltstring$5B8vYYiY.CVt1RlTTf8KbXBH3hsxY/GNooZaBBGWEc5$",
-        CheckError::InvalidFormat(FormatFault::NotBuilt),
+        "$6$saltstrinG$svn8UoSVapNtMuq1ukKS4tPQd8iKwSMHWjl/O817G3uBnIFNjnQJuesI68u4OTLiBFdcbYEdFCoEOfaS35inz1",
+        CheckError::HashMismatch,
     ),
 ];
 
 #[test]
-fn digests_and_hash_fields(rt: HostRuntime) {
-    let params = Sha256Params::default();
-    assert_eq!(rt; params.rounds(), 5000);
-    for (password, salt, digest, field) in DIGESTS {
+fn digests_and_hash_fields_256(rt: HostRuntime) {
+    assert_eq!(rt; Sha256Params::default().rounds(), 5_000);
+    for (password, salt, rounds, digest, field) in DIGESTS_256 {
         assert!(rt; password.len() < 100);
+        let Ok(params) = Sha256Params::new(rounds) else {
+            panic!(rt; "rounds")
+        };
         let got = sha256_crypt(password.as_bytes(), salt.as_bytes(), &params);
         assert!(rt; got == digest, "{password:?}");
         assert!(rt; encode_sha256(&digest) == field, "{password:?}");
         assert!(rt; decode_sha256(&field) == Ok(digest), "{password:?}");
+        for len in 0..43 {
+            assert!(rt; decode_sha256(&field[..len]) == Err(DecodeError));
+        }
     }
 }
 
 #[test]
-fn texts_that_no_digest_has(rt: HostRuntime) {
-    let field = b"5B8vYYiY.CVt1RlTTf8KbXBH3hsxY/GNooZaBBGWEc5";
-    for len in 0..43 {
-        assert!(rt; decode_sha256(&field[..len]) == Err(DecodeError));
-    }
-    for text in [
-        "5B8vYYiY.CVt1RlTTf8KbXBH3hsxY/GNooZaBBGWEc5.",
-        "5B8vYYiY.CVt1RlTTf8KbXBH3hsxY/GNooZaBBGWEcE",
-        "5B8vYYiY.CVt1RlTTf8KbXBH3hsxY=GNooZaBBGWEc5",
-    ] {
-        assert!(rt; decode_sha256(text.as_bytes()) == Err(DecodeError));
-        assert!(rt;
-            CheckError::from(DecodeError) == CheckError::InvalidFormat(FormatFault::Base64)
-        );
+fn digests_and_hash_fields_512(rt: HostRuntime) {
+    assert_eq!(rt; Sha512Params::default().rounds(), 5_000);
+    for (password, salt, rounds, digest, field) in DIGESTS_512 {
+        assert!(rt; password.len() < 100);
+        let Ok(params) = Sha512Params::new(rounds) else {
+            panic!(rt; "rounds")
+        };
+        let got = sha512_crypt(password.as_bytes(), salt.as_bytes(), &params);
+        assert!(rt; got == digest, "{password:?}");
+        assert!(rt; encode_sha512(&digest) == field, "{password:?}");
+        assert!(rt; decode_sha512(&field) == Ok(digest), "{password:?}");
+        for len in 0..86 {
+            assert!(rt; decode_sha512(&field[..len]) == Err(DecodeError));
+        }
     }
 }
 
-fn check(rt: &impl Abort, password: &str, text: &str) -> Result<(), CheckError> {
+#[test]
+fn rounds_in_range(rt: HostRuntime) {
+    for (rounds, inside) in [
+        (999, false),
+        (1_000, true),
+        (999_999_999, true),
+        (1_000_000_000, false),
+    ] {
+        assert_eq!(rt; Sha256Params::new(rounds).is_ok(), inside);
+        assert_eq!(rt; Sha512Params::new(rounds).is_ok(), inside);
+    }
+}
+
+fn check(rt: &impl Abort, password: &str, text: &str, is_256: bool) -> Result<(), CheckError> {
     assert!(rt; password.len() < 100);
-    sha256_check(password, text)
+    if is_256 {
+        sha256_check(password, text)
+    } else {
+        sha512_check(password, text)
+    }
 }
 
 #[test]
 fn answers(rt: HostRuntime) {
-    for (password, text) in MATCHES {
-        assert!(rt; check(&rt, password, text).is_ok(), "{text:?}");
+    for (password, text, is_256) in MATCHES {
+        assert!(rt; check(&rt, password, text, is_256).is_ok(), "{text:?}");
     }
-    for (text, error) in REFUSED {
-        assert!(rt; check(&rt, "Hello world!", text) == Err(error), "{text:?}");
+    for (text, error) in REFUSED_256 {
+        assert!(rt;
+            check(&rt, "Hello world!", text, true) == Err(error),
+            "{text:?}"
+        );
     }
+    for (text, error) in REFUSED_512 {
+        assert!(rt;
+            check(&rt, "Hello world!", text, false) == Err(error),
+            "{text:?}"
+        );
+    }
+}
+
+#[test]
+fn counted_checks(rt: HostRuntime) {
+    for (password, text, is_256) in MATCHES {
+        assert!(rt; password.len() < 100);
+        let mut counts = Counts::new();
+        let (answer, looks, sames) = if is_256 {
+            (sha256_check_counted(password, text, &mut counts), 44, 36)
+        } else {
+            (sha512_check_counted(password, text, &mut counts), 88, 68)
+        };
+        assert!(rt; answer.is_ok());
+        assert_eq!(rt; counts.looks(), looks);
+        assert_eq!(rt; counts.sames(), sames);
+    }
+}
+
+#[test]
+fn texts_of_the_faults(rt: HostRuntime) -> Result<(), Fail> {
+    for (fault, text) in [
+        (FormatFault::NoDollar, "Should start with '$"),
+        (
+            FormatFault::WrongId(Family::Sha256),
+            "does not contain SHA256 identifier: '$5$'",
+        ),
+        (
+            FormatFault::WrongId(Family::Sha512),
+            "does not contain SHA512 identifier: '$6$'",
+        ),
+        (
+            FormatFault::NoFields,
+            "Does not contain a rounds or salt nor hash string",
+        ),
+        (
+            FormatFault::NoSalt,
+            "Does not contain a salt nor hash string",
+        ),
+        (
+            FormatFault::RoundsNotNumber,
+            "rounds= specifier need to be a number",
+        ),
+        (FormatFault::NoHash, "Does not contain a hash string"),
+        (FormatFault::Trailing, "Trailing characters present"),
+        (FormatFault::Base64, "invalid B64"),
+    ] {
+        assert_eq!(rt; format!(in rt.alloc(); "{fault}")?.as_str(), text);
+    }
+    assert!(rt; CheckError::from(DecodeError) == CheckError::InvalidFormat(FormatFault::Base64));
+    Ok(())
 }

@@ -1,4 +1,4 @@
-use Rattle.std.proofs.Common.{arith, rules, sym, ◌∙◌}
+use Rattle.std.proofs.Common.{rules, sym, ◌∙◌}
 use Rattle.sha_crypt.proofs.HashFields.{decoded, not_decoded}
 use Rattle.sha_crypt.proofs.b64.decode.Goals as goal
 
@@ -8,5 +8,5 @@ returns-in-Some g c =
     (sym c.field_bytes.ensures ∙ c.in-Some.is) c.in_order.ensures.value
 
 pub returns-in-None : goal.returns-in-None
-returns-in-None g c = λ digest len small.
-    not_decoded g.row.N c.args.places.now c.args.source.now digest c.told-places (sym c.field_bytes.ensures ∙ c.in-None.is) len small
+returns-in-None g c = λ digest is.
+    not_decoded g.row.N c.args.places.now c.args.source.now digest c.told-places (sym c.field_bytes.ensures ∙ c.in-None.is) is

@@ -1,0 +1,4 @@
+pub mod Alphabets
+pub mod Grammar
+pub mod Texts
+pub mod Views

@@ -1,0 +1,30 @@
+-- The exclusive or of two lists, element by element.
+use Rattle.std.proofs.Common.{◌≡◌, ℕ, zero, suc, ◌+◌, ◌<◌, List, [], ◌∷◌, ◌++◌, length, take, drop, slice_index, slice_set, refl, sym, ap, ap₂, ◌∙◌, arith, add-one}
+use Rattle.std.specs.Simd.Lanes.{zip2}
+
+grown_at : (f : ℕ → ℕ → ℕ) (xs ys : List ℕ) (i : ℕ) → i < length xs → i < length ys
+    → slice_index (zip2 f (take i xs) (take i ys) ++ drop i xs) i ≡ slice_index xs i
+grown_at f [] ys i lx ly = absurd (omega arith)
+grown_at f (x ∷ xs) [] i lx ly = absurd (omega arith)
+grown_at f (x ∷ xs) (y ∷ ys) zero lx ly = refl
+grown_at f (x ∷ xs) (y ∷ ys) (suc i) lx ly = grown_at f xs ys i (omega arith) (omega arith)
+
+grown_more : (f : ℕ → ℕ → ℕ) (xs ys : List ℕ) (i : ℕ) → i < length xs → i < length ys
+    → slice_set (zip2 f (take i xs) (take i ys) ++ drop i xs) i (f (slice_index xs i) (slice_index ys i))
+    ≡ zip2 f (take (suc i) xs) (take (suc i) ys) ++ drop (suc i) xs
+grown_more f [] ys i lx ly = absurd (omega arith)
+grown_more f (x ∷ xs) [] i lx ly = absurd (omega arith)
+grown_more f (x ∷ xs) (y ∷ ys) zero lx ly = refl
+grown_more f (x ∷ xs) (y ∷ ys) (suc i) lx ly =
+    ap (λ (z : List ℕ). f x y ∷ z) (grown_more f xs ys i (omega arith) (omega arith))
+
+-- one element more, in a loop that writes f of both over the first
+pub zip2_over_more : (f : ℕ → ℕ → ℕ) (xs ys zs : List ℕ) (i : ℕ) → length ys ≡ length xs → i < length xs
+    → zs ≡ zip2 f (take i xs) (take i ys) ++ drop i xs
+    → slice_set zs i (f (slice_index zs i) (slice_index ys i))
+    ≡ zip2 f (take (i + 1) xs) (take (i + 1) ys) ++ drop (i + 1) xs
+zip2_over_more f xs ys zs i same below e =
+    let at = ap (λ (z : List ℕ). slice_index z i) e ∙ grown_at f xs ys i below (omega arith) in
+    ap₂ (λ (z : List ℕ) (v : ℕ). slice_set z i (f v (slice_index ys i))) e at
+    ∙ grown_more f xs ys i below (omega arith)
+    ∙ ap (λ (n : ℕ). zip2 f (take n xs) (take n ys) ++ drop n xs) (sym (add-one i))

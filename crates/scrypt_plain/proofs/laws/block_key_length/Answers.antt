@@ -1,0 +1,5 @@
+use Rattle.scrypt_plain.proofs.Lengths.{length-block_key}
+use Rattle.scrypt_plain.proofs.laws.block_key_length.Goals as goal
+
+pub returns : goal.returns
+returns c = length-block_key

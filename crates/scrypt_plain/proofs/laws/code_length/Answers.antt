@@ -1,0 +1,5 @@
+use Rattle.scrypt_plain.proofs.Lengths.{length-hmac}
+use Rattle.scrypt_plain.proofs.laws.code_length.Goals as goal
+
+pub returns : goal.returns
+returns c = length-hmac

@@ -1,0 +1,9 @@
+use Rattle.std.proofs.Common.{◌*◌}
+use Rattle.scrypt_plain.specs.Pbkdf2.{pbkdf2_once}
+use Rattle.scrypt_plain.specs.Scrypt.{mixed_parts}
+use Rattle.scrypt_plain.proofs.Lengths.{length-pbkdf2_once}
+use Rattle.scrypt_plain.proofs.laws.key_length.Goals as goal
+
+pub returns : goal.returns
+returns c = λ password salt n r p dk_len.
+    length-pbkdf2_once password (mixed_parts n r p (pbkdf2_once password salt (128 * r * p))) dk_len

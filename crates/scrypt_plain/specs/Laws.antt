@@ -1,0 +1,23 @@
+-- Laws over the definitions.
+use Rattle.std.specs.Prelude.{◌≡◌, ℕ, ◌≤◌, List, length, take}
+use Rattle.scrypt_plain.specs.Hmac.{hmac, block_key}
+use Rattle.scrypt_plain.specs.Scrypt.{scrypt}
+
+-- a code has 32 bytes
+abbrev pub CodeLength : Type 0
+CodeLength = (key text : List ℕ) → length (hmac key text) ≡ 32
+
+-- a key of HMAC fills one block
+abbrev pub BlockKeyLength : Type 0
+BlockKeyLength = (key : List ℕ) → length (block_key key) ≡ 64
+
+-- a key has as many bytes as were asked for
+abbrev pub KeyLength : Type 0
+KeyLength =
+    (password salt : List ℕ) (n r p dk_len : ℕ) → length (scrypt password salt n r p dk_len) ≡ dk_len
+
+-- a shorter key is the beginning of a longer one
+abbrev pub ShorterKey : Type 0
+ShorterKey =
+    (password salt : List ℕ) (n r p short long : ℕ) → short ≤ long
+    → scrypt password salt n r p short ≡ take short (scrypt password salt n r p long)

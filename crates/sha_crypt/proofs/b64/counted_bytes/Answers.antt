@@ -1,0 +1,24 @@
+use Rattle.std.proofs.Common.{rules, arith, ◌≡◌, ◌≢◌, ◌≤◌, ◌∙◌, sym, ℕ, length, Some, refl}
+use Rattle.std.specs.Prelude.{replicate, ◌==◌}
+use Rattle.std.proofs.lemmas.Bool.Decides.{nat_tests}
+use Rattle.std.proofs.lemmas.List.{length-replicate}
+use Rattle.base64ct.specs.Encoding.{byte_count, decoded_len}
+use Rattle.base64ct.specs.Decoding.{decoding}
+use Rattle.base64ct.specs.Alphabets.{base64_sha_crypt}
+use Rattle.base64ct.proofs.DecodingLaws.{length-decoding, decoded_len-unpadded}
+use Rattle.sha_crypt.proofs.HashFields.{wrong_length}
+use Rattle.sha_crypt.proofs.b64.counted_bytes.Goals as goal
+
+pub returns-then-not-has_field_length-clause-bytes : goal.returns-then-not-has_field_length-clause-bytes
+returns-then-not-has_field_length-clause-bytes g c =
+    let other : byte_count (length c.args.text.now) ≢ g.row.N = search rules in
+    wrong_length g.row.N c.args.text.now other
+
+pub copy_from_slice-requires : goal.copy_from_slice-requires
+copy_from_slice-requires g c =
+    let count : byte_count (length c.args.text.now) ≡ g.row.N = search rules in
+    let size : length (replicate {A = ℕ} g.row.N 0) ≡ g.row.N = length-replicate g.row.N 0 in
+    let whole : decoded_len base64_sha_crypt c.args.text.now ≡ g.row.N = decoded_len-unpadded base64_sha_crypt c.args.text.now refl ∙ count in
+    let room : decoded_len base64_sha_crypt c.args.text.now ≤ length (replicate {A = ℕ} g.row.N 0) = omega arith in
+    let found : decoding base64_sha_crypt c.args.text.now ≡ Some c.in-Ok.decoded.now = c.in-Ok.ensures.decoded room in
+    size ∙ sym (length-decoding base64_sha_crypt c.args.text.now c.in-Ok.decoded.now refl found ∙ whole)

@@ -1,0 +1,2 @@
+pub mod Walk
+mod Vectors
