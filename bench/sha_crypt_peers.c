@@ -1,5 +1,6 @@
-/* Computes the SHA-256-crypt text of COUNT passwords of LENGTH bytes, and prints the microseconds that it took
-   and the last text. The peer is libxcrypt's crypt_r, or Drepper's steps over libcrypto's SHA-256. */
+/* Computes the SHA-crypt text of COUNT passwords of LENGTH bytes, and prints the microseconds that it took and the
+   last text. The peer is libxcrypt's crypt_r, or Drepper's steps over libcrypto's hash function. FAMILY, which the
+   compiler is given, is 5 (SHA-256) or 6 (SHA-512). */
 #define _GNU_SOURCE
 #define OPENSSL_API_COMPAT 0x10100000L
 #include <crypt.h>
@@ -9,7 +10,21 @@
 #include <string.h>
 #include <time.h>
 
-enum { DIGEST = 32, ROUNDS = 5000, MOST = 256 };
+#if FAMILY == 5
+enum { DIGEST = 32 };
+typedef SHA256_CTX hash_state;
+#define hash_init SHA256_Init
+#define hash_update SHA256_Update
+#define hash_final SHA256_Final
+#else
+enum { DIGEST = 64 };
+typedef SHA512_CTX hash_state;
+#define hash_init SHA512_Init
+#define hash_update SHA512_Update
+#define hash_final SHA512_Final
+#endif
+
+enum { ROUNDS = 5000, MOST = 256 };
 static const char salt[] = "saltsaltsaltsalt";
 
 static double microseconds(void)
@@ -28,33 +43,33 @@ static void repeat(unsigned char *to, size_t length, const unsigned char *digest
 static void start(unsigned char *a, const char *password, size_t length, size_t salt_length)
 {
     unsigned char b[DIGEST], filled[MOST];
-    SHA256_CTX c;
-    SHA256_Init(&c);
-    SHA256_Update(&c, password, length);
-    SHA256_Update(&c, salt, salt_length);
-    SHA256_Update(&c, password, length);
-    SHA256_Final(b, &c);
+    hash_state c;
+    hash_init(&c);
+    hash_update(&c, password, length);
+    hash_update(&c, salt, salt_length);
+    hash_update(&c, password, length);
+    hash_final(b, &c);
     repeat(filled, length, b);
-    SHA256_Init(&c);
-    SHA256_Update(&c, password, length);
-    SHA256_Update(&c, salt, salt_length);
-    SHA256_Update(&c, filled, length);
+    hash_init(&c);
+    hash_update(&c, password, length);
+    hash_update(&c, salt, salt_length);
+    hash_update(&c, filled, length);
     for (size_t left = length; left > 0; left /= 2) {
         if (left % 2)
-            SHA256_Update(&c, b, DIGEST);
+            hash_update(&c, b, DIGEST);
         else
-            SHA256_Update(&c, password, length);
+            hash_update(&c, password, length);
     }
-    SHA256_Final(a, &c);
+    hash_final(a, &c);
 }
 
 static void copies(unsigned char *digest, const char *piece, size_t length, size_t count)
 {
-    SHA256_CTX c;
-    SHA256_Init(&c);
+    hash_state c;
+    hash_init(&c);
     while (count-- > 0)
-        SHA256_Update(&c, piece, length);
-    SHA256_Final(digest, &c);
+        hash_update(&c, piece, length);
+    hash_final(digest, &c);
 }
 
 static void openssl_digest(unsigned char *c, const char *password, size_t length)
@@ -67,15 +82,15 @@ static void openssl_digest(unsigned char *c, const char *password, size_t length
     copies(digest, salt, salt_length, 16 + c[0]);
     repeat(s, salt_length, digest);
     for (int i = 0; i < ROUNDS; i++) {
-        SHA256_CTX x;
-        SHA256_Init(&x);
-        SHA256_Update(&x, i % 2 ? p : c, i % 2 ? length : DIGEST);
+        hash_state x;
+        hash_init(&x);
+        hash_update(&x, i % 2 ? p : c, i % 2 ? length : DIGEST);
         if (i % 3)
-            SHA256_Update(&x, s, salt_length);
+            hash_update(&x, s, salt_length);
         if (i % 7)
-            SHA256_Update(&x, p, length);
-        SHA256_Update(&x, i % 2 ? c : p, i % 2 ? DIGEST : length);
-        SHA256_Final(c, &x);
+            hash_update(&x, p, length);
+        hash_update(&x, i % 2 ? c : p, i % 2 ? DIGEST : length);
+        hash_final(c, &x);
     }
 }
 
@@ -90,7 +105,7 @@ int main(int argc, char **argv)
         return 2;
     memset(password, 'a', length);
     password[length] = 0;
-    snprintf(setting, sizeof setting, "$5$%s", salt);
+    snprintf(setting, sizeof setting, "$%d$%s", FAMILY, salt);
     unsigned char digest[DIGEST] = {0};
     const char *text = "";
     double begin = microseconds();
