@@ -1,0 +1,81 @@
+-- Which bytes the parts of a record consist of.
+use Rattle.std.proofs.Common.{◌≡◌, ℕ, zero, suc, ◌^◌, ◌<◌, Bool, true, false, List, [], ◌∷◌, ◌++◌, length, map, slice_index, refl, sym, ap, ◌∙◌, arith}
+use Rattle.std.specs.Prelude.{◌==◌, ◌&&◌, nat_le}
+use Rattle.std.specs.List.{list_all}
+use Rattle.std.specs.Char.{is_ascii_digit}
+use Rattle.std.specs.Fmt.{decimal}
+use Rattle.std.proofs.lemmas.Bool.{and_parts, false≢true}
+use Rattle.std.proofs.lemmas.Bool.Decides.{nat_tests}
+use Rattle.std.proofs.lemmas.Fmt.{digits_decimal}
+use Rattle.pieces.specs.Pieces.{LacksByte}
+use Rattle.base64ct.specs.Alphabets.{base64_unpadded}
+use Rattle.base64ct.specs.Encoding.{Alphabet, EachBelow, character, groups}
+use Rattle.base64ct.specs.Encoding as base64
+use Rattle.base64ct.proofs.Encodings.{groups-below}
+use Rattle.phc.specs.Encoded.{encoding}
+use Rattle.phc.specs.Grammar.{has, is_name, is_name_byte, is_value_byte}
+use Rattle.phc.proofs.Decimals.{own}
+
+-- a text of bytes among which c is none
+pub lacks : (p : ℕ → Bool) (c : ℕ) → p c ≡ false → (s : List ℕ) → list_all p s ≡ true → LacksByte c s
+lacks p c other [] h i below = absurd (omega (arith, below))
+lacks p c other (b ∷ s) h zero below = λ same. false≢true (sym other ∙ ap p (sym same) ∙ (and_parts (p b) (list_all p s) h).0)
+lacks p c other (b ∷ s) h (suc i) below = lacks p c other s (and_parts (p b) (list_all p s) h).1 i (omega (arith, below))
+
+not_same : (p : ℕ → Bool) (c b : ℕ) → p c ≡ false → p b ≡ true → (b == c) ≡ false
+not_same p c b other h = by_test (b == c) refl
+  where
+    by_test : (t : Bool) → (b == c) ≡ t → t ≡ false
+    by_test false is = refl
+    by_test true is = let same : b ≡ c = grind (arith, nat_tests, is) in absurd (false≢true (sym other ∙ ap p (sym same) ∙ h))
+
+-- a text of bytes among which c is none has no c
+pub has_none : (p : ℕ → Bool) (c : ℕ) → p c ≡ false → (s : List ℕ) → list_all p s ≡ true → has c s ≡ false
+has_none p c other [] h = refl
+has_none p c other (b ∷ s) h =
+    let parts = and_parts (p b) (list_all p s) h in
+    rw (not_same p c b other parts.0) (has_none p c other s parts.1)
+
+-- both parts of a text
+pub all_append : (p : ℕ → Bool) (s t : List ℕ) → list_all p s ≡ true → list_all p t ≡ true → list_all p (s ++ t) ≡ true
+all_append p [] t hs ht = ht
+all_append p (b ∷ s) t hs ht =
+    let parts = and_parts (p b) (list_all p s) hs in
+    rw (parts.0) (all_append p s t parts.1 ht)
+
+-- a weaker test
+pub all_weaker : (p q : ℕ → Bool) → ((b : ℕ) → p b ≡ true → q b ≡ true) → (s : List ℕ) → list_all p s ≡ true → list_all q s ≡ true
+all_weaker p q weaker [] h = refl
+all_weaker p q weaker (b ∷ s) h =
+    let parts = and_parts (p b) (list_all p s) h in
+    rw (weaker b parts.0) (all_weaker p q weaker s parts.1)
+
+-- ---- names
+
+pub name_bytes : (s : List ℕ) → is_name s ≡ true → list_all is_name_byte s ≡ true
+name_bytes s h = (and_parts (nat_le 1 (length s) && nat_le (length s) 32) (list_all is_name_byte s) h).1
+
+-- ---- decimals
+
+pub decimal_digits : (n : ℕ) → n < 2 ^ 32 → list_all is_ascii_digit (decimal n) ≡ true
+decimal_digits n h = digits_decimal own n (omega (arith, h))
+
+-- ---- encodings
+
+passes_at : (p : ℕ → Bool) (cs : List ℕ) (i : ℕ) → list_all p cs ≡ true → i < length cs → p (slice_index cs i) ≡ true
+passes_at p [] i h below = absurd (omega (arith, below))
+passes_at p (c ∷ cs) zero h below = (and_parts (p c) (list_all p cs) h).0
+passes_at p (c ∷ cs) (suc i) h below = passes_at p cs i (and_parts (p c) (list_all p cs) h).1 (omega (arith, below))
+
+characters_pass : (p : ℕ → Bool) (values : List ℕ) → list_all p base64_unpadded.characters ≡ true → EachBelow 64 values
+    → list_all p (map (character base64_unpadded) values) ≡ true
+characters_pass p [] h below = refl
+characters_pass p (v ∷ values) h below =
+    rw (passes_at p base64_unpadded.characters v h (below 0)) (characters_pass p values h (λ i. below (suc i)))
+
+-- an encoding is a value
+pub encoding_value : (b : List ℕ) → EachBelow 256 b → list_all is_value_byte (encoding b) ≡ true
+unfolding base64.encoding
+encoding_value b below =
+    all_append is_value_byte (map (character base64_unpadded) (groups base64_unpadded.low_first b)) []
+    (characters_pass is_value_byte (groups base64_unpadded.low_first b) refl (groups-below base64_unpadded.low_first b below)) refl

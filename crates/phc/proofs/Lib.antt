@@ -1,0 +1,15 @@
+pub mod NameLemmas
+pub mod Characters
+pub mod PairTexts
+pub mod BytesLemmas
+pub mod Decimals
+pub mod Joining
+pub mod Printed
+pub mod ParsedBack
+pub mod Readable
+mod Vectors
+pub mod EncodedBytes
+pub mod ValueBytes
+pub mod PairLemmas
+pub mod ParamsLemmas
+mod PartVectors

@@ -1,0 +1,99 @@
+-- Texts whose bytes are those of names and values: they are ASCII and lack `,` and `=`.
+use Rattle.std.proofs.Common.{◌≡◌, ℕ, ◌+◌, ◌/◌, ◌%◌, ◌^◌, ◌<◌, ◌≤◌, Bool, true, false, List, [], ◌∷◌, ◌++◌, length, refl, sym, ap, ◌∙◌, arith, append_assoc}
+use Rattle.std.specs.Prelude.{◌&&◌, nat_le, None}
+use Rattle.std.specs.Char.{is_ascii_digit}
+use Rattle.std.specs.Fmt.{decimal}
+use Rattle.std.specs.List.{list_all}
+use Rattle.std.specs.Str.{IsAscii, IsUtf8}
+use Rattle.std.proofs.lemmas.Bool.{and_parts}
+use Rattle.std.proofs.lemmas.Bool.Decides.{nat_tests}
+use Rattle.std.proofs.lemmas.Fmt.{decimal_digit, decimal_nonempty, decimal_step, length-decimal-le}
+use Rattle.std.proofs.lemmas.List.{length-append}
+use Rattle.std.proofs.lemmas.Str.{IsUtf8-from_ascii}
+use Rattle.std.proofs.lemmas.Str.Ascii.{IsAscii-nil, IsAscii-cons}
+use Rattle.base64ct.specs.Encoding.{EachBelow}
+use Rattle.phc.specs.Encoded.{encoding}
+use Rattle.phc.specs.Grammar.{first_fault, has_value_bytes, is_name, is_name_byte, is_value_byte, unless, value_fault}
+use Rattle.phc.specs.declared.error.Error.{Error}
+use Rattle.phc.specs.declared.error.Error.TheVariants.{ParamValueInvalid, ParamValueTooLong}
+use Rattle.phc.proofs.Characters.{all_weaker, encoding_value}
+use Rattle.phc.proofs.EncodedBytes.{encoded_length}
+use Rattle.phc.proofs.PairTexts.{some_none}
+
+-- ---- a test of each byte
+
+pub all_ascii : (P : ℕ → Bool) → ((b : ℕ) → P b ≡ true → b < 128) → (s : List ℕ) → list_all P s ≡ true → IsAscii s
+all_ascii P small [] h = IsAscii-nil
+all_ascii P small (b ∷ s) h = let parts = and_parts (P b) (list_all P s) h in IsAscii-cons b s (small b parts.0) (all_ascii P small s parts.1)
+
+-- ---- names and values
+
+name_byte_ascii : (b : ℕ) → is_name_byte b ≡ true → b < 128
+name_byte_ascii b h = grind (arith, nat_tests)
+
+value_byte_ascii : (b : ℕ) → is_value_byte b ≡ true → b < 128
+value_byte_ascii b h = grind (arith, nat_tests)
+
+digit_is_value : (b : ℕ) → is_ascii_digit b ≡ true → is_value_byte b ≡ true
+digit_is_value b h = grind (arith, nat_tests)
+
+both_hold : (p q : Bool) (e f : Error) → first_fault (unless p e ∷ (unless q f ∷ [])) ≡ None → (p ≡ true) × (q ≡ true)
+both_hold true true e f h = (refl, refl)
+both_hold true false e f h = absurd (some_none f h)
+both_hold false q e f h = absurd (some_none e h)
+
+-- a value has at most 64 bytes, all of them those of values
+pub value_parts : (s : List ℕ) → value_fault s ≡ None → (length s ≤ 64) × (has_value_bytes s ≡ true)
+value_parts s h =
+    let parts = both_hold (nat_le (length s) 64) (has_value_bytes s) ParamValueTooLong ParamValueInvalid h in
+    (grind (arith, nat_tests, parts.0), parts.1)
+
+pub value_from : (s : List ℕ) → length s ≤ 64 → has_value_bytes s ≡ true → value_fault s ≡ None
+value_from s short bytes = let fits : nat_le (length s) 64 ≡ true = grind (arith, nat_tests) in rw (fits, bytes) refl
+
+-- a name has 1 to 32 bytes, all of them those of names
+pub name_parts : (s : List ℕ) → is_name s ≡ true → (1 ≤ length s) × (length s ≤ 32) × (list_all is_name_byte s ≡ true)
+name_parts s h =
+    let outer = and_parts (nat_le 1 (length s) && nat_le (length s) 32) (list_all is_name_byte s) h in
+    let inner = and_parts (nat_le 1 (length s)) (nat_le (length s) 32) outer.0 in
+    (grind (arith, nat_tests, inner.0), grind (arith, nat_tests, inner.1), outer.1)
+
+pub name_ascii : (s : List ℕ) → is_name s ≡ true → IsAscii s
+name_ascii s h = all_ascii is_name_byte name_byte_ascii s (name_parts s h).2
+
+pub value_ascii : (s : List ℕ) → value_fault s ≡ None → IsAscii s
+value_ascii s h = all_ascii is_value_byte value_byte_ascii s (value_parts s h).1
+
+-- ---- decimals and encodings are values
+
+pub digits_utf8 : (s : List ℕ) → list_all is_ascii_digit s ≡ true → IsUtf8 s
+digits_utf8 s h = IsUtf8-from_ascii s (all_ascii is_value_byte value_byte_ascii s (all_weaker is_ascii_digit is_value_byte digit_is_value s h))
+
+pub digits_value : (s : List ℕ) → list_all is_ascii_digit s ≡ true → length s ≤ 64 → value_fault s ≡ None
+digits_value s h short = value_from s short (all_weaker is_ascii_digit is_value_byte digit_is_value s h)
+
+pub decimal_length : (n : ℕ) → n < 2 ^ 32 → length (decimal n) ≤ 10
+decimal_length n small = length-decimal-le 10 n (omega (arith, small)) (omega (arith, small)) (omega arith)
+
+pub encoding_is_value : (b : List ℕ) → EachBelow 256 b → length b ≤ 48 → value_fault (encoding b) ≡ None
+encoding_is_value b small short = value_from (encoding b) (omega (arith, encoded_length b small, short)) (encoding_value b small)
+
+-- ---- the digits of a number, the last one behind the others
+
+pub last_digit : (n : ℕ) (front old : List ℕ) → 10 ≤ n → n < 2 ^ 32 → front ≡ old ++ decimal (n / 10) → front ++ (48 + n % 10) ∷ [] ≡ old ++ decimal n
+last_digit n front old big small is =
+    ap (λ (d : List ℕ). d ++ (48 + n % 10) ∷ []) is
+    ∙ append_assoc old (decimal (n / 10)) ((48 + n % 10) ∷ [])
+    ∙ ap (λ (d : List ℕ). old ++ d) (sym (decimal_step n big (omega (arith, small))))
+
+pub one_digit : (n : ℕ) (front old : List ℕ) → n < 10 → front ≡ old → front ++ (48 + n % 10) ∷ [] ≡ old ++ decimal n
+one_digit n front old little is =
+    let digit : n % 10 ≡ n = omega (arith, little) in
+    rw (is, digit) (ap (λ (d : List ℕ). old ++ d) (sym (decimal_digit n little)))
+
+pub front_length : (n : ℕ) → 10 ≤ n → n < 2 ^ 32 → length (decimal (n / 10)) + 1 ≡ length (decimal n)
+front_length n big small =
+    sym (length-append (decimal (n / 10)) ((48 + n % 10) ∷ [])) ∙ ap length (sym (decimal_step n big (omega (arith, small))))
+
+pub some_digit : (n : ℕ) → n < 2 ^ 32 → 1 ≤ length (decimal n)
+some_digit n small = omega (arith, decimal_nonempty n (omega (arith, small)))

@@ -1,0 +1,30 @@
+-- How often the fields of a text are looked up in the alphabet, and how often the decoder compares.
+use Rattle.std.specs.Prelude.{ℕ, ◌+◌, ◌*◌, ◌/◌, List, length, Option, Some, None, drop}
+use Rattle.pieces.specs.Pieces.{pieces_at}
+use Rattle.phc.specs.Grammar.{Layout, layout}
+
+-- the look-ups of a field: four for each four characters, and four for what is left over
+abbrev pub field_looks : List ℕ → ℕ
+field_looks field = 4 * (length field / 4) + 4
+
+-- the look-ups of a field that may be absent
+abbrev pub looks_of : Option (List ℕ) → ℕ
+looks_of None = 0
+looks_of (Some field) = field_looks field
+
+-- the comparisons of a field that may be absent
+abbrev pub comparisons_of : Option (List ℕ) → ℕ
+comparisons_of None = 0
+comparisons_of (Some field) = 4
+
+-- the parts of a text behind its identifier
+abbrev pub layout_of_text : List ℕ → Layout
+layout_of_text s = layout (drop 2 (pieces_at 36 s))
+
+-- the look-ups of the salt and the hash of these parts
+abbrev pub layout_looks : Layout → ℕ
+layout_looks l = looks_of l.salt + looks_of l.hash
+
+-- the comparisons of the salt and the hash of these parts
+abbrev pub layout_comparisons : Layout → ℕ
+layout_comparisons l = comparisons_of l.salt + comparisons_of l.hash

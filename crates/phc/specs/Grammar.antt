@@ -1,0 +1,195 @@
+-- The grammar of the PHC string format (the form of the Password Hashing Competition): a fault, or a record.
+use Rattle.std.specs.Prelude.{ℕ, ◌+◌, ◌*◌, ◌-◌, ◌^◌, Bool, true, false, not, ◌&&◌, ◌||◌, List, [], ◌∷◌, ◌==◌, nat_eq, nat_lt, nat_le, length, drop, Option, Some, None, is_some, unwrap_or, Result, Ok, Err, if◌then◌else◌, codes, map}
+use Rattle.std.specs.List.{list_all, list_any, starts_with}
+use Rattle.std.specs.Char.{is_ascii_lowercase, is_ascii_digit, is_ascii_alphanumeric}
+use Rattle.std.specs.declared.cmp.Ordering.TheVariants.{Less}
+use Rattle.pieces.specs.Pieces.{pieces_at, first, is_nil, behind}
+use Rattle.base64ct.specs.declared.errors.Error.TheVariants.{InvalidEncoding, InvalidLength}
+use Rattle.phc.specs.Encoded.{decoding}
+use Rattle.phc.specs.declared.error.Error.{Error}
+use Rattle.phc.specs.declared.error.Error.TheVariants.{Base64, OutputSize, ParamNameInvalid, ParamValueInvalid, ParamValueTooLong, ParamsMaxExceeded, SaltTooShort, SaltTooLong, TrailingData}
+
+-- ---- names, values and decimals
+
+-- a-z, 0-9 or `-`
+abbrev pub is_name_byte : ℕ → Bool
+is_name_byte b = is_ascii_lowercase b || is_ascii_digit b || b == 45
+
+-- 1 to 32 such characters
+abbrev pub is_name : List ℕ → Bool
+is_name s = nat_le 1 (length s) && nat_le (length s) 32 && list_all is_name_byte s
+
+-- characters of A-Z a-z 0-9 `/` `+` `.` `-`
+abbrev pub is_value_byte : ℕ → Bool
+is_value_byte b = is_ascii_alphanumeric b || list_any (λ c. c == b) (codes "/+.-")
+
+abbrev pub has_value_bytes : List ℕ → Bool
+has_value_bytes s = list_all is_value_byte s
+
+-- the number that digits write, after those of n
+abbrev pub number_after : ℕ → List ℕ → ℕ
+number_after n [] = n
+number_after n (d ∷ ds) = number_after (n * 10 + (d - 48)) ds
+
+abbrev pub has_leading_zero : List ℕ → Bool
+has_leading_zero s = nat_lt 1 (length s) && starts_with nat_eq s (codes "0")
+
+-- digits without a leading zero
+abbrev pub is_plain : List ℕ → Bool
+is_plain s = list_all is_ascii_digit s && not (has_leading_zero s)
+
+-- the number of a nonempty text of digits without a leading zero, below 2 ^ 32
+abbrev pub decimal_value : List ℕ → Option ℕ
+decimal_value s =
+    if is_plain s && nat_le 1 (length s) && nat_lt (number_after 0 s) (2 ^ 32) then Some (number_after 0 s) else None
+
+-- ---- faults, one after another
+
+-- a fault exactly where the fact does not hold
+abbrev pub unless : Bool → Error → Option Error
+unless true e = None
+unless false e = Some e
+
+-- the first fault of a list
+abbrev pub first_fault : List (Option Error) → Option Error
+first_fault [] = None
+first_fault (Some e ∷ faults) = Some e
+first_fault (None ∷ faults) = first_fault faults
+
+-- the fault of a part that may be absent
+abbrev pub fault_of : (List ℕ → Option Error) → Option (List ℕ) → Option Error
+fault_of fault None = None
+fault_of fault (Some s) = fault s
+
+-- a value, unless there is a fault
+abbrev pub value_or_fault : {A : Type 0} → A → Option Error → Result A Error
+value_or_fault a (Some e) = Err e
+value_or_fault a None = Ok a
+
+-- the fault of a name
+abbrev pub name_fault : List ℕ → Option Error
+name_fault s = unless (is_name s) ParamNameInvalid
+
+-- the fault of a value
+abbrev pub value_fault : List ℕ → Option Error
+value_fault s = first_fault (unless (nat_le (length s) 64) ParamValueTooLong ∷ (unless (has_value_bytes s) ParamValueInvalid ∷ []))
+
+-- ---- which piece is what
+
+-- the pieces after the identifier, each with its part in the form
+pub record Layout : Type 0 where
+  pub version : Option (List ℕ)
+  pub params : Option (List ℕ)
+  pub salt : Option (List ℕ)
+  pub hash : Option (List ℕ)
+  pub rest : List (List ℕ)
+
+abbrev pub has : ℕ → List ℕ → Bool
+has c s = list_any (λ b. b == c) s
+
+-- what stands behind `v=` in a piece without a comma
+abbrev pub version_digits : List ℕ → Option (List ℕ)
+version_digits s = if has 44 s then None else behind s (codes "v=")
+
+-- a piece with `=`
+abbrev pub params_text : List ℕ → Option (List ℕ)
+params_text s = if has 61 s then Some s else None
+
+-- what the first piece is read as
+abbrev pub first_as : (List ℕ → Option (List ℕ)) → List (List ℕ) → Option (List ℕ)
+first_as read [] = None
+first_as read (piece ∷ pieces) = read piece
+
+-- the pieces behind the first, where that one was taken
+abbrev pub behind_taken : Option (List ℕ) → List (List ℕ) → List (List ℕ)
+behind_taken None pieces = pieces
+behind_taken (Some piece) pieces = drop 1 pieces
+
+-- the pieces from the salt on
+abbrev pub salt_and_more : Option (List ℕ) → Option (List ℕ) → List (List ℕ) → Layout
+salt_and_more version params pieces =
+    record { version = version; params = params; salt = first pieces; hash = first (drop 1 pieces); rest = drop 1 (drop 1 pieces) }
+
+-- the pieces from the parameters on
+abbrev pub params_and_more : Option (List ℕ) → List (List ℕ) → Layout
+params_and_more version pieces = salt_and_more version (first_as params_text pieces) (behind_taken (first_as params_text pieces) pieces)
+
+-- the pieces behind the identifier
+abbrev pub layout : List (List ℕ) → Layout
+layout pieces = params_and_more (first_as version_digits pieces) (behind_taken (first_as version_digits pieces) pieces)
+
+-- ---- the parts
+
+-- the pieces of `name=value`
+abbrev pub pair_fault : List (List ℕ) → Option Error
+pair_fault [] = Some ParamNameInvalid
+pair_fault (name ∷ []) = first_fault (unless (is_name name) ParamNameInvalid ∷ (Some ParamValueInvalid ∷ []))
+pair_fault (name ∷ (value ∷ more)) = first_fault
+    (unless (is_name name) ParamNameInvalid
+    ∷ (unless (nat_le (length value) 64) ParamValueTooLong
+    ∷ (unless (has_value_bytes value) ParamValueInvalid
+    ∷ (unless (is_nil more) ParamValueInvalid
+    ∷ []))))
+
+-- each pair of the parameters, cut at its `=`
+abbrev pub cut_pairs : List ℕ → List (List (List ℕ))
+cut_pairs s = map (pieces_at 61) (pieces_at 44 s)
+
+-- the name and the value of a cut pair
+abbrev pub pair_of : List (List ℕ) → List ℕ × List ℕ
+pair_of (name ∷ (value ∷ more)) = (name, value)
+pair_of (name ∷ []) = (name, [])
+pair_of [] = ([], [])
+
+abbrev pub version_fault : List ℕ → Option Error
+version_fault s = first_fault
+    (unless (nat_le (length s) 64) ParamValueTooLong
+    ∷ (unless (is_some (decimal_value s)) ParamValueInvalid
+    ∷ []))
+
+abbrev pub params_fault : List ℕ → Option Error
+params_fault s = first_fault (unless (nat_le (length s) 127) ParamsMaxExceeded ∷ map pair_fault (cut_pairs s))
+
+abbrev pub is_empty : List ℕ → Bool
+is_empty [] = true
+is_empty (b ∷ s) = false
+
+-- the fault of a text, of which the empty one has none
+abbrev pub text_fault : List ℕ → Option Error
+text_fault s = if is_empty s then None else params_fault s
+
+-- the pairs of a text; the empty text has none
+abbrev pub text_pairs : List ℕ → List (List ℕ × List ℕ)
+text_pairs s = if is_empty s then [] else map pair_of (cut_pairs s)
+
+abbrev pub salt_fault : List ℕ → Option Error
+salt_fault s = first_fault
+    (unless (nat_le 11 (length s)) SaltTooShort
+    ∷ (unless (nat_le (length s) 64) SaltTooLong
+    ∷ (unless (is_some (decoding s)) (Base64 InvalidEncoding)
+    ∷ [])))
+
+-- the fewest bytes of a hash
+abbrev pub hash_fault : List ℕ → Option Error
+hash_fault s = first_fault
+    (unless (nat_le (length s) 86) (Base64 InvalidLength)
+    ∷ (unless (is_some (decoding s)) (Base64 InvalidEncoding)
+    ∷ (unless (nat_le 10 (length (unwrap_or (decoding s) []))) (OutputSize Less 10)
+    ∷ [])))
+
+-- ---- the whole
+
+-- the first fault of an identifier and the pieces after it
+abbrev pub fault_of_layout : List ℕ → Layout → Option Error
+fault_of_layout id l = first_fault
+    (name_fault id
+    ∷ (fault_of version_fault l.version
+    ∷ (fault_of text_fault l.params
+    ∷ (fault_of salt_fault l.salt
+    ∷ (fault_of hash_fault l.hash
+    ∷ (unless (is_nil l.rest) TrailingData
+    ∷ []))))))
+
+abbrev pub pairs_of : Option (List ℕ) → List (List ℕ × List ℕ)
+pairs_of None = []
+pairs_of (Some s) = text_pairs s

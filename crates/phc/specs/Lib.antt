@@ -1,0 +1,13 @@
+pub mod Bytes
+pub mod Texts
+pub mod Encoded
+pub mod Grammar
+pub mod Parts
+pub mod Params
+pub mod PairsOfText
+pub mod Record
+pub mod Refusals
+pub mod Views
+pub mod Counts
+pub mod Kept
+pub mod ValueViews
