@@ -8,12 +8,12 @@ use Rattle.std.proofs.lemmas.List.Folds.{list_all-append}
 use Rattle.std.proofs.lemmas.List.{take-append-drop}
 use Rattle.line_io.specs.Devices.{AppendsPrefix, WhereTold}
 use Rattle.line_io.specs.Lines.{lines, whole_lines}
-use Rattle.line_io.specs.Runs.{IsNew, IsCall, IsPrefix}
+use Rattle.line_io.specs.Runs.{IsNew, IsCall, IsPrefix, StoppedAt}
 use Rattle.line_io.specs.declared.buffer.LineBuffer.{LineBuffer}
 use Rattle.line_io.specs.declared.buffer.Line.TheVariants.{End, Failed, Budget}
 use Rattle.line_io.proofs.LineLaws.{lines-append, whole_lines-idempotent, whole_lines-split}
 use Rattle.line_io.proofs.Moved.{append-nil, appends_none, appends_more, consumes_more, where_told}
-use Rattle.line_io.proofs.Runs.{LinesGiven, OneMore, run_start, run_end, run_failed, run_budget, stopped_part}
+use Rattle.line_io.proofs.Runs.{LinesGiven, OneMore, run_start, run_end, run_failed, run_budget, stopped_at, stopped_part}
 use Rattle.pwcheck.specs.Outcome.{LineRules, Outcome, output, all_good}
 
 -- the lines that were answered so far, what was written for them, and whether each was good
@@ -93,6 +93,18 @@ row_write_fault r max held taken added beginning = record {
   beginning = beginning;
 }
 
+row_memory : (r : LineRules) (max : ℕ) (held taken added : List ℕ) → StoppedAt (λ line. r.may_lack_memory line ≡ true) r.line_output held added → IsPrefix added (output r held)
+    → Outcome r 5 max held taken added
+row_memory r max held taken added stopped beginning = record {
+  done = λ h. absurd (omega arith);
+  verdict = λ h. absurd (omega arith);
+  read_fault = λ h. absurd (omega arith);
+  write_fault = λ h. absurd (omega arith);
+  want_of_memory = λ h. stopped;
+  budget = λ h. absurd (omega arith);
+  beginning = beginning;
+}
+
 row_budget : (r : LineRules) (max : ℕ) (held taken added : List ℕ) → max < length held → added ≡ output r (whole_lines (take max held)) → IsPrefix added (output r held)
     → Outcome r 6 max held taken added
 row_budget r max held taken added more e beginning = record {
@@ -161,3 +173,17 @@ outcome_cut r left left_mid left_now written written_mid written_now before now 
     (λ held rest e k.
     row_write_fault r max held one.0.bytes (flat_map r.line_output s.done ++ part.0)
     (stopped_part r.line_output left left_now now max s.done l part.0 one.0 (part.1, part.2) held rest e k))
+
+-- memory was wanting for a line
+pub outcome_memory : (r : LineRules) (left left_mid left_now written written_mid : Option (List ℕ)) (before now : LineBuffer) (max : ℕ) (all : Bool) (l : List ℕ) →
+    (s : Answered r left left_mid written written_mid before max all) → OneMore left left_now before now max s.done l → r.may_lack_memory l ≡ true
+    → WhereTold left left_now written written_mid (λ held taken added. Outcome r 5 max held taken added)
+outcome_memory r left left_mid left_now written written_mid before now max all l s one lacks =
+    where_told left left_now written written_mid one.0.bytes (flat_map r.line_output s.done)
+    (λ held taken added. Outcome r 5 max held taken added)
+    one.0.consumed s.added
+    (λ held rest e k.
+    row_memory r max held one.0.bytes (flat_map r.line_output s.done)
+    (stopped_at (λ line. r.may_lack_memory line ≡ true) r.line_output left left_now now max s.done l one.0 lacks held rest e k)
+    (let part = stopped_part r.line_output left left_now now max s.done l [] one.0 (r.line_output l, refl) held rest e k in
+    rw (append-nil (flat_map r.line_output s.done)) at part))

@@ -1,3 +1,6 @@
 mod Cuts
+mod Digits
+mod Known
+mod Longest
 mod Answered
 mod Steps

@@ -1,81 +1,138 @@
 -- What a line of a password file is answered with.
-use Rattle.std.specs.Prelude.{ℕ, Bool, true, false, List, [], ◌∷◌, ◌++◌, length, nat_lt, ◌==◌, ◌&&◌, codes, if◌then◌else◌, Result, Ok, Err}
+use Rattle.std.specs.Prelude.{◌≡◌, ◌⊎◌, ℕ, Bool, true, false, List, [], ◌∷◌, ◌++◌, length, nat_lt, ◌==◌, ◌&&◌, codes, if◌then◌else◌, Result, Ok, Err}
+use Rattle.std.specs.Fmt.{decimal}
 use Rattle.std.specs.List.{list_any, before_last, after_last}
 use Rattle.std.specs.Str.{is_utf8}
-use Rattle.stored_check.specs.Verdict.{verdict}
+use Rattle.base64ct.specs.declared.errors.Error.TheVariants as of_base64
+use Rattle.phc.specs.declared.password_hash.PasswordHash.{PasswordHash}
+use Rattle.scrypt_plain.specs.Profile.{scrypt_accepts, scrypt_key}
+use Rattle.stored_check.specs.Counts.{verdict_comparisons, verdict_looks}
+use Rattle.stored_check.specs.Verdict.{may_lack_memory, verdict}
 use Rattle.stored_check.specs.declared.error.StoredError.{StoredError}
 use Rattle.stored_check.specs.declared.error.StoredError.TheVariants as of_stored
+use Rattle.stored_check.specs.declared.error.McfFault.{McfFault}
 use Rattle.stored_check.specs.declared.error.McfFault.TheVariants as of_mcf
 use Rattle.stored_check.specs.declared.error.ShaFault.TheVariants as of_sha
+use Rattle.stored_check.specs.declared.error.PhcFault.{PhcFault}
+use Rattle.stored_check.specs.declared.error.PhcFault.TheVariants as of_phc
 use Rattle.pwcheck.specs.declared.answer.Answer.{Answer}
-use Rattle.pwcheck.specs.declared.answer.Answer.TheVariants.{Match, Mismatch, TooLong, BadLine, PasswordTooLong, McfDelimiter, McfIdentifier, McfField, McfEncoding, Unsupported, ShaFormat, ShaRounds}
+use Rattle.pwcheck.specs.declared.answer.Answer.TheVariants.{TooLong, BadLine, Checked}
+use Rattle.pwcheck.specs.declared.form.Form.{Form}
+use Rattle.pwcheck.specs.declared.form.Form.TheVariants.{Plain, Counted}
 use Rattle.pwcheck.specs.Outcome.{LineRules}
 
--- the word of an answer
-abbrev pub word_of : Answer → List ℕ
-word_of Match = codes "match"
-word_of Mismatch = codes "mismatch"
-word_of TooLong = codes "toolong"
-word_of BadLine = codes "badline"
-word_of PasswordTooLong = codes "password-too-long"
-word_of McfDelimiter = codes "mcf-delimiter"
-word_of McfIdentifier = codes "mcf-identifier"
-word_of McfField = codes "mcf-field"
-word_of McfEncoding = codes "mcf-encoding"
-word_of Unsupported = codes "unsupported"
-word_of ShaFormat = codes "sha-format"
-word_of ShaRounds = codes "sha-rounds"
+-- ---- words
 
--- the word and a line feed
-abbrev pub answer_text : Answer → List ℕ
-answer_text a = word_of a ++ 10 ∷ []
+abbrev pub mcf_word : McfFault → List ℕ
+mcf_word of_mcf.DelimiterInvalid = codes "mcf-delimiter"
+mcf_word of_mcf.IdentifierInvalid = codes "mcf-identifier"
+mcf_word of_mcf.FieldInvalid = codes "mcf-field"
+mcf_word of_mcf.EncodingInvalid = codes "mcf-encoding"
+
+abbrev pub phc_word : PhcFault → List ℕ
+phc_word of_phc.ParamNameInvalid = codes "phc-name"
+phc_word of_phc.ParamValueTooLong = codes "phc-value-long"
+phc_word of_phc.ParamValueInvalid = codes "phc-value"
+phc_word of_phc.ParamsMaxExceeded = codes "phc-params-long"
+phc_word of_phc.SaltTooShort = codes "phc-salt-short"
+phc_word of_phc.SaltTooLong = codes "phc-salt-long"
+phc_word (of_phc.Base64 of_base64.InvalidEncoding) = codes "phc-b64"
+phc_word (of_phc.Base64 of_base64.InvalidLength) = codes "phc-hash-long"
+phc_word of_phc.OutputSize = codes "phc-hash-short"
+phc_word of_phc.TrailingData = codes "phc-trailing"
+
+-- the word of a verdict, or of the cause that there is none; want of memory has no word
+abbrev pub word : Result Bool StoredError → List ℕ
+word (Ok true) = codes "match"
+word (Ok false) = codes "mismatch"
+word (Err of_stored.PasswordTooLong) = codes "password-too-long"
+word (Err (of_stored.Mcf fault)) = mcf_word fault
+word (Err (of_stored.Sha (of_sha.InvalidFormat fault))) = codes "sha-format"
+word (Err (of_stored.Sha of_sha.RoundsError)) = codes "sha-rounds"
+word (Err (of_stored.Phc fault)) = phc_word fault
+word (Err of_stored.NoHash) = codes "no-hash"
+word (Err of_stored.Kdf) = codes "kdf"
+word (Err of_stored.OutOfMemory) = []
+
+abbrev pub answer_word : Answer → List ℕ
+answer_word TooLong = codes "toolong"
+answer_word BadLine = codes "badline"
+answer_word (Checked r) = word r
 
 abbrev pub is_match : Answer → Bool
-is_match Match = true
-is_match Mismatch = false
+is_match (Checked (Ok b)) = b
+is_match (Checked (Err e)) = false
 is_match TooLong = false
 is_match BadLine = false
-is_match PasswordTooLong = false
-is_match McfDelimiter = false
-is_match McfIdentifier = false
-is_match McfField = false
-is_match McfEncoding = false
-is_match Unsupported = false
-is_match ShaFormat = false
-is_match ShaRounds = false
 
--- the answer for a cause that a stored text has no verdict
-abbrev pub cause_of : StoredError → Answer
-cause_of of_stored.PasswordTooLong = PasswordTooLong
-cause_of (of_stored.Mcf of_mcf.DelimiterInvalid) = McfDelimiter
-cause_of (of_stored.Mcf of_mcf.IdentifierInvalid) = McfIdentifier
-cause_of (of_stored.Mcf of_mcf.FieldInvalid) = McfField
-cause_of (of_stored.Mcf of_mcf.EncodingInvalid) = McfEncoding
-cause_of (of_stored.Sha (of_sha.InvalidFormat fault)) = ShaFormat
-cause_of (of_stored.Sha of_sha.RoundsError) = ShaRounds
-cause_of of_stored.Unsupported = Unsupported
+-- a match or a mismatch
+abbrev pub has_verdict : Answer → Bool
+has_verdict (Checked (Ok b)) = true
+has_verdict (Checked (Err e)) = false
+has_verdict TooLong = false
+has_verdict BadLine = false
 
--- the answer for a verdict
-abbrev pub answer_of : Result Bool StoredError → Answer
-answer_of (Ok true) = Match
-answer_of (Ok false) = Mismatch
-answer_of (Err cause) = cause_of cause
+-- ---- the answer of a line
 
 abbrev pub is_tab : ℕ → Bool
 is_tab b = b == 9
 
--- The answer of a line, by the first that holds: more than 8,192 bytes; no UTF-8, or no tab; else what stands
--- before the last tab, the password, has a verdict with the stored text behind it, or the first cause that it has none.
-unfoldable pub answer : List ℕ → Answer
-answer line =
-    if nat_lt 8192 (length line) then TooLong
-    else if is_utf8 line && list_any is_tab line then answer_of (verdict (before_last is_tab line) (after_last is_tab line))
-    else BadLine
+-- the records that scrypt takes, and its keys
+abbrev pub accepted : PasswordHash → List ℕ → ℕ → Bool
+accepted parsed salt n = scrypt_accepts parsed n
 
--- The rules of `check`: a line's output is its word and a line feed, and no answer wants memory.
-abbrev pub check_rules : LineRules
-check_rules = record {
-  line_output = λ line. answer_text (answer line);
+abbrev pub key : List ℕ → PasswordHash → List ℕ → ℕ → List ℕ
+key password parsed salt n = scrypt_key password parsed salt n
+
+-- what stands before the last tab, the password, has a verdict with the stored text behind it, or the first cause
+-- that it has none
+abbrev pub text_answer : List ℕ → Answer
+text_answer text =
+    if list_any is_tab text then Checked (verdict accepted key (before_last is_tab text) (after_last is_tab text)) else BadLine
+
+-- The answer of a line, by the first that holds: more than 8,192 bytes; no UTF-8; no tab; else by its verdict.
+unfoldable pub answer : List ℕ → Answer
+answer line = if nat_lt 8192 (length line) then TooLong else if is_utf8 line then text_answer line else BadLine
+
+-- the line is valid, its identifier is neither `5` nor `6`, and the derivation may need memory for its record
+abbrev pub text_may_lack : List ℕ → Bool
+text_may_lack text =
+    list_any is_tab text && may_lack_memory accepted (λ parsed. true) key (before_last is_tab text) (after_last is_tab text)
+
+unfoldable pub line_may_lack : List ℕ → Bool
+line_may_lack line = if nat_lt 8192 (length line) then false else if is_utf8 line then text_may_lack line else false
+
+-- an answer is that of the line; or want of memory, where that may be
+abbrev pub IsTextAnswer : List ℕ → Answer → Type 0
+IsTextAnswer text a = (a ≡ text_answer text) ⊎ ((a ≡ Checked (Err of_stored.OutOfMemory)) × (text_may_lack text ≡ true))
+
+abbrev pub IsAnswer : List ℕ → Answer → Type 0
+IsAnswer line a = (a ≡ answer line) ⊎ ((a ≡ Checked (Err of_stored.OutOfMemory)) × (line_may_lack line ≡ true))
+
+-- ---- counts
+
+-- the look-ups of a line that has a verdict
+abbrev pub line_looks : List ℕ → ℕ
+line_looks line = verdict_looks (after_last is_tab line)
+
+-- the comparisons of a line that has a verdict
+abbrev pub line_comparisons : List ℕ → ℕ
+line_comparisons line = verdict_comparisons (after_last is_tab line)
+
+abbrev pub counts_text : ℕ → ℕ → List ℕ
+counts_text looks sames = codes " looks=" ++ decimal looks ++ codes " sames=" ++ decimal sames
+
+-- ---- what is written for a line
+
+-- the word, with `--count` the counts of a verdict, and a line feed
+abbrev pub answer_text : Form → Answer → ℕ → ℕ → List ℕ
+answer_text Plain a looks sames = answer_word a ++ 10 ∷ []
+answer_text Counted a looks sames = answer_word a ++ (if has_verdict a then counts_text looks sames else []) ++ 10 ∷ []
+
+-- The rules of `check`, with and without `--count`.
+abbrev pub line_rules : Form → LineRules
+line_rules form = record {
+  line_output = λ line. answer_text form (answer line) (line_looks line) (line_comparisons line);
   is_good = λ line. is_match (answer line);
-  may_lack_memory = λ line. false;
+  may_lack_memory = line_may_lack;
 }

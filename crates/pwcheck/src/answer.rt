@@ -1,11 +1,14 @@
 //! The answer of a line.
 
-ghost use Rattle.std.specs.Prelude.{◌≡◌, MatchOption, false, true};
+ghost use Rattle.std.specs.Prelude.{◌≡◌, ◌≢◌, ◌+◌, ◌^◌, ◌≤◌, Err, MatchOption, false, length, true};
 ghost use Rattle.std.specs.List.{after_last, before_last, list_any};
-ghost use Rattle.stored_check.specs.Verdict.{verdict};
-ghost use Rattle.pwcheck.specs.Answer.{answer, answer_of, answer_text, cause_of, is_match, is_tab};
+ghost use Rattle.pwcheck.specs.Answer.{IsAnswer, IsTextAnswer, answer_word, has_verdict, is_match, is_tab, line_comparisons, line_looks};
 
-use stored_check::{McfFault, ShaFault, StoredError, check_sha};
+use crate::word::word;
+use base64ct::Counts;
+use scrypt_plain::ScryptPlain;
+use std::alloc::Global;
+use stored_check::{StoredError, check_stored_counted};
 
 /// The most bytes of a line.
 const LINE_MAX: usize = 8_192;
@@ -13,85 +16,40 @@ const LINE_MAX: usize = 8_192;
 /// What a line is answered with.
 #[derive(Clone, Copy, Debug, PartialEq, Eq)]
 pub enum Answer {
-    /// The stored text is that of the password.
-    Match,
-    /// The stored text is that of another password.
-    Mismatch,
     /// The line has more than 8,192 bytes.
     TooLong,
     /// The line isn't UTF-8, or it has no tab.
     BadLine,
-    /// The password has more than 4,096 bytes.
-    PasswordTooLong,
-    /// The stored text doesn't begin with `$`, or it ends with it.
-    McfDelimiter,
-    /// The identifier of the stored text is no identifier.
-    McfIdentifier,
-    /// A field of the stored text is empty.
-    McfField,
-    /// A field of the stored text has a character that none may have.
-    McfEncoding,
-    /// The identifier is neither `5` nor `6`.
-    Unsupported,
-    /// The fields are not those of a SHA-crypt text.
-    ShaFormat,
-    /// The rounds are out of range.
-    ShaRounds,
+    /// What `check_stored` answers for the password and the stored text of the line.
+    Checked(Result<bool, StoredError>),
 }
 
 impl Answer {
-    /// The word and a line feed.
-    pub fn text(self) -> &'static str
-        ensures word { result.now ≡ answer_text self }
+    /// The word.
+    pub fn word(&self) -> &'static str
+        requires known { self.now ≢ Answer.Checked (Err StoredError.OutOfMemory) }
+        ensures word { result.now ≡ answer_word self.now }
+        ensures short { length result.now ≤ 17 }
     {
         match self {
-            Answer::Match => "match\n",
-            Answer::Mismatch => "mismatch\n",
-            Answer::TooLong => "toolong\n",
-            Answer::BadLine => "badline\n",
-            Answer::PasswordTooLong => "password-too-long\n",
-            Answer::McfDelimiter => "mcf-delimiter\n",
-            Answer::McfIdentifier => "mcf-identifier\n",
-            Answer::McfField => "mcf-field\n",
-            Answer::McfEncoding => "mcf-encoding\n",
-            Answer::Unsupported => "unsupported\n",
-            Answer::ShaFormat => "sha-format\n",
-            Answer::ShaRounds => "sha-rounds\n",
+            Answer::TooLong => "toolong",
+            Answer::BadLine => "badline",
+            Answer::Checked(answer) => word(answer),
         }
     }
 
     /// Whether this is a match.
-    pub fn is_match(self) -> bool
-        ensures matches { result ≡ is_match self }
+    pub fn is_match(&self) -> bool
+        ensures matches { result ≡ is_match self.now }
     {
-        matches!(self, Answer::Match)
+        matches!(self, Answer::Checked(Ok(true)))
     }
-}
 
-// The answer for a cause that a stored text has no verdict.
-fn cause_of(cause: StoredError) -> Answer
-    ensures answer { result ≡ cause_of cause }
-{
-    match cause {
-        StoredError::PasswordTooLong => Answer::PasswordTooLong,
-        StoredError::Mcf(McfFault::DelimiterInvalid) => Answer::McfDelimiter,
-        StoredError::Mcf(McfFault::IdentifierInvalid) => Answer::McfIdentifier,
-        StoredError::Mcf(McfFault::FieldInvalid) => Answer::McfField,
-        StoredError::Mcf(McfFault::EncodingInvalid) => Answer::McfEncoding,
-        StoredError::Sha(ShaFault::InvalidFormat(_)) => Answer::ShaFormat,
-        StoredError::Sha(ShaFault::RoundsError) => Answer::ShaRounds,
-        StoredError::Unsupported => Answer::Unsupported,
-    }
-}
-
-// The answer for a password and a stored text.
-fn verdict(password: &str, stored: &str) -> Answer
-    ensures verdict { result ≡ answer_of (verdict password.now stored.now) }
-{
-    match check_sha(password, stored) {
-        Ok(true) => Answer::Match,
-        Ok(false) => Answer::Mismatch,
-        Err(cause) => cause_of(cause),
+    /// Whether this is a match or a mismatch.
+    pub fn has_verdict(&self) -> bool
+        ensures verdict { result ≡ has_verdict self.now }
+    {
+        matches!(self, Answer::Checked(Ok(_)))
     }
 }
 
@@ -106,19 +64,36 @@ fn cut_at_last_tab(text: &str) -> Option<(&str, &str)>
     }
 }
 
-/// The answer of a line.
-#[tactic(auto, unfolding(crate::specs::Answer::answer))]
-pub fn answer_to(line: &[u8]) -> Answer
-    ensures answer { result ≡ answer line.now }
+// The answer of a line that is text.
+fn answer_to_text(alloc: Global, text: &str, counts: &mut Counts) -> Answer
+    requires looks { counts.old.looks ≤ 2 ^ 62 }
+    requires sames { counts.old.sames ≤ 2 ^ 62 }
+    ensures answer { IsTextAnswer text.now result }
+    ensures looks { has_verdict result ≡ true → counts.new.looks ≡ counts.old.looks + line_looks text.now }
+    ensures sames { has_verdict result ≡ true → counts.new.sames ≡ counts.old.sames + line_comparisons text.now }
+{
+    match cut_at_last_tab(text) {
+        Some((password, stored)) => {
+            Answer::Checked(check_stored_counted(alloc, &ScryptPlain, password, stored, counts))
+        }
+        None => Answer::BadLine,
+    }
+}
+
+/// The answer of a line, with its look-ups and comparisons counted.
+#[tactic(auto, unfolding(crate::specs::Answer::answer, crate::specs::Answer::line_may_lack))]
+pub fn answer_to(alloc: Global, line: &[u8], counts: &mut Counts) -> Answer
+    requires looks { counts.old.looks ≤ 2 ^ 62 }
+    requires sames { counts.old.sames ≤ 2 ^ 62 }
+    ensures answer { IsAnswer line.now result }
+    ensures looks { has_verdict result ≡ true → counts.new.looks ≡ counts.old.looks + line_looks line.now }
+    ensures sames { has_verdict result ≡ true → counts.new.sames ≡ counts.old.sames + line_comparisons line.now }
 {
     if line.len() > LINE_MAX {
         return Answer::TooLong;
     }
-    let Ok(text) = str::from_utf8(line) else {
-        return Answer::BadLine;
-    };
-    match cut_at_last_tab(text) {
-        Some((password, stored)) => verdict(password, stored),
-        None => Answer::BadLine,
+    match str::from_utf8(line) {
+        Ok(text) => answer_to_text(alloc, text, counts),
+        Err(_) => Answer::BadLine,
     }
 }

@@ -1,4 +1,5 @@
-//! `pwcheck check`: answers each line of a password file with one word.
+//! `pwcheck check`: answers each line of a password file with one word; `pwcheck check --count` adds how
+//! often the alphabet was looked up and bytes were compared.
 //!
 //! A line is a password, a tab and a stored text. The lines come from standard input, and each word goes
 //! to standard output with a line feed. The status says how the run ended.
@@ -6,12 +7,16 @@
 
 mod answer;
 mod check;
+mod form;
+mod line_answer;
 mod next;
 mod program;
 mod status;
 mod stop;
 #[cfg(test)]
 mod tests;
+mod text;
+mod word;
 mod words;
 mod write;
 
@@ -23,6 +28,7 @@ use status::{NO_MEMORY, NO_WORDS};
 use std::process::ExitCode;
 use std::rt::Env;
 use std::{env, io};
+pub use word::word;
 pub use words::Words;
 
 // The words of the command line without the program's name, or the status.

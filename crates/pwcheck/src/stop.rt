@@ -9,4 +9,6 @@ pub enum Stop {
     Failed,
     /// The source holds more bytes than may be read.
     Budget,
+    /// Memory is wanting for the key of the next line.
+    NoMemory,
 }

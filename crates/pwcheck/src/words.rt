@@ -1,6 +1,7 @@
 //! The words of the command line.
 
-ghost use Rattle.std.specs.Prelude.{◌≡◌, ◌≤◌, ◌++◌, ◌↔◌, [], ◌∷◌, IsTrue, MatchOption, OnErr, OnOk, Some, codes, length, slice_get};
+ghost use Rattle.std.specs.Prelude.{◌≡◌, ◌≤◌, ◌++◌, ◌↔◌, [], ◌∷◌, IsTrue, MatchOption, OnErr, OnOk, Some, length, slice_get};
+ghost use Rattle.pwcheck.specs.Words.{check, check_count};
 
 use std::alloc::{AllocError, Global};
 use std::marker::Model;
@@ -60,10 +61,20 @@ impl Words {
 
     /// Whether the words are the single word `check`.
     pub(crate) fn is_check(&self) -> bool
-        ensures check { IsTrue result ↔ (self.now ≡ codes "check" ∷ []) }
+        ensures check { IsTrue result ↔ (self.now ≡ check) }
     {
         match self.list.as_slice() {
             [word] => word.as_str() == "check",
+            _ => false,
+        }
+    }
+
+    /// Whether the words are `check` and `--count`.
+    pub(crate) fn is_check_count(&self) -> bool
+        ensures check_count { IsTrue result ↔ (self.now ≡ check_count) }
+    {
+        match self.list.as_slice() {
+            [first, second] => first.as_str() == "check" && second.as_str() == "--count",
             _ => false,
         }
     }

@@ -5,3 +5,6 @@ pub mod Scrypt
 pub mod Bounds
 pub mod Laws
 pub mod Layout
+pub mod Profile
+pub mod Lengths
+pub mod KeyLength

@@ -1,11 +1,12 @@
-//! scrypt (RFC 7914): a key from a password and a salt, at a cost in memory. HMAC-SHA-256 under it is
-//! public too.
+//! scrypt (RFC 7914): a key from a password and a salt, at a cost in memory; and [`ScryptPlain`], which
+//! derives the keys of PHC records by it. HMAC-SHA-256 under it is public too.
 #![tactic(auto)]
 
 ghost use Rattle.std.specs.Prelude.{◌≡◌, ◌↔◌, ◌+◌, ◌*◌, ◌^◌, ◌<◌, ◌≤◌, length, IsTrue, OnOk};
 ghost use Rattle.scrypt_plain.specs.Bounds.{InBounds};
 ghost use Rattle.scrypt_plain.specs.Scrypt.{scrypt};
 
+pub use profile::ScryptPlain;
 use std::alloc::{AllocError, Global};
 
 mod block_mix;
@@ -13,6 +14,7 @@ pub mod bytes;
 pub mod hmac;
 pub mod laws;
 mod pbkdf2;
+mod profile;
 mod ro_mix;
 mod salsa;
 

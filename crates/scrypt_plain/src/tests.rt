@@ -1,8 +1,10 @@
 //! Vectors of RFC 7914, section 12, and of RFC 4231.
 
 use crate::hmac::{HmacSha256, block_key, hmac};
-use crate::{bytes, in_bounds, laws, scrypt, scrypt_in, work_len};
+use crate::{ScryptPlain, bytes, in_bounds, laws, scrypt, scrypt_in, work_len};
+use phc::PasswordHash;
 use std::test::Fail;
+use stored_check::PhcKdf;
 
 // A password, a salt, ln, r, p and the key of 64 bytes: RFC 7914, section 12.
 const KEYS: [(&[u8], &[u8], u32, u32, u32, [u8; 64]); 2] = [
@@ -137,4 +139,48 @@ fn laws_stand(_rt: HostRuntime) {
     laws::block_key_length();
     laws::key_length();
     laws::shorter_key();
+}
+
+// A record, the bytes of a hash, and whether it is taken.
+const RECORDS: [(&str, usize, bool); 12] = [
+    ("$scrypt$ln=16,r=8,p=1", 32, true),
+    ("$scrypt$p=1,ln=17,r=8", 10, true),
+    ("$scrypt$ln=4,r=1,p=1", 64, true),
+    ("$scrypt$ln=4,r=1,p=1", 9, false),
+    ("$scrypt$ln=4,r=1,p=1", 65, false),
+    ("$scrypt$v=1$ln=4,r=1,p=1", 32, false),
+    ("$scrypt$ln=4,r=1", 32, false),
+    ("$scrypt$ln=4,r=1,p=1,ln=4", 32, false),
+    ("$scrypt$ln=4,r=1,n=1", 32, false),
+    ("$scrypt$ln=04,r=1,p=1", 32, false),
+    ("$scrypt$ln=25,r=8,p=1", 32, false),
+    ("$Scrypt", 32, false),
+];
+
+#[test]
+fn records_taken(rt: HostRuntime) {
+    for (text, length, taken) in RECORDS {
+        match PasswordHash::new(text) {
+            Ok(record) => {
+                assert_eq!(rt;
+                    ScryptPlain.accepts(&record, b"salt", length),
+                    taken,
+                    "{text:?}"
+                );
+            }
+            Err(_) => assert!(rt; !taken, "{text:?}"),
+        }
+    }
+}
+
+#[test]
+fn key_of_a_record(rt: HostRuntime) -> Result<(), Fail> {
+    let Ok(record) = PasswordHash::new("$scrypt$ln=10,p=16,r=8") else {
+        panic!(rt; "a record")
+    };
+    let mut key = [0u8; 64];
+    assert!(rt; ScryptPlain.accepts(&record, b"NaCl", 64));
+    ScryptPlain.derive(rt.alloc(), b"password", &record, b"NaCl", &mut key)?;
+    assert_eq!(rt; key.as_slice(), KEYS[1].5.as_slice());
+    Ok(())
 }

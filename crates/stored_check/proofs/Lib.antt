@@ -1,2 +1,4 @@
-pub mod Walk
+pub mod Causes
+mod Counted
 mod Vectors
+mod Walk

@@ -9,8 +9,14 @@ pub enum StoredError {
     Mcf(McfFault),
     /// The stored text is no SHA-crypt text, though its identifier is `5` or `6`.
     Sha(ShaFault),
-    /// The identifier is another one.
-    Unsupported,
+    /// The stored text is no PHC text, and its identifier is neither `5` nor `6`.
+    Phc(PhcFault),
+    /// The record has no salt, or a salt and no hash.
+    NoHash,
+    /// The key derivation doesn't take the record.
+    Kdf,
+    /// Memory is wanting for the key.
+    OutOfMemory,
 }
 
 /// A fault of the modular crypt format.
@@ -50,4 +56,27 @@ pub enum ShaFormat {
     Trailing,
     /// The last field is the hash field of no digest.
     Base64,
+}
+
+/// A fault of a PHC text.
+#[derive(Clone, Copy, Debug, PartialEq, Eq)]
+pub enum PhcFault {
+    /// The identifier, or the name of a parameter, is no name.
+    ParamNameInvalid,
+    /// The version, or the value of a parameter, has more than 64 characters.
+    ParamValueTooLong,
+    /// The version is no decimal, or the value of a parameter is missing or no value.
+    ParamValueInvalid,
+    /// The parameters have more than 127 characters.
+    ParamsMaxExceeded,
+    /// The salt has fewer than 11 characters.
+    SaltTooShort,
+    /// The salt has more than 64 characters.
+    SaltTooLong,
+    /// The salt or the hash is the encoding of no bytes, or the hash has more than 86 characters.
+    Base64(base64ct::Error),
+    /// The hash has fewer than 10 bytes.
+    OutputSize,
+    /// A field follows the hash.
+    TrailingData,
 }

@@ -1,13 +1,17 @@
 //! One verdict on a password and a stored text, whatever the scheme of the text.
 //!
-//! So far the schemes are SHA-256-crypt and SHA-512-crypt. Nothing here takes memory.
+//! The schemes are SHA-256-crypt and SHA-512-crypt, and the PHC records that a [`PhcKdf`] takes. Nothing here
+//! takes memory but the derivation of a key.
 #![tactic(auto)]
 
 mod check;
 mod error;
+mod kdf;
+pub mod laws;
 mod names;
 #[cfg(test)]
 mod tests;
 
-pub use check::check_sha;
-pub use error::{McfFault, ShaFault, ShaFormat, StoredError};
+pub use check::{check_stored, check_stored_counted};
+pub use error::{McfFault, PhcFault, ShaFault, ShaFormat, StoredError};
+pub use kdf::PhcKdf;

@@ -1,9 +1,9 @@
 //! The faults of the crates below, named here.
 
 ghost use Rattle.std.specs.Prelude.{◌≡◌};
-ghost use Rattle.stored_check.specs.Verdict.{mcf_name, sha_format_name, sha_verdict};
+ghost use Rattle.stored_check.specs.Verdict.{mcf_name, phc_name, sha_format_name, sha_verdict};
 
-use crate::{McfFault, ShaFault, ShaFormat, StoredError};
+use crate::{McfFault, PhcFault, ShaFault, ShaFormat, StoredError};
 use sha_crypt::{CheckError, FormatFault};
 
 /// The name of a fault of the grammar, which gives four alone.
@@ -42,5 +42,22 @@ pub(crate) fn sha_verdict(answer: Result<(), CheckError>) -> Result<bool, Stored
             Err(StoredError::Sha(ShaFault::InvalidFormat(sha_format_name(fault))))
         }
         Err(CheckError::Crypt(_)) => Err(StoredError::Sha(ShaFault::RoundsError)),
+    }
+}
+
+/// The name of a fault of a PHC text, which has no fault of duplicate names and begins with `$`.
+pub(crate) fn phc_name(e: phc::Error) -> PhcFault
+    ensures { result ≡ phc_name e }
+{
+    match e {
+        phc::Error::ParamNameInvalid => PhcFault::ParamNameInvalid,
+        phc::Error::ParamValueTooLong => PhcFault::ParamValueTooLong,
+        phc::Error::ParamValueInvalid => PhcFault::ParamValueInvalid,
+        phc::Error::ParamsMaxExceeded => PhcFault::ParamsMaxExceeded,
+        phc::Error::SaltTooShort => PhcFault::SaltTooShort,
+        phc::Error::SaltTooLong => PhcFault::SaltTooLong,
+        phc::Error::Base64(e) => PhcFault::Base64(e),
+        phc::Error::OutputSize { .. } => PhcFault::OutputSize,
+        _ => PhcFault::TrailingData,
     }
 }

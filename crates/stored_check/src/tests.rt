@@ -1,9 +1,75 @@
 //! Causes in their order, and verdicts.
 
-use crate::{McfFault, ShaFault, ShaFormat, StoredError, check_sha};
+ghost use Rattle.std.specs.Prelude.{false, replicate, true};
+ghost use Rattle.std.proofs.lemmas.List.{length-replicate};
+
+use crate::{
+    McfFault, PhcFault, PhcKdf, ShaFault, ShaFormat, StoredError, check_stored,
+    check_stored_counted, laws,
+};
+use base64ct::Counts;
+use phc::PasswordHash;
+use std::alloc::{AllocError, Global};
+
+// A derivation of zeros, for every record and without memory.
+struct Zeros;
+
+impl PhcKdf for Zeros {
+    ghost accepted = { λ _ _ _ _. true };
+
+    ghost needs_memory = { λ _ _. false };
+
+    ghost tag = { λ _ _ _ _ n. replicate n 0 };
+
+    ghost tag_length = { λ _ _ _ _ n. length-replicate n 0 };
+
+    fn accepts(&self, _parsed: &PasswordHash, _salt: &[u8], _length: usize) -> bool {
+        true
+    }
+
+    fn derive(
+        &self,
+        _alloc: Global,
+        _password: &[u8],
+        _parsed: &PasswordHash,
+        _salt: &[u8],
+        out: &mut [u8],
+    ) -> Result<(), AllocError> {
+        out.fill(0);
+        Ok(())
+    }
+}
+
+// A derivation that never finds memory.
+struct Poor;
+
+impl PhcKdf for Poor {
+    ghost accepted = { λ _ _ _ _. true };
+
+    ghost needs_memory = { λ _ _. true };
+
+    ghost tag = { λ _ _ _ _ n. replicate n 0 };
+
+    ghost tag_length = { λ _ _ _ _ n. length-replicate n 0 };
+
+    fn accepts(&self, _parsed: &PasswordHash, _salt: &[u8], _length: usize) -> bool {
+        true
+    }
+
+    fn derive(
+        &self,
+        _alloc: Global,
+        _password: &[u8],
+        _parsed: &PasswordHash,
+        _salt: &[u8],
+        _out: &mut [u8],
+    ) -> Result<(), AllocError> {
+        Err(AllocError)
+    }
+}
 
 // A stored text, and the verdict on it with the password `Hello world!`.
-const VERDICTS: [(&str, Result<bool, StoredError>); 20] = [
+const VERDICTS: [(&str, Result<bool, StoredError>); 25] = [
     ("", Err(StoredError::Mcf(McfFault::DelimiterInvalid))),
     ("$", Err(StoredError::Mcf(McfFault::DelimiterInvalid))),
     ("$5$", Err(StoredError::Mcf(McfFault::DelimiterInvalid))),
@@ -15,7 +81,18 @@ const VERDICTS: [(&str, Result<bool, StoredError>); 20] = [
     ("$-a$x", Err(StoredError::Mcf(McfFault::IdentifierInvalid))),
     ("$6$$x", Err(StoredError::Mcf(McfFault::FieldInvalid))),
     ("$6$a b$x", Err(StoredError::Mcf(McfFault::EncodingInvalid))),
-    ("$2b$12$abc", Err(StoredError::Unsupported)),
+    (
+        "$2a$12$R9h/cIPz0gi.URNNX3kh2OPST9/PgBkqquzi.Ss7KIUgO2t0jWMUW",
+        Err(StoredError::Phc(PhcFault::SaltTooShort)),
+    ),
+    ("$x", Err(StoredError::NoHash)),
+    ("$x$abcdabcdabc", Err(StoredError::NoHash)),
+    (
+        "$x$abcdabcdabc$AAAA",
+        Err(StoredError::Phc(PhcFault::OutputSize)),
+    ),
+    ("$x$abcdabcdabc$AAAAAAAAAAAAAA", Ok(true)),
+    ("$x$abcdabcdabc$AAAAAAAAAAAAAQ", Ok(false)),
     (
         "$5",
         Err(StoredError::Sha(ShaFault::InvalidFormat(ShaFormat::NoFields))),
@@ -65,7 +142,10 @@ const VERDICTS: [(&str, Result<bool, StoredError>); 20] = [
 #[test]
 fn verdicts(rt: HostRuntime) {
     for (stored, verdict) in VERDICTS {
-        assert!(rt; check_sha("Hello world!", stored) == verdict, "{stored:?}");
+        assert!(rt;
+            check_stored(rt.alloc(), &Zeros, "Hello world!", stored) == verdict,
+            "{stored:?}"
+        );
     }
 }
 
@@ -75,9 +155,51 @@ fn long_passwords(rt: HostRuntime) {
     let Ok(long) = str::from_utf8(&letters) else {
         panic!(rt; "letters are text")
     };
-    assert!(rt; check_sha(long, "$") == Err(StoredError::PasswordTooLong));
+    assert!(rt; check_stored(rt.alloc(), &Zeros, long, "$") == Err(StoredError::PasswordTooLong));
     let Ok(longest) = str::from_utf8(&letters[..4_096]) else {
         panic!(rt; "letters are text")
     };
-    assert!(rt; check_sha(longest, "$") == Err(StoredError::Mcf(McfFault::DelimiterInvalid)));
+    assert!(rt;
+        check_stored(rt.alloc(), &Zeros, longest, "$")
+            == Err(StoredError::Mcf(McfFault::DelimiterInvalid))
+    );
+}
+
+// A stored text, and the look-ups and comparisons of its verdict.
+const COUNTS: [(&str, u64, u64); 3] = [
+    (
+        "$5$saltstring$5B8vYYiY.CVt1RlTTf8KbXBH3hsxY/GNooZaBBGWEc5",
+        44,
+        36,
+    ),
+    (
+        "$6$saltstring$svn8UoSVapNtMuq1ukKS4tPQd8iKwSMHWjl/O817G3uBnIFNjnQJuesI68u4OTLiBFdcbYEdFCoEOfaS35inz1",
+        88,
+        68,
+    ),
+    ("$x$abcdabcdabc$AAAAAAAAAAAAAA", 28, 18),
+];
+
+#[test]
+fn counts_of_verdicts(rt: HostRuntime) {
+    for (stored, looks, sames) in COUNTS {
+        let mut counts = Counts::new();
+        let answer = check_stored_counted(rt.alloc(), &Zeros, "Hello world!", stored, &mut counts);
+        assert!(rt; answer == Ok(true), "{stored:?}");
+        assert_eq!(rt;
+            (counts.looks(), counts.sames()),
+            (looks, sames),
+            "{stored:?}"
+        );
+    }
+}
+
+#[test]
+fn want_of_memory(rt: HostRuntime) {
+    let text = "$x$abcdabcdabc$AAAAAAAAAAAAAA";
+    assert!(rt; check_stored(rt.alloc(), &Poor, "a", text) == Err(StoredError::OutOfMemory));
+    assert!(rt; check_stored(rt.alloc(), &Poor, "a", "$x") == Err(StoredError::NoHash));
+    let text = "$5$saltstring$5B8vYYiY.CVt1RlTTf8KbXBH3hsxY/GNooZaBBGWEc5";
+    assert!(rt; check_stored(rt.alloc(), &Poor, "Hello world!", text) == Ok(true));
+    laws::no_want_of_memory();
 }

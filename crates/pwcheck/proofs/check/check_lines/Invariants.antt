@@ -1,12 +1,12 @@
 use Rattle.std.proofs.Common.{◌≤◌, ◌+◌, ◌-◌, length}
 use Rattle.line_io.specs.Buffer.{pending, taken}
-use Rattle.pwcheck.specs.Answer.{check_rules}
+use Rattle.pwcheck.specs.Answer.{line_rules}
 use Rattle.pwcheck.proofs.Answered.{Answered}
 use Rattle.pwcheck.proofs.check.check_lines.Given as goal
 
 abbrev pub invariant-lines : goal.invariant-lines
 invariant-lines g l = record {
-  so_far : Answered check_rules (g.S.Source.left l.initial.source) (g.S.Source.left l.source) (g.K.Sink.written l.initial.sink) (g.K.Sink.written l.sink) l.buffer l.max l.all_match;
+  so_far : Answered (line_rules l.form) (g.S.Source.left l.initial.source) (g.S.Source.left l.source) (g.K.Sink.written l.initial.sink) (g.K.Sink.written l.sink) l.buffer l.max l.all_match;
   reads : g.S.Source.faults l.initial.source ≤ g.S.Source.faults l.source;
   writes : g.K.Sink.faults l.initial.sink ≤ g.K.Sink.faults l.sink;
 }

@@ -1,4 +1,4 @@
-use Rattle.scrypt_plain.proofs.Lengths.{length-hmac}
+use Rattle.scrypt_plain.specs.Lengths.{length-hmac}
 use Rattle.scrypt_plain.proofs.laws.code_length.Goals as goal
 
 pub returns : goal.returns

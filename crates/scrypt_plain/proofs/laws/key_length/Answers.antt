@@ -1,7 +1,7 @@
 use Rattle.std.proofs.Common.{◌*◌}
 use Rattle.scrypt_plain.specs.Pbkdf2.{pbkdf2_once}
 use Rattle.scrypt_plain.specs.Scrypt.{mixed_parts}
-use Rattle.scrypt_plain.proofs.Lengths.{length-pbkdf2_once}
+use Rattle.scrypt_plain.specs.Lengths.{length-pbkdf2_once}
 use Rattle.scrypt_plain.proofs.laws.key_length.Goals as goal
 
 pub returns : goal.returns

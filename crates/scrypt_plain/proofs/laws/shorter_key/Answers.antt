@@ -1,7 +1,7 @@
 use Rattle.std.proofs.Common.{◌*◌}
 use Rattle.scrypt_plain.specs.Pbkdf2.{pbkdf2_once}
 use Rattle.scrypt_plain.specs.Scrypt.{mixed_parts}
-use Rattle.scrypt_plain.proofs.Lengths.{take-pbkdf2_once}
+use Rattle.scrypt_plain.specs.Lengths.{take-pbkdf2_once}
 use Rattle.scrypt_plain.proofs.laws.shorter_key.Goals as goal
 
 pub returns : goal.returns

@@ -1,0 +1,47 @@
+-- The PHC records for which scrypt derives a key (a profile of this crate's own), and that key.
+use Rattle.std.specs.Prelude.{ℕ, ◌*◌, ◌^◌, Bool, false, ◌&&◌, List, nat_eq, nat_lt, nat_le, ◌==◌, length, replicate, Option, Some, None, is_none, codes}
+use Rattle.std.specs.Option.{option_and_then}
+use Rattle.std.specs.Cmp.Lexicographic.{pointwise}
+use Rattle.phc.specs.Grammar.{decimal_value}
+use Rattle.phc.specs.Params.{get}
+use Rattle.phc.specs.declared.password_hash.PasswordHash.{PasswordHash}
+use Rattle.scrypt_plain.specs.Scrypt.{scrypt}
+use Rattle.scrypt_plain.specs.declared.profile.Cost.{Cost}
+
+-- the test for parameters in bounds
+abbrev pub within_bounds : ℕ → ℕ → ℕ → Bool
+within_bounds ln r p =
+    nat_le 1 ln && nat_le ln 24 && nat_lt ln (16 * r) && nat_le 1 r && nat_le 1 p && nat_le p 1024
+    && nat_le (r * p) 131072 && nat_le (128 * r * 2 ^ ln) (2 ^ 28)
+
+-- the decimal with this name
+abbrev pub number : PasswordHash → List ℕ → Option ℕ
+number parsed name = option_and_then decimal_value (get parsed.params name)
+
+abbrev pub cost_of_numbers : Option ℕ → Option ℕ → Option ℕ → Option Cost
+cost_of_numbers (Some ln) (Some r) (Some p) = Some (record { ln = ln; r = r; p = p })
+cost_of_numbers ln r p = None
+
+-- the cost that a record names, where `ln`, `r` and `p` are decimals
+abbrev pub cost_of : PasswordHash → Option Cost
+cost_of parsed = cost_of_numbers (number parsed (codes "ln")) (number parsed (codes "r")) (number parsed (codes "p"))
+
+abbrev pub is_cost_in_bounds : Option Cost → Bool
+is_cost_in_bounds None = false
+is_cost_in_bounds (Some cost) = within_bounds cost.ln cost.r cost.p
+
+-- The identifier is `scrypt`, there is no version, the parameters are three with the names `ln`, `r` and `p`, thus each
+-- once and in any order, each a decimal and together in bounds, and the key has 10 to 64 bytes.
+unfoldable pub scrypt_accepts : PasswordHash → ℕ → Bool
+scrypt_accepts parsed n =
+    pointwise nat_eq parsed.algorithm (codes "scrypt") && is_none parsed.version && length parsed.params == 3
+    && is_cost_in_bounds (cost_of parsed) && nat_le 10 n && nat_le n 64
+
+-- the key of n bytes at a cost; without a cost, which no accepted record has, n zeros
+abbrev pub key_at : Option Cost → List ℕ → List ℕ → ℕ → List ℕ
+key_at None password salt n = replicate n 0
+key_at (Some cost) password salt n = scrypt password salt (2 ^ cost.ln) cost.r cost.p n
+
+-- the key of n bytes for a record
+unfoldable pub scrypt_key : List ℕ → PasswordHash → List ℕ → ℕ → List ℕ
+scrypt_key password parsed salt n = key_at (cost_of parsed) password salt n
