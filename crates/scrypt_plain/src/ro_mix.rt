@@ -66,6 +66,29 @@ fn row_index(x: &[u32], r: usize, ln: u32) -> usize
     salsa::low_word(&x[32 * r - 16..]) as usize % (1 << ln)
 }
 
+// A turn of step 3, from `x` to `y`.
+fn one_step(table: &[u32], x: &[u32], y: &mut [u32], r: usize, ln: u32)
+    requires some_blocks { 1 ≤ r }
+    requires ln { ln ≤ 32 }
+    requires table { length table.now ≡ 32 * r * 2 ^ ln }
+    requires x { length x.now ≡ 32 * r }
+    requires y { length y.old ≡ 32 * r }
+    ensures { row_bytes (2 * r) y.new
+        ≡ ro_mix_step r (2 ^ ln) (λ k. row_bytes (2 * r) (piece (32 * r) table.now k)) (row_bytes (2 * r) x.now) }
+{
+    let row = 32 * r;
+    let j = row_index(x, r, ln);
+    let with = &table[row * j..row * j + row];
+    // A word of each block is read first, so that the whole row is on its way from memory at once: the mixing
+    // alone would wait for one block after the other. `y` takes the words, which keeps the reads in the program.
+    let mut seen = with[row - 16] | with[row - 1];
+    'blocks: for i in 0..2 * r {
+        seen |= with[16 * i];
+    }
+    y[0] = seen;
+    block_mix_xor(x, with, y, r);
+}
+
 // Two turns of step 3: `x` to `y`, and `y` to `x`.
 fn two_steps(table: &[u32], x: &mut [u32], y: &mut [u32], r: usize, ln: u32)
     requires some_blocks { 1 ≤ r }
@@ -77,11 +100,8 @@ fn two_steps(table: &[u32], x: &mut [u32], y: &mut [u32], r: usize, ln: u32)
         ≡ ro_mix_step r (2 ^ ln) (λ k. row_bytes (2 * r) (piece (32 * r) table.now k))
         (ro_mix_step r (2 ^ ln) (λ k. row_bytes (2 * r) (piece (32 * r) table.now k)) (row_bytes (2 * r) x.old)) }
 {
-    let row = 32 * r;
-    let j = row_index(x, r, ln);
-    block_mix_xor(x, &table[row * j..row * j + row], y, r);
-    let j = row_index(y, r, ln);
-    block_mix_xor(y, &table[row * j..row * j + row], x, r);
+    one_step(table, x, y, r, ln);
+    one_step(table, y, x, r, ln);
 }
 
 /// scryptROMix of `part`, with a table of 2^ln rows and two rows more. What they hold makes no difference.
