@@ -10,7 +10,7 @@ It needs gcc, Debian's libcrypt-dev and libssl-dev, and the program, which
     (cd crates/pwcheck && rt run -- check </dev/null)
 proves and builds as crates/pwcheck/out/pwcheck. It installs nothing.
 
-usage: bench/sha_crypt.py [RUNS]      (15 if left out)
+usage: bench/sha_crypt.py [RUNS]      (30 if left out)
 """
 import os
 import subprocess
@@ -20,7 +20,7 @@ import time
 
 HERE = os.path.dirname(os.path.abspath(__file__))
 PROGRAM = os.path.join(HERE, "..", "crates", "pwcheck", "out", "pwcheck")
-COUNT = 40
+COUNT = 20
 LENGTHS = [1, 8, 12, 16, 32, 64]
 DIGEST_LEN = {5: 32, 6: 64}
 
@@ -77,7 +77,7 @@ def timed(binary, family, length, runs, empty):
 
 
 def main():
-    runs = int(sys.argv[1]) if len(sys.argv) > 1 else 15
+    runs = int(sys.argv[1]) if len(sys.argv) > 1 else 30
     need(os.path.exists(PROGRAM), "build the program first: (cd crates/pwcheck && rt run -- check </dev/null)")
     empty = min(run_empty() for _ in range(runs))
     print(f"microseconds for a digest of 5,000 rounds, salt of 16 bytes, least of {runs} interleaved runs of {COUNT}")

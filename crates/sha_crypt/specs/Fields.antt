@@ -1,6 +1,6 @@
 -- The fields of a stored text behind its identifier, `[rounds=N$]salt$hash` (Drepper's text, 'Specification'; crypt(5)):
 -- the first fault, or rounds, a salt and the text of a hash.
-use Rattle.std.specs.Prelude.{◌≡◌, ℕ, ◌+◌, ◌*◌, ◌-◌, ◌^◌, Bool, true, false, ◌&&◌, ◌||◌, List, [], ◌∷◌, ◌==◌, nat_lt, nat_le, length, Option, Some, None, Result, Ok, Err, if◌then◌else◌, codes}
+use Rattle.std.specs.Prelude.{ℕ, ◌+◌, ◌*◌, ◌-◌, ◌^◌, Bool, ◌&&◌, ◌||◌, List, [], ◌∷◌, ◌==◌, nat_lt, nat_le, length, Option, Some, None, Result, Ok, Err, if◌then◌else◌, codes}
 use Rattle.std.specs.Str.{all_ascii_digits}
 use Rattle.pieces.specs.Pieces.{behind, is_nil}
 use Rattle.sha_crypt.specs.declared.errors.CheckError.{CheckError}

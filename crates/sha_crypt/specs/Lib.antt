@@ -1,4 +1,5 @@
 pub mod Digest
+pub mod Fronts
 pub mod HashField
 pub mod Fields
 pub mod Check

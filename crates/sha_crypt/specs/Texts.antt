@@ -1,6 +1,5 @@
 -- What the faults print: the texts of the crate sha-crypt 0.5.0.
 use Rattle.std.specs.Prelude.{ℕ, List, codes}
-use Rattle.sha_crypt.specs.declared.errors.Family.{Family}
 use Rattle.sha_crypt.specs.declared.errors.Family.TheVariants.{Sha256, Sha512}
 use Rattle.sha_crypt.specs.declared.errors.FormatFault.{FormatFault}
 use Rattle.sha_crypt.specs.declared.errors.FormatFault.TheVariants.{NoDollar, WrongId, NoFields, NoSalt, RoundsNotNumber, NoHash, Trailing, Base64}

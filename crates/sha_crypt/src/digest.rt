@@ -1,9 +1,10 @@
 //! The digest, under any hash function.
 
 ghost use Rattle.std.specs.Prelude.{◌≡◌, ℕ, ◌+◌, ◌*◌, ◌^◌, ◌<◌, ◌≤◌, List, [], ◌++◌, length, take};
-ghost use Rattle.sha_crypt.specs.Digest.{by_digits, copies, repeated_to, round_message, sha_crypt_digest, start_digest};
+ghost use Rattle.sha_crypt.specs.Digest.{by_digits, copies, repeated_to, sha_crypt_digest, start_digest};
 
 use crate::hasher::Hasher;
+use crate::turns::after_rounds;
 
 const SALT_LEN: usize = 16;
 
@@ -16,8 +17,12 @@ fn feed_copies<const N: usize, H: Hasher<N>>(hasher: &mut H, piece: &[u8], count
     }
 }
 
-// Feeds `digest` repeated and cut to `len` bytes.
-fn feed_repeated<const N: usize, H: Hasher<N>>(hasher: &mut H, digest: &[u8; N], len: usize)
+/// Feeds `digest` repeated and cut to `len` bytes.
+pub(crate) fn feed_repeated<const N: usize, H: Hasher<N>>(
+    hasher: &mut H,
+    digest: &[u8; N],
+    len: usize,
+)
     requires { 0 < N }
     ensures { (m : List ℕ) → H.holds hasher.old m → H.holds hasher.new (m ++ repeated_to len digest.now) }
 {
@@ -44,37 +49,6 @@ fn feed_by_digits<const N: usize, H: Hasher<N>>(
         }
         left /= 2;
     }
-}
-
-// One round.
-fn round<const N: usize, H: Hasher<N>>(
-    i: usize,
-    c: &[u8; N],
-    dp: &[u8; N],
-    password_len: usize,
-    ds: &[u8],
-) -> [u8; N]
-    requires { 0 < N }
-    ensures { result ≡ H.hash (round_message i c.now (repeated_to password_len dp.now) ds.now) }
-{
-    let mut hasher = H::start();
-    if i % 2 == 1 {
-        feed_repeated(&mut hasher, dp, password_len);
-    } else {
-        hasher.feed(c);
-    }
-    if i % 3 != 0 {
-        hasher.feed(ds);
-    }
-    if i % 7 != 0 {
-        feed_repeated(&mut hasher, dp, password_len);
-    }
-    if i % 2 == 1 {
-        hasher.feed(c);
-    } else {
-        feed_repeated(&mut hasher, dp, password_len);
-    }
-    hasher.finish()
 }
 
 // The part of a salt that counts.
@@ -131,9 +105,5 @@ pub(crate) fn sha_crypt_digest<const N: usize, H: Hasher<N>>(
     let dp = digest_of_copies::<N, H>(password, password.len());
     let ds = digest_of_copies::<N, H>(salt, 16 + a[0] as usize);
     let s = &ds[..salt.len()];
-    let mut c = a;
-    'rounds: for i in 0..rounds {
-        c = round::<N, H>(i, &c, &dp, password.len(), s);
-    }
-    c
+    after_rounds::<N, H>(&a, &dp, password.len(), s, rounds)
 }

@@ -23,6 +23,7 @@ pub mod laws;
 mod params;
 #[cfg(test)]
 mod tests;
+mod turns;
 
 use base64ct::Counts;
 pub use defs::{

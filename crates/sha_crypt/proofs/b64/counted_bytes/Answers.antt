@@ -1,6 +1,5 @@
 use Rattle.std.proofs.Common.{rules, arith, ◌≡◌, ◌≢◌, ◌≤◌, ◌∙◌, sym, ℕ, length, Some, refl}
-use Rattle.std.specs.Prelude.{replicate, ◌==◌}
-use Rattle.std.proofs.lemmas.Bool.Decides.{nat_tests}
+use Rattle.std.specs.Prelude.{replicate}
 use Rattle.std.proofs.lemmas.List.{length-replicate}
 use Rattle.base64ct.specs.Encoding.{byte_count, decoded_len}
 use Rattle.base64ct.specs.Decoding.{decoding}

@@ -1,4 +1,4 @@
-use Rattle.std.proofs.Common.{◌≡◌, ℕ, List, arith, ◌∙◌, ap, length, slice_index}
+use Rattle.std.proofs.Common.{◌≡◌, ℕ, arith, ◌∙◌, ap, length, slice_index}
 use Rattle.std.specs.Prelude.{replicate}
 use Rattle.std.proofs.lemmas.List.{length-map, length-replicate}
 use Rattle.sha_crypt.proofs.HashFields.{encoded}
