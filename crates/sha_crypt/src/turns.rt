@@ -164,8 +164,8 @@ fn turn<const N: usize, H: Hasher<N>>(
 
 /// The digest after `rounds` rounds that begin with `a`, turn by turn.
 ///
-/// The two loops and the function of its own have LLVM lay the hasher's calls out in place, which takes a
-/// twentieth off the time.
+/// With two loops, in a function that isn't laid out in its caller, LLVM lays the hasher's calls out in place. With
+/// one, the rounds take some hundredths longer.
 #[inline(never)]
 pub(crate) fn after_rounds<const N: usize, H: Hasher<N>>(
     a: &[u8; N],
