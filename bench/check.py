@@ -69,15 +69,14 @@ def large(folder, peak, runs, sink):
 
 def digests(folder, peak, runs, sink):
     peers = compiled(folder, "sha_crypt_peers", "-DFAMILY=5", "-lcrypt", "-lcrypto")
-    made = subprocess.run([peers, "libxcrypt", "1", "12"], capture_output=True, text=True, check=True).stdout.split()[1]
+    made = subprocess.run([peers, "libxcrypt", "1", "12"], capture_output=True, text=True, check=True).stdout.strip()
     path = os.path.join(folder, "digests")
     with open(path, "w") as out:
-        out.write(f"{'a' * 12}\t{made[:-64]}\n" * SHA_LINES)
+        out.write(f"{'a' * 12}\t{made}\n" * SHA_LINES)
     best = [1e18, 1e18]
     for _ in range(runs):
         best[0] = min(best[0], run(peak, [PROGRAM, "check"], path, sink)[0])
-        took = subprocess.run([peers, "libxcrypt", str(SHA_LINES), "12"], capture_output=True, text=True, check=True)
-        best[1] = min(best[1], float(took.stdout.split()[0]) * 1e-6)
+        best[1] = min(best[1], run(peak, [peers, "libxcrypt", str(SHA_LINES), "12"], os.devnull, sink)[0])
     print(f"{SHA_LINES} SHA-256-crypt lines of 5,000 rounds: pwcheck {best[0]:.3f} s, libxcrypt {best[1]:.3f} s, "
           f"ratio {best[0] / best[1]:.2f}")
 
