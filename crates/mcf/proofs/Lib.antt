@@ -1,3 +1,4 @@
 pub mod Built
 pub mod ValidTexts
 mod Vectors
+mod FieldBytes
