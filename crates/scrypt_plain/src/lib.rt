@@ -18,6 +18,10 @@ mod profile;
 mod ro_mix;
 mod salsa;
 
+// What each word of a new table is, which makes no difference. As its bytes differ, LLVM writes it by plain stores,
+// which is faster on new pages than zeroing them again.
+const FIRST_WORD: u32 = 1;
+
 // The rows of the table.
 fn row_count(ln: u32) -> u64
     requires { ln ≤ 24 }
@@ -104,7 +108,7 @@ pub fn scrypt(
     requires key_length_most { length out.old ≤ 64 }
     ensures key { OnOk result (out.new ≡ scrypt password.now salt.now (2 ^ ln) r p (length out.old)) }
 {
-    let mut work = Vec::from_elem(alloc, 0u32, work_len(ln, r, p))?;
+    let mut work = Vec::from_elem(alloc, FIRST_WORD, work_len(ln, r, p))?;
     scrypt_in(password, salt, ln, r, p, work.as_mut_slice(), out);
     Ok(())
 }
