@@ -5,3 +5,4 @@ pub mod Buffer
 pub mod Steps
 pub mod System
 pub mod Runs
+pub mod Output

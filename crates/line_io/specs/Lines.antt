@@ -1,6 +1,7 @@
 -- The lines of a text, and the part of it that is whole lines.
--- A line ends with a line feed (10), which is no part of it; what stands behind the last one is a line where it is nonempty
--- (POSIX.1-2017, Base Definitions 3.206 and 3.195). A carriage return is an ordinary byte.
+-- A line ends with a line feed (10), which is no part of it; what stands behind the last one is a line too where it is
+-- nonempty. POSIX.1-2017 (Base Definitions) counts the line feed to the line (3.206) and calls what stands behind the
+-- last one an incomplete line (3.195): the text is cut at the same places. A carriage return is an ordinary byte.
 use Rattle.std.specs.Prelude.{◌≡◌, ℕ, Bool, false, List, [], ◌∷◌, length, ◌==◌, if◌then◌else◌}
 use Rattle.std.specs.List.{slice_split, list_any}
 

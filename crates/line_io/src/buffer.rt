@@ -1,11 +1,12 @@
 // The lines of a source, one at a time, in a buffer of fixed size.
-ghost use Rattle.std.specs.Prelude.{◌≡◌, ◌≢◌, ◌≤◌, ◌<◌, ◌+◌, ◌-◌, ◌^◌, ◌⊎◌, ℕ, [], ◌∷◌, true, false, List, length, take, drop, slice_index, MatchOption, MatchResult, OnOk, OnErr, IsTrue, nat_lt, ◌||◌, if◌then◌else◌};
+ghost use Rattle.std.specs.Prelude.{◌≡◌, ◌≢◌, ◌≤◌, ◌<◌, ◌+◌, ◌-◌, ◌^◌, ◌⊎◌, ℕ, [], ◌∷◌, true, false, List, length, take, drop, slice_index, MatchOption, MatchResult, OnOk, OnErr, IfNone, OnSome, IfSome, Option, IsTrue, nat_lt, ◌||◌, if◌then◌else◌};
 ghost use Rattle.std.specs.Io.KnownBytes.{Keeps};
 ghost use Rattle.std.specs.List.{list_any};
 ghost use Rattle.line_io.specs.Devices.{HasRisen};
 ghost use Rattle.line_io.specs.Lines.{is_feed, NoFeed};
 
 use crate::{Failed, Source};
+use pieces::places::first_place;
 
 /// The bytes that the buffer holds.
 const CAPACITY: usize = 16_384;
@@ -55,6 +56,15 @@ pub struct LineBuffer {
     ghost past: { taken ≤ max + (end - start) },
     ghost within_max: { ended ≡ true → taken ≤ max },
     ghost one_past: { taken ≤ max + 1 },
+}
+
+// The place of the first line feed.
+#[inline(always)]
+fn first_feed(bytes: &[u8]) -> Option<usize>
+    ensures found { MatchOption result (NoFeed bytes.now) (λ at. (at < length bytes.now)
+        × NoFeed (take at bytes.now) × (slice_index bytes.now at ≡ 10)) }
+{
+    first_place(bytes, b'\n')
 }
 
 impl LineBuffer {
@@ -180,14 +190,13 @@ impl LineBuffer {
         let pending = self.pending();
         let past = self.taken.saturating_sub(self.max) as usize;
         let end = pending.len() - past;
-        let mut at = seen;
-        while at < end {
-            if pending[at] == b'\n' {
-                return Some(at);
-            }
-            at += 1;
+        if end <= seen {
+            return None;
         }
-        None
+        match first_feed(&pending[seen..end]) {
+            Some(at) => Some(seen + at),
+            None => None,
+        }
     }
 
     /// Reads after what is pending.
@@ -303,6 +312,26 @@ impl LineBuffer {
                 Ok(()) => {}
                 Err(Failed) => return Line::Failed,
             }
+        }
+    }
+
+    /// The next line where its line feed is pending, so without a read; else none, and nothing changes.
+    ///
+    /// Where it gives none, `next_line` is to be called, which may read.
+    pub fn next_pending(&mut self) -> Option<Line>
+        requires { is_closed self.old ≡ false }
+        // Exactly where no line feed is pending among the bytes that count there is none.
+        ensures none { IfNone result ((self.new ≡ self.old) × NoFeed (among_first self.old (pending self.old))) }
+        ensures some { OnSome result (list_any is_feed (pending self.old) ≡ true) }
+        // For whatever the source has left: the call is one of those of `next_line`.
+        ensures call { IfSome result (λ answer. (left : Option (List ℕ)) → IsCall answer left left self.old self.new) }
+        ensures goes_on { IfSome result (λ answer. is_last answer ≡ false) }
+        // Either way the next call may follow.
+        ensures open { is_closed self.new ≡ false }
+    {
+        match self.feed_from(0) {
+            Some(at) => Some(self.answer_line(at, 1, false)),
+            None => None,
         }
     }
 

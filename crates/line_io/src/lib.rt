@@ -1,5 +1,5 @@
-//! The outside of a program: sources and sinks of bytes that count their faults, and the lines of a
-//! source in fixed memory.
+//! The outside of a program: sources and sinks of bytes that count their faults, the lines of a source in
+//! fixed memory, and bytes gathered for a sink.
 //!
 //! No call takes memory. A program generic over [`Source`] and [`Sink`] is run on standard input and
 //! output by [`StdSource`] and [`StdSink`], and tested by [`MemorySource`] and [`MemorySink`], which
@@ -10,11 +10,15 @@ mod buffer;
 mod device;
 pub mod laws;
 mod memory;
+mod output;
 mod system;
 #[cfg(test)]
 mod tests;
+mod write;
 
 pub use buffer::{Line, LineBuffer};
 pub use device::{Failed, Sink, Source};
 pub use memory::{MemorySink, MemorySource};
+pub use output::OutputBuffer;
 pub use system::{StdSink, StdSource};
+pub use write::write_all;

@@ -23,6 +23,9 @@ pub struct StdSource<R: Read + Drop> {
 impl<R: Read + Drop> StdSource<R> {
     ghost use Rattle.line_io.specs.System.{reader_of, read_faults};
 
+    /// A source of all that the reader gives from now on, with no fault counted.
+    ///
+    /// It asks for as many bytes as a call has room for and keeps none, so a reader that gathers bytes gains nothing.
     pub fn new(reader: R) -> StdSource<R>
         ensures reader { reader_of result ≡ reader }
         ensures faults { read_faults result ≡ 0 }
@@ -90,6 +93,9 @@ pub struct StdSink<W: Write + Drop> {
 impl<W: Write + Drop> StdSink<W> {
     ghost use Rattle.line_io.specs.System.{writer_of, write_faults};
 
+    /// A sink that hands each write on to the writer, with no fault counted.
+    ///
+    /// It gathers nothing; [`OutputBuffer`](crate::OutputBuffer) does that before it.
     pub fn new(writer: W) -> StdSink<W>
         ensures writer { writer_of result ≡ writer }
         ensures faults { write_faults result ≡ 0 }

@@ -1,6 +1,9 @@
 ghost use Rattle.std.specs.Prelude.{◌≤◌, ◌<◌, ◌^◌};
 
-use crate::{Failed, Line, LineBuffer, MemorySink, MemorySource, Sink, Source, StdSink, StdSource};
+use crate::{
+    Failed, Line, LineBuffer, MemorySink, MemorySource, OutputBuffer, Sink, Source, StdSink,
+    StdSource, write_all,
+};
 use std::alloc::Global;
 use std::io::{self, ErrorKind, Read, Write};
 use std::process::Abort;
@@ -271,4 +274,78 @@ fn system_bytes(rt: HostRuntime) -> Result<(), Fail> {
     assert_eq!(rt; sink.write(b""), Ok(0));
     assert_eq!(rt; written.as_slice(), b"one".as_slice());
     Ok(())
+}
+
+#[test]
+fn lines_that_are_pending(rt: HostRuntime) {
+    let mut source = MemorySource::new(b"ab\ncd\nef", 8, &[]);
+    let mut buffer = LineBuffer::new(100);
+    assert_eq!(rt; buffer.next_pending(), None);
+    assert_eq!(rt; buffer.next_line(&mut source), Line::Whole(2));
+    assert_eq!(rt; buffer.next_pending(), Some(Line::Whole(2)));
+    assert_eq!(rt; buffer.line(), b"cd".as_slice());
+    assert_eq!(rt; buffer.next_pending(), None);
+    assert_eq!(rt; buffer.next_line(&mut source), Line::Whole(2));
+    assert_eq!(rt; buffer.line(), b"ef".as_slice());
+    assert_eq!(rt; buffer.next_line(&mut source), Line::End);
+}
+
+#[test]
+fn pending_lines_within_a_budget(rt: HostRuntime) {
+    let mut source = MemorySource::new(b"ab\ncd\n", 8, &[]);
+    let mut buffer = LineBuffer::new(5);
+    assert_eq!(rt; buffer.next_line(&mut source), Line::Whole(2));
+    assert_eq!(rt; buffer.next_pending(), None);
+    assert_eq!(rt; buffer.next_line(&mut source), Line::Budget);
+}
+
+#[test]
+fn pieces_are_written_whole(rt: HostRuntime) {
+    let mut room = [0; 16];
+    let mut sink = MemorySink::new(&mut room, 3, &[4]);
+    assert_eq!(rt; write_all(&mut sink, b"abcdefg"), Ok(()));
+    assert_eq!(rt; write_all(&mut sink, b""), Ok(()));
+    assert_eq!(rt; write_all(&mut sink, b"hijklmn"), Err(Failed));
+    assert_eq!(rt; sink.bytes(), b"abcdefghij".as_slice());
+}
+
+#[test]
+fn gathered_until_a_flush(rt: HostRuntime) {
+    let mut room = [0; 64];
+    let mut sink = MemorySink::new(&mut room, 64, &[]);
+    let mut out = OutputBuffer::new();
+    out.put(&mut sink, b"match\n");
+    out.put(&mut sink, b"mismatch\n");
+    assert_eq!(rt; sink.bytes(), b"".as_slice());
+    out.flush(&mut sink);
+    assert_eq!(rt; sink.bytes(), b"match\nmismatch\n".as_slice());
+    assert!(rt; !out.has_failed());
+}
+
+#[test]
+fn nothing_after_a_failed_write(rt: HostRuntime) {
+    let mut room = [0; 64];
+    let mut sink = MemorySink::new(&mut room, 4, &[1]);
+    let mut out = OutputBuffer::new();
+    out.put(&mut sink, b"match\n");
+    out.flush(&mut sink);
+    assert!(rt; out.has_failed());
+    out.put(&mut sink, b"match\n");
+    out.flush(&mut sink);
+    assert_eq!(rt; sink.bytes(), b"matc".as_slice());
+}
+
+#[test]
+fn pieces_longer_than_the_buffer(rt: HostRuntime) {
+    let piece = [b'a'; 16_385];
+    let mut room = [0; 32_800];
+    let mut sink = MemorySink::new(&mut room, 10_000, &[]);
+    let mut out = OutputBuffer::new();
+    out.put(&mut sink, b"b");
+    out.put(&mut sink, &piece[..16_384]);
+    assert_eq!(rt; sink.bytes(), b"b".as_slice());
+    out.put(&mut sink, &piece);
+    assert_eq!(rt; sink.bytes().len(), 32_770);
+    out.flush(&mut sink);
+    assert_eq!(rt; sink.bytes().len(), 32_770);
 }

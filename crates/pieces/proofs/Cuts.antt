@@ -1,9 +1,13 @@
 -- How the pieces of a text begin, and that they join to it.
-use Rattle.std.proofs.Common.{◌≡◌, ℕ, suc, Bool, true, false, List, [], ◌∷◌, ◌++◌, ap, ◌∙◌, sym, refl, arith}
+use Rattle.std.proofs.Common.{◌+◌, ◌<◌, length, take, drop, slice_index, add-one}
+use Rattle.std.proofs.Common.{◌≡◌, ℕ, zero, suc, Bool, true, false, List, [], ◌∷◌, ◌++◌, ap, ◌∙◌, sym, refl, arith}
+use Rattle.std.proofs.Math.Seq.{split_at}
 use Rattle.std.specs.Prelude.{◌==◌}
 use Rattle.std.specs.List.{join_with_byte}
 use Rattle.std.proofs.lemmas.Bool.Decides.{nat_tests}
 use Rattle.pieces.specs.Pieces.{LacksByte, EachLacks, pieces_at, before_pieces}
+use Rattle.pieces.specs.Places.{LacksBelow}
+use Rattle.pieces.proofs.PlaceLaws.{lacks_front}
 
 other_byte : (c b : ℕ) (s : List ℕ) → LacksByte c (b ∷ s) → (b == c) ≡ false
 other_byte c b s lacks = let head = lacks 0 (omega arith) in grind (arith, nat_tests, head)
@@ -94,3 +98,33 @@ pub cut_joined : (c : ℕ) (first : List ℕ) (others : List (List ℕ)) → Lac
 cut_joined c first [] lacks each = one_piece c first lacks
 cut_joined c first (piece ∷ pieces) lacks each =
     first_cut c first (join_with_byte c (piece ∷ pieces)) lacks ∙ ap (λ (ps : List (List ℕ)). first ∷ ps) (cut_joined c piece pieces each.0 each.1)
+
+-- a text cut at the first place of c
+pub cut_at : (c : ℕ) (text : List ℕ) (at : ℕ) → at < length text → LacksBelow c text at → slice_index text at ≡ c →
+    pieces_at c text ≡ take at text ∷ pieces_at c (drop (at + 1) text)
+cut_at c text at low lacks is =
+    let parts : text ≡ take at text ++ c ∷ drop (at + 1) text =
+    split_at text at 0 low ∙ ap (λ x. take at text ++ x ∷ drop (suc at) text) is
+    ∙ ap (λ n. take at text ++ c ∷ drop n text) (sym (add-one at)) in
+    ap (pieces_at c) parts
+    ∙ first_cut c (take at text) (drop (at + 1) text) (lacks_front c text at (omega arith) lacks)
+
+-- ---- no piece has the byte at which it was cut
+
+lacks_none : (c : ℕ) → LacksByte c []
+lacks_none c i below = absurd (omega (arith, below))
+
+lacks_more : (c b : ℕ) (s : List ℕ) → (b == c) ≡ false → LacksByte c s → LacksByte c (b ∷ s)
+lacks_more c b s other lacks zero below = λ same. grind (arith, nat_tests, other, same)
+lacks_more c b s other lacks (suc i) below = lacks i (omega (arith, below))
+
+before_lacks : (test : Bool) (c b : ℕ) (pieces : List (List ℕ)) → (b == c) ≡ test → EachLacks c pieces
+    → EachLacks c (before_pieces test b pieces)
+before_lacks true c b pieces is each = (lacks_none c, each)
+before_lacks false c b [] is each = (lacks_more c b [] is (lacks_none c), tt)
+before_lacks false c b (piece ∷ pieces) is each = (lacks_more c b piece is each.0, each.1)
+
+pub pieces_lack : (c : ℕ) (s : List ℕ) → EachLacks c (pieces_at c s)
+unfolding pieces_at
+pieces_lack c [] = (lacks_none c, tt)
+pieces_lack c (b ∷ s) = before_lacks (b == c) c b (pieces_at c s) refl (pieces_lack c s)

@@ -1,3 +1,6 @@
 pub mod Cuts
 pub mod Fronts
 mod Vectors
+mod MarkLaws
+mod PlaceLaws
+mod ZeroedCells

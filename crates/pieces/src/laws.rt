@@ -19,3 +19,8 @@ pub fn cut_joined()
 pub fn cut_append()
     ensures pieces { (c : ℕ) (front back : List ℕ) → pieces_at c (front ++ c ∷ back) ≡ pieces_at c front ++ pieces_at c back }
 {}
+
+/// No piece has the byte at which the text was cut.
+pub fn pieces_lack()
+    ensures pieces { (c : ℕ) (text : List ℕ) → EachLacks c (pieces_at c text) }
+{}

@@ -1,4 +1,4 @@
-//! Texts cut at every place of one character.
+//! Texts cut at every place of one character, and a few bytes in fixed memory.
 //!
 //! A walk over the pieces of a text keeps what is left as an `Option<&str>`: `None` says that no piece
 //! is left, and `Some("")` that one empty piece is. Nothing here copies a text or takes memory.
@@ -9,8 +9,12 @@ ghost use Rattle.std.specs.List.{starts_with, ends_with};
 ghost use Rattle.pieces.specs.Pieces.{pieces_at, pieces_left, first, lent, is_nil, behind};
 
 pub mod laws;
+pub mod places;
+pub mod short_bytes;
 #[cfg(test)]
 mod tests;
+
+use places::first_place;
 
 /// The first piece of a text, and the text behind the first `cut`, where there is one.
 ///
@@ -19,8 +23,8 @@ pub fn first_piece<'a>(text: &'a str, cut: char) -> (&'a str, Option<&'a str>)
     requires ascii { cut < 128 }
     ensures pieces { pieces_at cut text.now ≡ result.0.now ∷ pieces_left cut result.1 }
 {
-    match text.split_once(cut) {
-        Some((piece, rest)) => (piece, Some(rest)),
+    match first_place(text.as_bytes(), cut as u8) {
+        Some(at) => (&text[..at], Some(&text[at + 1..])),
         None => (text, None),
     }
 }

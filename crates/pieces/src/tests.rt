@@ -1,5 +1,7 @@
 //! Texts and their pieces.
 
+use crate::places::first_place;
+use crate::short_bytes::ShortBytes;
 use crate::{begins_with, behind, ends_in, first_piece, is_end, next_piece};
 use std::test::Fail;
 
@@ -38,4 +40,53 @@ fn each_call_once(rt: HostRuntime) -> Result<(), Fail> {
     assert_eq!(rt; behind("rounds=5000", "rounds=").ok_or("a number")?, "5000");
     assert_eq!(rt; behind("salt", "rounds="), None);
     Ok(())
+}
+
+// Numbers and their decimals.
+const DECIMALS: [(u64, &str); 4] = [
+    (0, "0"),
+    (10, "10"),
+    (5_000, "5000"),
+    (u64::MAX, "18446744073709551615"),
+];
+
+fn digits_of(number: u64) -> ShortBytes<20> {
+    let mut text = ShortBytes::new();
+    text.push_decimal(number);
+    text
+}
+
+#[test]
+fn short_bytes(rt: HostRuntime) {
+    for (number, digits) in DECIMALS {
+        let text = digits_of(number);
+        assert_eq!(rt; text.as_slice(), digits.as_bytes());
+        assert_eq!(rt; text.len(), digits.len());
+        assert!(rt; text == ShortBytes::from_slice(digits.as_bytes()));
+    }
+    let mut word: ShortBytes<8> = ShortBytes::from_slice(b"ln=");
+    word.push_all(b"14");
+    assert_eq!(rt; word.as_slice(), b"ln=14".as_slice());
+    assert!(rt; word != ShortBytes::from_slice(b"ln=1"));
+}
+
+// Bytes and the first place of `$`: short ones, those of one step, and those whose last step overlaps.
+const PLACES: [(&str, Option<usize>); 10] = [
+    ("", None),
+    ("$", Some(0)),
+    ("abcdefghijklmno", None),
+    ("abcdefghijklmn$", Some(14)),
+    ("abcdefghijklmnop", None),
+    ("$bcdefghijklmno$", Some(0)),
+    ("abcdefghijklmno$", Some(15)),
+    ("abcdefghijklmnop$", Some(16)),
+    ("abcdefghijklmnopqrst$vwxyzabcdefghi$k", Some(20)),
+    ("abcdefghijklmnopqrstuvwxyzabcdefghijk", None),
+];
+
+#[test]
+fn places_in_short_and_long_texts(rt: HostRuntime) {
+    for (text, place) in PLACES {
+        assert_eq!(rt; first_place(text.as_bytes(), b'$'), place);
+    }
 }

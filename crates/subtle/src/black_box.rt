@@ -33,6 +33,12 @@ impl<T: Copy> BlackBox<T> {
 }
 
 impl<T: Copy> Clone for BlackBox<T> {
+    ghost use Rattle.std.specs.Prelude.{⊤};
+
+    ghost is_clone = { λ a b. b ≡ a };
+
+    ghost is_infallible = { λ _. ⊤ };
+
     fn clone(&self) -> Result<Self, AllocError> {
         Ok(*self)
     }
