@@ -1,6 +1,8 @@
 -- What decoding by a table and a test rests on.
-use Rattle.std.proofs.Common.{◌≡◌, ◌≢◌, ℕ, ◌+◌, ◌-◌, ◌*◌, ◌/◌, ◌%◌, ◌≤◌, Bool, true, false, ◌&&◌, List, [], ◌∷◌, ◌++◌, length, take, drop, replicate, slice_index, None, bit_or, refl, sym, ap, ◌∙◌, subst, arith}
+use Rattle.std.proofs.Common.{◌≡◌, ◌≢◌, ℕ, ◌+◌, ◌-◌, ◌*◌, ◌/◌, ◌%◌, ◌≤◌, Bool, true, false, ◌&&◌, List, [], ◌∷◌, ◌++◌, length, take, drop, replicate, slice_index, None, bit_or, inl, inr, refl, sym, ap, ◌∙◌, subst, arith}
+use Rattle.std.specs.Prelude.{◌==◌, nat_eq, not, if◌then◌else◌}
 use Rattle.std.specs.Cmp.Lexicographic.{pointwise}
+use Rattle.std.proofs.lemmas.Bool.{cases_eq, ne_eqb}
 use Rattle.std.proofs.lemmas.List.{append-nil, length-map, length-take-le, length-drop, get_or-drop}
 use borrow.Rule.Slice.PartMut.{put_mid}
 use Rattle.base64ct.specs.Encoding.{Alphabet, is_alphabet, character, value_of, unpadded_encoding, whole_bytes, byte_count, EachBelow, AreCharacters, Reads}
@@ -133,3 +135,17 @@ last_answer r a last bytes block whole again z below some few odd lb ez eb ew la
     let left : block ≡ filled a last = eb ∙ rw ez refl in
     let right : again ≡ filled a (unpadded_encoding a bytes) = ea ∙ rw ew (unpadded-filled a bytes below (omega arith) (omega arith)) in
     four_pairs r block again lk la ∙ rw (left, right) refl
+
+-- ---- both kinds of fault as one number
+
+and_false : (b : Bool) → (b && false) ≡ false
+and_false true = refl
+and_false false = refl
+
+pub both_at_once : (fault differs : ℕ) (passed : Bool) → differs ≡ (if not passed then 1 else 0) → nat_eq (bit_or fault differs) 0 ≡ ((fault == 0) && passed)
+both_at_once fault differs true is = elim (cases_eq fault 0) [
+  | inl none ↦ rw (none, is) refl
+  | inr some ↦ ne_eqb (bit_or fault differs) 0 (λ e. some (or_zero_l fault differs e)) ∙ sym (rw (ne_eqb fault 0 some) refl)
+]
+both_at_once fault differs false is =
+    ne_eqb (bit_or fault differs) 0 (λ e. absurd (omega (arith, is, or_zero_r fault differs e))) ∙ sym (and_false (fault == 0))

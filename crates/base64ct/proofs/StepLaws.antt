@@ -5,7 +5,7 @@ use Rattle.base64ct.specs.Encoding.{Alphabet, character, value_of}
 use Rattle.base64ct.specs.Steps.{Steps, all_below, decoded_by, encoded_by, word_of, steps_agree}
 
 -- a test that passed below n passes at each k below n
-at_below : (n : ℕ) (test : ℕ → Bool) → all_below n test ≡ true → (k : ℕ) → k < n → test k ≡ true
+pub at_below : (n : ℕ) (test : ℕ → Bool) → all_below n test ≡ true → (k : ℕ) → k < n → test k ≡ true
 at_below zero test h k lt = absurd (omega (arith, lt))
 at_below (suc n) test h k lt =
     let parts = and_parts (test n) (all_below n test) h in

@@ -10,6 +10,10 @@ is_refused a t room = (a.padded && not (length t % 4 == 0)) || nat_lt room (deco
 abbrev pub look_count : Alphabet → List ℕ → ℕ → ℕ
 look_count a t room = cond (is_refused a t room) 0 (4 * ((length t - padding_len a t) / 4) + 4)
 
+-- how often decoding an unpadded field looks, where it isn't refused before it is read
+abbrev pub field_looks : List ℕ → ℕ
+field_looks field = 4 * (length field / 4) + 4
+
 -- how often decoding compares
 abbrev pub comparison_count : Alphabet → List ℕ → ℕ → ℕ
 comparison_count a t room = cond (is_refused a t room || (length t == 0)) 0 4

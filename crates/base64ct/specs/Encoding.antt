@@ -1,5 +1,5 @@
 -- Bytes encoded by characters of six bits each (RFC 4648, sections 3 to 5), and the texts that are read back.
-use Rattle.std.specs.Prelude.{◌≡◌, ◌≢◌, ℕ, zero, suc, ◌+◌, ◌-◌, ◌*◌, ◌/◌, ◌%◌, ◌^◌, ◌<◌, ◌==◌, Bool, true, ◌&&◌, if◌then◌else◌, List, [], ◌∷◌, ◌++◌, length, map, reverse, take, drop, replicate, slice_index, EachIndex, Option, None, count_by, position, flat_map, nat_lt}
+use Rattle.std.specs.Prelude.{◌≡◌, ◌≢◌, ℕ, zero, suc, ◌+◌, ◌-◌, ◌*◌, ◌/◌, ◌%◌, ◌^◌, ◌<◌, ◌==◌, Bool, true, ◌&&◌, not, if◌then◌else◌, List, [], ◌∷◌, ◌++◌, length, map, reverse, take, drop, replicate, slice_index, EachIndex, Option, None, count_by, position, flat_map, nat_lt}
 use Rattle.std.specs.List.{list_all}
 
 -- the characters of the values 0 to 63; whether `=` fills the text up to fours; whether bits are taken lowest first
@@ -24,6 +24,10 @@ is_alphabet a = (length a.characters == 64) && all_different (equals_sign ∷ a.
 -- each character is ASCII
 abbrev pub are_ascii : Alphabet → Bool
 are_ascii a = list_all (λ c. nat_lt c 128) a.characters
+
+-- neither CR nor LF is a character
+abbrev pub holds_no_ending : Alphabet → Bool
+holds_no_ending a = list_all (λ c. not (c == 13) && not (c == 10)) a.characters
 
 -- the character of the value v
 abbrev pub character : Alphabet → ℕ → ℕ
@@ -94,7 +98,8 @@ unpadded_len n = (4 * n + 2) / 3
 unfoldable pub encoding : Alphabet → List ℕ → List ℕ
 encoding a bytes = text_of a (groups a.low_first bytes)
 
--- the number of `=` among the last two bytes of t, where the alphabet is padded
+-- the number of `=` among the last two bytes of t, where the alphabet is padded; they count wherever they stand
+-- ("AB=C" has one), so that want of room may be answered for a text that encodes nothing
 abbrev pub padding_len : Alphabet → List ℕ → ℕ
 padding_len a t = if a.padded then count_by (λ c. c == equals_sign) (drop (length t - 2) t) else 0
 

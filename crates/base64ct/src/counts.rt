@@ -46,7 +46,7 @@ pub fn decode_with<'d, T: CodeTable, C: SameByte>(
         T.looks table.new ≡ T.looks table.old + look_count a src.now (length dst.old) }
     ensures sames { let a = shaped (T.characters table.old) shape in
         C.count cmp.new ≡ C.count cmp.old + comparison_count a src.now (length dst.old) }
-    ensures spells { T.spells table.new ≤ T.spells table.old + 5 }
+    ensures spells { (T.spells table.old ≤ T.spells table.new) × (T.spells table.new ≤ T.spells table.old + 5) }
     ensures characters { T.characters table.new ≡ T.characters table.old }
 {
     let n = decode_with_into(table, cmp, shape, src, dst)?;

@@ -76,10 +76,16 @@ pub(crate) fn padding_of<A: Alphabet>(src: &[u8]) -> usize
     if A::padded() { count_padding(src) } else { 0 }
 }
 
+// How many bytes `count` characters stand for.
+pub(crate) fn bytes_of(count: usize) -> usize
+    ensures { result ≡ byte_count count }
+{
+    3 * (count / 4) + 3 * (count % 4) / 4
+}
+
 // How many bytes `src` stands for without its padding.
 pub(crate) fn count_bytes<A: Alphabet>(src: &[u8]) -> usize
     ensures { result ≡ decoded_len A.alphabet src.now }
 {
-    let count = src.len() - padding_of::<A>(src);
-    3 * (count / 4) + 3 * (count % 4) / 4
+    bytes_of(src.len() - padding_of::<A>(src))
 }

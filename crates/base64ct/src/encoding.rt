@@ -7,7 +7,7 @@ ghost use Rattle.base64ct.specs.Encoding.{encoding, decoded_len, longest_input, 
 ghost use Rattle.base64ct.specs.Decoding.{decoding};
 
 use crate::alphabet::Alphabet;
-use crate::decode::{count_bytes, decode_unpadded, padding_of};
+use crate::decode::{bytes_of, count_bytes, decode_unpadded, padding_of};
 use crate::encode::{encode_padded, encoding_lens};
 use crate::in_place::decode_within;
 use crate::lent::{fill_decoded, fill_encoded, finish_decoded, finish_encoded};
@@ -17,8 +17,8 @@ use std::alloc::{AllocError, Global};
 /// An alphabet in which bytes are encoded as text (RFC 4648, sections 3 to 5).
 ///
 /// The bits of the bytes are taken in groups of six, the last group filled up with zeros, and each group
-/// becomes one character. No work depends on which characters or bytes are met: only lengths, and whether
-/// a whole text is refused, show.
+/// becomes one character. No body here branches on a character or a byte, or reads a table at a place that
+/// one of them names; a text is looked at as a whole, at its end.
 pub trait Encoding: Copy + Alphabet {
     /// Decodes `src` into the front of `dst`, and gives that part.
     ///
@@ -75,7 +75,7 @@ pub trait Encoding: Copy + Alphabet {
         }
         let padding = padding_of::<Self>(src);
         let stem = &src[..src.len() - padding];
-        let len = 3 * (stem.len() / 4) + 3 * (stem.len() % 4) / 4;
+        let len = bytes_of(stem.len());
         if dst.len() < len {
             return Err(Error::InvalidLength);
         }

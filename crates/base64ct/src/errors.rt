@@ -6,7 +6,6 @@ ghost use Rattle.std.specs.declared.io.ErrorKind.TheVariants.{InvalidData};
 ghost use Rattle.base64ct.specs.Texts.{error_text, decode_vec_text};
 ghost use Rattle.base64ct.specs.declared.errors.Error.TheVariants.{InvalidEncoding, InvalidLength};
 ghost use Rattle.base64ct.specs.declared.errors.DecodeVecError.TheVariants.{OutOfMemory};
-ghost use Rattle.base64ct.specs.declared.errors.DecodeVecError.TheVariants.{InvalidEncoding as vec_InvalidEncoding};
 
 use std::alloc::AllocError;
 use std::{error, fmt, io};
@@ -104,14 +103,6 @@ impl From<AllocError> for DecodeVecError {
 
     fn from(_e: AllocError) -> DecodeVecError {
         DecodeVecError::OutOfMemory
-    }
-}
-
-impl From<Error> for DecodeVecError {
-    ghost from_gives = { λ _ r. r ≡ vec_InvalidEncoding };
-
-    fn from(_e: Error) -> DecodeVecError {
-        DecodeVecError::InvalidEncoding
     }
 }
 

@@ -6,7 +6,7 @@ ghost use Rattle.base64ct.specs.Encoding.{byte_count, EachBelow, AreCharacters, 
 use crate::InvalidEncodingError;
 use crate::alphabet::Alphabet;
 use crate::blocks::decode_block;
-use crate::decode::padding_of;
+use crate::decode::{bytes_of, padding_of};
 
 // The bytes of a last block of less than four characters, whatever bits are left over, and a number
 // that is 0 exactly where it does not have one character and all of it is characters.
@@ -58,7 +58,7 @@ pub(crate) fn decode_within<A: Alphabet>(buf: &mut [u8]) -> Result<usize, Invali
     }
     let count = buf.len() - padding_of::<A>(buf);
     if read_in_place::<A>(buf, count) {
-        Ok(3 * (count / 4) + 3 * (count % 4) / 4)
+        Ok(bytes_of(count))
     } else {
         Err(InvalidEncodingError)
     }

@@ -12,9 +12,9 @@ use crate::{Encoding, Error, InvalidLengthError};
 /// What a call has done to the buffer that was lent to it: how many bytes it wrote at its front, and
 /// 0, or what it refuses.
 pub(crate) struct Filled<'d> {
-    dst: &'d mut [u8],
-    len: usize,
-    fault: u8,
+    pub(crate) dst: &'d mut [u8],
+    pub(crate) len: usize,
+    pub(crate) fault: u8,
 }
 
 /// Decodes `src` into `dst`.

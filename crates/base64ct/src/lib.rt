@@ -1,20 +1,27 @@
 //! Base64 in eight alphabets, by arithmetic without tables of characters and without branches on them.
 //!
-//! [`Encoding`] encodes and decodes whole texts. [`decode_with`] and [`Counts`] count how often characters
+//! [`Encoding`] encodes and decodes whole texts. [`Encoder`] and [`Decoder`] take and give them in parts, in
+//! one line or wrapped at a width. [`decode_with`] and [`Counts`] count how often characters
 //! are looked up and compared, so that a caller can see that the numbers tell nothing but lengths.
 #![tactic(auto)]
 
 mod alphabet;
 mod blocks;
 mod counts;
+mod cursor;
 mod decode;
+mod decoder;
 mod encode;
+mod encoder;
 mod encoding;
 mod errors;
 mod in_place;
 pub mod laws;
 mod lent;
 mod line_ending;
+mod lines;
+#[cfg(test)]
+mod stream_tests;
 mod tables;
 #[cfg(test)]
 mod tests;
@@ -26,6 +33,8 @@ pub use alphabet::shacrypt::Base64ShaCrypt;
 pub use alphabet::standard::{Base64, Base64Unpadded};
 pub use alphabet::url::{Base64Url, Base64UrlUnpadded};
 pub use counts::{Counted, Counts, decode_with};
+pub use decoder::Decoder;
+pub use encoder::Encoder;
 pub use encoding::Encoding;
 pub use errors::{DecodeVecError, Error, InvalidEncodingError, InvalidLengthError};
 pub use line_ending::LineEnding;

@@ -1,6 +1,6 @@
 //! Decoding by a table of characters and a test of two bytes, which count how often they are asked.
 
-ghost use Rattle.std.specs.Prelude.{◌≡◌, ◌≢◌, ◌↔◌, ◌<◌, ◌≤◌, ◌+◌, ◌*◌, ◌/◌, ◌%◌, ◌^◌, ◌==◌, ◌++◌, ◌-◌, [], ◌∷◌, ℕ, Bool, List, Ok, Err, Some, None, true, length, take, drop, replicate, slice_index, position, MatchOption, MatchResult, IfOk, pos, negsuc, cond};
+ghost use Rattle.std.specs.Prelude.{◌≡◌, ◌≢◌, ◌↔◌, ◌<◌, ◌≤◌, ◌+◌, ◌*◌, ◌/◌, ◌%◌, ◌^◌, ◌==◌, ◌&&◌, ◌++◌, ◌-◌, [], ◌∷◌, ℕ, Bool, List, Ok, Err, Some, None, true, length, take, drop, replicate, slice_index, position, MatchOption, MatchResult, IfOk, pos, negsuc, cond};
 ghost use Rattle.std.specs.Cmp.Lexicographic.{pointwise};
 ghost use Rattle.base64ct.specs.Encoding.{character, unpadded_encoding, byte_count, encoding, padding_len, decoded_len, AreCharacters, EachBelow, IsMisaligned, Reads, IsLenient};
 ghost use Rattle.base64ct.specs.Decoding.{decoding};
@@ -9,8 +9,8 @@ ghost use Rattle.base64ct.specs.Counts.{look_count, comparison_count};
 
 use crate::Error;
 use crate::blocks::{bytes_high, bytes_low, values_high, values_low};
-use crate::decode::count_padding;
-use subtle::SameByte;
+use crate::decode::{bytes_of, count_padding};
+use subtle::{Choice, SameByte};
 
 /// How texts are made of the characters of a [`CodeTable`].
 #[derive(Clone, Copy, Debug, PartialEq, Eq, Drop)]
@@ -141,19 +141,13 @@ fn read_filled<T: CodeTable>(table: &mut T, shape: Shape, zero: u8, rest: &[u8])
     }
 }
 
-// Reads `src` as characters into the front of `dst`, and tells whether they are such.
-fn read_stem<T: CodeTable>(
-    table: &mut T,
-    shape: Shape,
-    zero: u8,
-    src: &[u8],
-    dst: &mut [u8],
-) -> bool
+// Reads `src` as characters into the front of `dst`, and gives a number that is 0 exactly where they are such.
+fn read_stem<T: CodeTable>(table: &mut T, shape: Shape, zero: u8, src: &[u8], dst: &mut [u8]) -> u8
     requires room { byte_count (length src.now) ≤ length dst.old }
     requires looks { T.looks table.old + length src.now + 4 ≤ 2 ^ 63 }
     requires zero { zero ≡ slice_index (T.characters table.old) 0 }
-    ensures read { result ≡ true → ((values : List ℕ) × Reads (shaped (T.characters table.old) shape) src.now values (take (byte_count (length src.now)) dst.new)) }
-    ensures accepted { length src.now % 4 ≢ 1 → AreCharacters (shaped (T.characters table.old) shape) src.now → result ≡ true }
+    ensures read { result ≡ 0 → ((values : List ℕ) × Reads (shaped (T.characters table.old) shape) src.now values (take (byte_count (length src.now)) dst.new)) }
+    ensures accepted { length src.now % 4 ≢ 1 → AreCharacters (shaped (T.characters table.old) shape) src.now → result ≡ 0 }
     ensures bytes { EachBelow 256 dst.new }
     ensures rest { drop (byte_count (length src.now)) dst.new ≡ drop (byte_count (length src.now)) dst.old }
     ensures looks { T.looks table.new ≡ T.looks table.old + (4 * (length src.now / 4) + 4) }
@@ -173,7 +167,7 @@ fn read_stem<T: CodeTable>(
     let count = src.len() % 4 * 3 / 4;
     let (bytes, wrong) = read_filled(table, shape, zero, &src[4 * blocks..]);
     dst[o..o + count].copy_from_slice(&bytes[..count]);
-    fault | wrong == 0
+    fault | wrong
 }
 
 // The characters of a block, filled up to four with the character of 0.
@@ -211,7 +205,7 @@ fn compare_last<T: CodeTable, C: SameByte>(
     zero: u8,
     last: &[u8],
     bytes: &[u8],
-) -> bool
+) -> Choice
     requires some { 1 ≤ length last.now }
     requires few { length last.now ≤ 4 }
     requires bytes { length bytes.now ≡ 3 * length last.now / 4 }
@@ -231,7 +225,7 @@ fn compare_last<T: CodeTable, C: SameByte>(
     let second = cmp.same(block[1], again[1]);
     let third = cmp.same(block[2], again[2]);
     let fourth = cmp.same(block[3], again[3]);
-    bool::from(first & second & third & fourth)
+    first & second & third & fourth
 }
 
 // How many bytes at the end are padding.
@@ -250,7 +244,7 @@ fn compare_stem<T: CodeTable, C: SameByte>(
     zero: u8,
     stem: &[u8],
     bytes: &[u8],
-) -> bool
+) -> Choice
     requires bytes { length bytes.now ≡ byte_count (length stem.now) }
     requires spells { T.spells table.old + 4 ≤ 2 ^ 63 }
     requires sames { C.count cmp.old + 4 ≤ 2 ^ 63 }
@@ -262,11 +256,11 @@ fn compare_stem<T: CodeTable, C: SameByte>(
     ensures empty { length stem.now ≡ 0 → result ≡ true }
     ensures sames { C.count cmp.new ≡ C.count cmp.old + cond (length stem.now == 0) 0 4 }
     ensures looks { T.looks table.new ≡ T.looks table.old }
-    ensures spells { T.spells table.new ≤ T.spells table.old + 4 }
+    ensures spells { (T.spells table.old ≤ T.spells table.new) × (T.spells table.new ≤ T.spells table.old + 4) }
     ensures characters { T.characters table.new ≡ T.characters table.old }
 {
     if stem.is_empty() {
-        return true;
+        return Choice::from_u8(1);
     }
     let fours = (stem.len() - 1) / 4;
     compare_last(
@@ -277,6 +271,15 @@ fn compare_stem<T: CodeTable, C: SameByte>(
         &stem[4 * fours..],
         &bytes[3 * fours..],
     )
+}
+
+// Whether `fault` is 0 and the comparison passed. Both are looked at as one number, so that no branch tells
+// which of the two it was.
+fn is_faultless(fault: u8, passed: Choice) -> bool
+    ensures { result ≡ ((fault == 0) && passed) }
+{
+    let differs = !passed;
+    fault | differs.unwrap_u8() == 0
 }
 
 /// Decodes `src` into the front of `dst` by the characters of `table`, and tells how many bytes there
@@ -324,7 +327,7 @@ pub fn decode_with_into<T: CodeTable, C: SameByte>(
         T.looks table.new ≡ T.looks table.old + look_count a src.now (length dst.old) }
     ensures sames { let a = shaped (T.characters table.old) shape in
         C.count cmp.new ≡ C.count cmp.old + comparison_count a src.now (length dst.old) }
-    ensures spells { T.spells table.new ≤ T.spells table.old + 5 }
+    ensures spells { (T.spells table.old ≤ T.spells table.new) × (T.spells table.new ≤ T.spells table.old + 5) }
     ensures characters { T.characters table.new ≡ T.characters table.old }
 {
     if shape.padded && src.len() % 4 != 0 {
@@ -332,14 +335,14 @@ pub fn decode_with_into<T: CodeTable, C: SameByte>(
     }
     let padding = padding_under(shape, src);
     let stem = &src[..src.len() - padding];
-    let len = 3 * (stem.len() / 4) + 3 * (stem.len() % 4) / 4;
+    let len = bytes_of(stem.len());
     if dst.len() < len {
         return Err(Error::InvalidLength);
     }
     let zero = table.spell(0);
-    let read = read_stem(table, shape, zero, stem, dst);
+    let fault = read_stem(table, shape, zero, stem, dst);
     let passed = compare_stem(table, cmp, shape, zero, stem, &dst[..len]);
-    if read & passed {
+    if is_faultless(fault, passed) {
         Ok(len)
     } else {
         Err(Error::InvalidEncoding)

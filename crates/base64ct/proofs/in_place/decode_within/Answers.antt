@@ -12,7 +12,7 @@ returns-then-read_in_place-clause-answer g c =
       | else-padded-via-then-padded+else-buf-ne0 w ↦ wrong.1 w.if-buf-ne0.false
       | else-padded-via-else-padded w ↦ false≢true (sym w.if-padded.false ∙ c.padded.ensures ∙ wrong.0)
     ] in
-    lenient_found a c.args.buf.now c.read_in_place.new.buf c.padding_of.result _ g.met.A.Alphabet.lawful c.padding_of.ensures.count not (c.read_in_place.ensures.read c.if-read_in_place.true)
+    rw c.bytes_of.ensures (lenient_found a c.args.buf.now c.read_in_place.new.buf c.padding_of.result _ g.met.A.Alphabet.lawful c.padding_of.ensures.count not (c.read_in_place.ensures.read c.if-read_in_place.true))
 
 pub returns-else-read_in_place-clause-answer : goal.returns-else-read_in_place-clause-answer
 returns-else-read_in_place-clause-answer g c =

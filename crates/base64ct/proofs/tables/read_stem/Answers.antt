@@ -1,5 +1,4 @@
 use Rattle.std.proofs.Common.{◌≡◌, ℕ, ◌+◌, ◌-◌, ◌*◌, ◌/◌, ◌%◌, length, ap, ◌∙◌, sym, refl, arith}
-use Rattle.std.proofs.lemmas.Bool.{eqb-true, eq-eqb}
 use Rattle.std.proofs.lemmas.List.{take_rest, length-take-le}
 use Rattle.base64ct.specs.Tables.{shaped}
 use Rattle.base64ct.proofs.Decoded.{progress_none, progress_more, end_rest}
@@ -26,13 +25,13 @@ returns-clause-read g c = λ none.
     let width : 3 * i + length c.args.src.now % 4 * 3 / 4 - 3 * i ≡ length c.args.src.now % 4 * 3 / 4 = omega arith in
     end_leniently (shaped (g.T.CodeTable.characters c.args.table.now) c.args.shape) c.args.src.now c.args.dst.now c.whole.dst c.read_filled-wrong.result.0 c.copy_from_slice-2.new.self _ i c.whole.block c.whole.fault c.read_filled-wrong.result.1 _ _
     (g.met.T.CodeTable.lawful c.args.table.now) (omega arith) (omega arith) (omega arith) (omega arith) width c.read_filled-wrong.ensures.len (rw width c.copy_from_slice-2.ensures.after)
-    (take_rest c.args.src.now (4 * i)) (λ k. omega (arith, c.type_inv.dst k)) (rw (← c.whole.invariant.3) c.read_filled-wrong.ensures.read) c.whole.invariant.0 (eqb-true _ _ none)
+    (take_rest c.args.src.now (4 * i)) (λ k. omega (arith, c.type_inv.dst k)) (rw (← c.whole.invariant.3) c.read_filled-wrong.ensures.read) c.whole.invariant.0 none
 
 pub returns-clause-accepted : goal.returns-clause-accepted
 returns-clause-accepted g c = λ odd all.
     let i : ℕ = length c.args.src.now / 4 in
-    eq-eqb _ _ (all_accepted (shaped (g.T.CodeTable.characters c.args.table.now) c.args.shape) c.args.src.now c.args.dst.now c.whole.dst _ i c.whole.block c.whole.fault c.read_filled-wrong.result.1
-    (omega arith) odd (take_rest c.args.src.now (4 * i)) (rw (← c.whole.invariant.3) c.read_filled-wrong.ensures.accepted) c.whole.invariant.0 all)
+    all_accepted (shaped (g.T.CodeTable.characters c.args.table.now) c.args.shape) c.args.src.now c.args.dst.now c.whole.dst _ i c.whole.block c.whole.fault c.read_filled-wrong.result.1
+    (omega arith) odd (take_rest c.args.src.now (4 * i)) (rw (← c.whole.invariant.3) c.read_filled-wrong.ensures.accepted) c.whole.invariant.0 all
 
 pub returns-clause-rest : goal.returns-clause-rest
 returns-clause-rest g c =

@@ -14,8 +14,8 @@ returns-then-src-ne0-clause-decoded g c = λ room.
 pub returns-then-decode_unpadded-clause-answer : goal.returns-then-decode_unpadded-clause-answer
 returns-then-decode_unpadded-clause-answer g c = λ not room.
     let a = g.Self.Alphabet.alphabet in
-    decoded_end a c.args.src.now c.decode_unpadded.new.dst c.padding_of-padding.result g.met.Self.Alphabet.lawful c.padding_of-padding.ensures.count (λ k. omega (arith, c.type_inv.dst k)) not
-    (c.decode_unpadded.ensures.read c.if-decode_unpadded.true)
+    rw c.bytes_of-len.ensures (decoded_end a c.args.src.now c.decode_unpadded.new.dst c.padding_of-padding.result g.met.Self.Alphabet.lawful c.padding_of-padding.ensures.count (λ k. omega (arith, c.type_inv.dst k)) not
+    (c.decode_unpadded.ensures.read c.if-decode_unpadded.true))
 
 pub returns-then-decode_unpadded-clause-decoded : goal.returns-then-decode_unpadded-clause-decoded
 returns-then-decode_unpadded-clause-decoded g c = λ room.

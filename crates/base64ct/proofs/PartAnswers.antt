@@ -1,0 +1,64 @@
+-- What a part that is lent says, from what was done and what is answered.
+use Rattle.std.proofs.Common.{◌≡◌, ◌≢◌, ℕ, ◌<◌, ◌≤◌, List, length, take, Result, Ok, Err, refl, sym, ◌∙◌, subst, arith}
+use Rattle.std.specs.Prelude.{MatchResult, IfOk}
+use Rattle.std.proofs.lemmas.Bool.{ne_eqb}
+use Rattle.std.proofs.lemmas.List.{take_all}
+use denote.Ref.{Bor}
+use Rattle.base64ct.specs.Encoding.{Alphabet}
+use Rattle.base64ct.specs.Blocks.{AskedAreGood}
+use Rattle.base64ct.specs.Decoders.{Decoded, left, IsDecoded}
+use Rattle.base64ct.specs.Runs.{IsPart, part_of}
+use Rattle.base64ct.specs.Lent.{decoding_answer, decoding_fault}
+use Rattle.base64ct.proofs.LentAnswers.{DecodeAnswers}
+use Rattle.base64ct.specs.declared.errors.Error.{Error}
+use Rattle.base64ct.specs.declared.errors.Error.TheVariants.{InvalidEncoding, InvalidLength}
+
+abbrev pub PartEnds : Result (Bor (List ℕ)) Error → List ℕ → Type 0
+PartEnds t new = IfOk t (λ b. new ≡ b.now)
+
+abbrev pub SaysTooLong : Alphabet → Decoded → List ℕ → Result (Bor (List ℕ)) Error → Decoded → Type 0
+SaysTooLong a old out t new = length (left a old) < length out → (t ≡ Err InvalidLength) × (new ≡ old)
+
+abbrev pub SaysPart : Alphabet → Decoded → List ℕ → Result (Bor (List ℕ)) Error → Decoded → Type 0
+SaysPart a old out t new = length out ≤ length (left a old) → MatchResult t (λ b. IsDecoded a old new (length out) b.now)
+    (λ e. (e ≡ InvalidEncoding) × (AskedAreGood a old.text old.read (length out) → ⊥) × (new ≡ old))
+
+abbrev pub PartSays : Alphabet → Decoded → List ℕ → Result (Bor (List ℕ)) Error → Decoded → Type 0
+PartSays a old out t new = SaysTooLong a old out t new × SaysPart a old out t new
+
+no_answer : {T : Type 0} (b : List ℕ) (e : Error) → Ok b ≡ Err e → T
+no_answer b e h = absurd (wrong h)
+  where
+    wrong : Ok b ≡ Err e → ⊥
+    wrong h = cc
+
+refusal : Error → Result (List ℕ) Error
+refusal x = Err x
+
+same_error : (x y : Error) → refusal x ≡ refusal y → x ≡ y
+unfolding refusal
+same_error x y h = cc
+
+lent_refusal : Error → Result (Bor (List ℕ)) Error
+lent_refusal x = Err x
+
+again : (x y : Error) → refusal x ≡ refusal y → lent_refusal x ≡ lent_refusal y
+again x y h = rw (same_error x y h) refl
+
+part_given : (a : Alphabet) (b : Bor (List ℕ)) (old new : Decoded) (out now last : List ℕ) → b.now ≡ now → IsPart a old (length out) (Ok now) new → last ≡ now → PartEnds (Ok b) last × PartSays a old out (Ok b) new
+part_given a b old new out now last same told e =
+    (e ∙ sym same, ((λ short. no_answer now InvalidLength (told.0 short).0), (λ fits. subst (λ (x : List ℕ). IsDecoded a old new (length out) x) (sym same) (told.1 fits))))
+
+part_refused : (a : Alphabet) (x : Error) (old new : Decoded) (out last : List ℕ) → IsPart a old (length out) (Err x) new → PartEnds (Err x) last × PartSays a old out (Err x) new
+unfolding refusal lent_refusal
+part_refused a x old new out last told = (tt, ((λ short. (again x InvalidLength (told.0 short).0, (told.0 short).1)), (λ fits. told.1 fits)))
+
+pub part_says : (a : Alphabet) (t : Result (Bor (List ℕ)) Error) (len fault : ℕ) (old new : Decoded) (out now last : List ℕ) → DecodeAnswers t fault (take len now) → len ≡ length now
+    → IsPart a old (length out) (part_of (decoding_answer len fault) now) new → last ≡ now → PartEnds t last × PartSays a old out t new
+part_says a (Ok b) len fault old new out now last ok whole told e =
+    let is : decoding_answer len fault ≡ Ok len = rw ok.0 refl in
+    let same : b.now ≡ now = ok.1 ∙ take_all len now (omega arith) in
+    part_given a b old new out now last same (subst (λ (r : Result ℕ Error). IsPart a old (length out) (part_of r now) new) is told) e
+part_says a (Err x) len fault old new out now last ok whole told e =
+    let is : decoding_answer len fault ≡ Err x = rw (ne_eqb fault 0 ok.0, ok.1) refl in
+    part_refused a x old new out last (subst (λ (r : Result ℕ Error). IsPart a old (length out) (part_of r now) new) is told)
