@@ -77,23 +77,3 @@ decimal_length n small = length-decimal-le 10 n (omega (arith, small)) (omega (a
 
 pub encoding_is_value : (b : List ℕ) → EachBelow 256 b → length b ≤ 48 → value_fault (encoding b) ≡ None
 encoding_is_value b small short = value_from (encoding b) (omega (arith, encoded_length b small, short)) (encoding_value b small)
-
--- ---- the digits of a number, the last one behind the others
-
-pub last_digit : (n : ℕ) (front old : List ℕ) → 10 ≤ n → n < 2 ^ 32 → front ≡ old ++ decimal (n / 10) → front ++ (48 + n % 10) ∷ [] ≡ old ++ decimal n
-last_digit n front old big small is =
-    ap (λ (d : List ℕ). d ++ (48 + n % 10) ∷ []) is
-    ∙ append_assoc old (decimal (n / 10)) ((48 + n % 10) ∷ [])
-    ∙ ap (λ (d : List ℕ). old ++ d) (sym (decimal_step n big (omega (arith, small))))
-
-pub one_digit : (n : ℕ) (front old : List ℕ) → n < 10 → front ≡ old → front ++ (48 + n % 10) ∷ [] ≡ old ++ decimal n
-one_digit n front old little is =
-    let digit : n % 10 ≡ n = omega (arith, little) in
-    rw (is, digit) (ap (λ (d : List ℕ). old ++ d) (sym (decimal_digit n little)))
-
-pub front_length : (n : ℕ) → 10 ≤ n → n < 2 ^ 32 → length (decimal (n / 10)) + 1 ≡ length (decimal n)
-front_length n big small =
-    sym (length-append (decimal (n / 10)) ((48 + n % 10) ∷ [])) ∙ ap length (sym (decimal_step n big (omega (arith, small))))
-
-pub some_digit : (n : ℕ) → n < 2 ^ 32 → 1 ≤ length (decimal n)
-some_digit n small = omega (arith, decimal_nonempty n (omega (arith, small)))

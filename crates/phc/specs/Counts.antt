@@ -1,11 +1,8 @@
 -- How often the fields of a text are looked up in the alphabet, and how often the decoder compares.
-use Rattle.std.specs.Prelude.{ℕ, ◌+◌, ◌*◌, ◌/◌, List, length, Option, Some, None, drop}
+use Rattle.std.specs.Prelude.{ℕ, ◌+◌, List, Option, Some, None, drop}
+use Rattle.base64ct.specs.Counts.{field_looks}
 use Rattle.pieces.specs.Pieces.{pieces_at}
 use Rattle.phc.specs.Grammar.{Layout, layout}
-
--- the look-ups of a field: four for each four characters, and four for what is left over
-abbrev pub field_looks : List ℕ → ℕ
-field_looks field = 4 * (length field / 4) + 4
 
 -- the look-ups of a field that may be absent
 abbrev pub looks_of : Option (List ℕ) → ℕ

@@ -1,4 +1,7 @@
 -- The grammar of the PHC string format (the form of the Password Hashing Competition): a fault, or a record.
+-- By the limits of `phc` 0.6.1 it is narrower than the format's (a salt is a canonical encoding of 11 to 64 characters,
+-- a hash of 10 bytes to 86 characters, parameters have at most 127 characters), and wider: a parameter may be named
+-- `v`, a name may stand twice, and a value may be empty.
 use Rattle.std.specs.Prelude.{ℕ, ◌+◌, ◌*◌, ◌-◌, ◌^◌, Bool, true, false, not, ◌&&◌, ◌||◌, List, [], ◌∷◌, ◌==◌, nat_eq, nat_lt, nat_le, length, drop, Option, Some, None, is_some, unwrap_or, Result, Ok, Err, if◌then◌else◌, codes, map}
 use Rattle.std.specs.List.{list_all, list_any, starts_with}
 use Rattle.std.specs.Char.{is_ascii_lowercase, is_ascii_digit, is_ascii_alphanumeric}
@@ -120,7 +123,7 @@ layout pieces = params_and_more (first_as version_digits pieces) (behind_taken (
 
 -- ---- the parts
 
--- the pieces of `name=value`
+-- the fault of a pair, cut at every `=`
 abbrev pub pair_fault : List (List ℕ) → Option Error
 pair_fault [] = Some ParamNameInvalid
 pair_fault (name ∷ []) = first_fault (unless (is_name name) ParamNameInvalid ∷ (Some ParamValueInvalid ∷ []))
@@ -169,7 +172,7 @@ salt_fault s = first_fault
     ∷ (unless (is_some (decoding s)) (Base64 InvalidEncoding)
     ∷ [])))
 
--- the fewest bytes of a hash
+-- the fault of the hash, whose encoding stands for 10 bytes or more
 abbrev pub hash_fault : List ℕ → Option Error
 hash_fault s = first_fault
     (unless (nat_le (length s) 86) (Base64 InvalidLength)

@@ -9,8 +9,8 @@ ghost use Rattle.std.proofs.Common.{rules};
 ghost use Rattle.phc.specs.Grammar.{is_name, is_name_byte, name_fault, value_or_fault};
 ghost use Rattle.std.specs.List.{list_all};
 
-use crate::bytes::Bytes;
 use crate::{Error, Result};
+use pieces::short_bytes::ShortBytes;
 use std::cmp::Ordering;
 use std::fmt;
 use std::marker::Model;
@@ -21,7 +21,7 @@ use std::str::{self, FromStr};
 /// Names are ordered by their length, then by their characters.
 #[derive(Clone, Copy, Debug, PartialEq, Eq, Hash, Drop)]
 pub struct Ident {
-    text: Bytes<32>,
+    text: ShortBytes<32>,
 }
 
 impl Model for Ident {
@@ -66,7 +66,7 @@ impl Ident {
             return Err(Error::ParamNameInvalid);
         }
         Ok(Ident {
-            text: Bytes::from_slice(s.as_bytes()),
+            text: ShortBytes::from_slice(s.as_bytes()),
         })
     }
 
@@ -76,7 +76,7 @@ impl Ident {
         ensures text { result ≡ s.now }
     {
         Ident {
-            text: Bytes::from_slice(s.as_bytes()),
+            text: ShortBytes::from_slice(s.as_bytes()),
         }
     }
 

@@ -16,7 +16,6 @@ pub use salt::{Salt, SaltString};
 pub use try_fill::TryFill;
 pub use value::{Decimal, Value};
 
-mod bytes;
 mod error;
 mod ident;
 pub mod laws;

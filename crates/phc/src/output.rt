@@ -6,12 +6,13 @@ ghost use Rattle.std.specs.Cmp.Lexicographic.{pointwise, nat_list_eq_equiv};
 ghost use Rattle.std.specs.Fn.{FnOnceTakesAtMut, FnOnceReturnsAtMut};
 ghost use Rattle.std.specs.declared.cmp.Ordering.TheVariants.{Less, Greater};
 ghost use Rattle.base64ct.specs.declared.errors.Error.TheVariants.{InvalidLength};
+ghost use Rattle.base64ct.specs.Counts.{field_looks};
 ghost use Rattle.phc.specs.Encoded.{encoding};
 ghost use Rattle.phc.specs.Parts.{output_or_fault, output_of_bytes, after_init};
 
-use crate::bytes::Bytes;
 use crate::{Error, Result};
 use base64ct::{Base64Unpadded, Counts, Encoding};
+use pieces::short_bytes::ShortBytes;
 use std::cmp::Ordering;
 use std::fmt;
 use std::marker::Model;
@@ -23,7 +24,7 @@ use subtle::{Choice, ConstantTimeEq, ct_eq_slices};
 /// Two outputs are compared by steps that do not depend on their bytes.
 #[derive(Clone, Copy, Debug, Drop)]
 pub struct Output {
-    bytes: Bytes<64>,
+    bytes: ShortBytes<64>,
 }
 
 impl Model for Output {
@@ -79,7 +80,7 @@ impl Output {
             return Err(TOO_LONG);
         }
         Ok(Output {
-            bytes: Bytes::from_slice(input),
+            bytes: ShortBytes::from_slice(input),
         })
     }
 
@@ -101,7 +102,7 @@ impl Output {
         let mut bytes = [0; 64];
         call_with(f, &mut bytes[..output_size])?;
         Ok(Output {
-            bytes: Bytes::from_slice(&bytes[..output_size]),
+            bytes: ShortBytes::from_slice(&bytes[..output_size]),
         })
     }
 
@@ -142,10 +143,12 @@ impl Output {
         requires looks { counts.old.looks ≤ 2 ^ 62 + 68 }
         requires sames { counts.old.sames ≤ 2 ^ 62 + 4 }
         ensures output { result ≡ output_or_fault input.now }
-        ensures looks { OnOk result (counts.new.looks ≡ counts.old.looks + (4 * (length input.now / 4) + 4)) }
+        ensures looks { OnOk result (counts.new.looks ≡ counts.old.looks + field_looks input.now) }
         ensures sames { OnOk result (counts.new.sames ≡ counts.old.sames + 4) }
         ensures most_looks { counts.new.looks ≤ counts.old.looks + 88 }
         ensures most_sames { counts.new.sames ≤ counts.old.sames + 4 }
+        ensures looks_stay { counts.old.looks ≤ counts.new.looks }
+        ensures sames_stay { counts.old.sames ≤ counts.new.sames }
     {
         if input.len() > Self::B64_MAX_LENGTH {
             return Err(Error::Base64(base64ct::Error::InvalidLength));
@@ -158,7 +161,7 @@ impl Output {
                     return Err(TOO_SHORT);
                 }
                 Ok(Output {
-                    bytes: Bytes::from_slice(bytes),
+                    bytes: ShortBytes::from_slice(bytes),
                 })
             }
         }

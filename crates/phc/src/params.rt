@@ -10,11 +10,11 @@ ghost use Rattle.pieces.specs.Pieces.{pieces_at, pieces_left};
 ghost use Rattle.phc.specs.Grammar.{cut_pairs, decimal_value, first_fault, is_empty, pair_fault, pair_of, text_fault, text_pairs};
 ghost use Rattle.phc.specs.Params.{add, add_bytes, add_each, add_named, appended, change, get, pairs_fault, pairs_text, params_or_fault, with_name};
 
-use crate::bytes::Bytes;
 use crate::ident::name_check;
 use crate::value::has_value_bytes;
 use crate::{Decimal, Error, Ident, Result, Value};
 use base64ct::{Base64Unpadded, Encoding};
+use pieces::short_bytes::ShortBytes;
 use pieces::{first_piece, is_end};
 use std::alloc::AllocError;
 use std::fmt;
@@ -29,7 +29,7 @@ pub type Pair<'a> = (Ident, Value<'a>);
 /// Contracts see them as the list of these pairs. An addition that is refused leaves the text.
 #[derive(Clone, Copy, Debug, Drop)]
 pub struct ParamsString {
-    text: Bytes<127>,
+    text: ShortBytes<127>,
 }
 
 impl Model for ParamsString {
@@ -103,7 +103,7 @@ fn fault_of_text(s: &str) -> Option<Error>
 }
 
 // A text with one more pair behind it, where that fits.
-fn appended(text: &Bytes<127>, name: &str, value: &str) -> Option<Bytes<127>>
+fn appended(text: &ShortBytes<127>, name: &str, value: &str) -> Option<ShortBytes<127>>
     requires name { length name.now ≤ 32 }
     requires value { length value.now ≤ 64 }
     ensures { result ≡ (if nat_lt 127 (length (appended text.now name.now value.now)) then None
@@ -121,17 +121,6 @@ fn appended(text: &Bytes<127>, name: &str, value: &str) -> Option<Bytes<127>>
     Some(longer)
 }
 
-// Appends the decimal of a number.
-fn push_decimal(digits: &mut Bytes<10>, n: Decimal)
-    requires room { length digits.old + length (decimal n) ≤ 10 }
-    ensures { digits.new ≡ digits.old ++ decimal n }
-{
-    if n >= 10 {
-        push_decimal(digits, n / 10);
-    }
-    digits.push_all(&[b'0' + (n % 10) as u8]);
-}
-
 impl ParamsString {
     ghost use Rattle.phc.specs.ValueViews.{pair_view, pairs_left, value_text};
 
@@ -139,7 +128,9 @@ impl ParamsString {
     pub fn new() -> Self
         ensures empty { result ≡ [] }
     {
-        ParamsString { text: Bytes::new() }
+        ParamsString {
+            text: ShortBytes::new(),
+        }
     }
 
     /// The parameters that a text is.
@@ -149,7 +140,7 @@ impl ParamsString {
         match fault_of_text(s) {
             Some(e) => Err(e),
             None => Ok(ParamsString {
-                text: Bytes::from_slice(s.as_bytes()),
+                text: ShortBytes::from_slice(s.as_bytes()),
             }),
         }
     }
@@ -176,8 +167,8 @@ impl ParamsString {
     pub fn add_decimal(&mut self, name: Ident, value: Decimal) -> Result<()>
         ensures added { (result, self.new) ≡ change (add self.old name (decimal value)) self.old }
     {
-        let mut digits = Bytes::new();
-        push_decimal(&mut digits, value);
+        let mut digits = ShortBytes::new();
+        digits.push_decimal(u64::from(value));
         self.add_str(name, Value::of_digits(&digits))
     }
 

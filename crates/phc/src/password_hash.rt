@@ -72,6 +72,8 @@ fn salt_of(text: Option<&str>, counts: &mut Counts) -> Result<Option<Salt>>
     ensures sames { OnOk result (counts.new.sames ≡ counts.old.sames + comparisons_of (lent text.entry)) }
     ensures most_looks { counts.new.looks ≤ counts.old.looks + 68 }
     ensures most_sames { counts.new.sames ≤ counts.old.sames + 4 }
+    ensures looks_stay { counts.old.looks ≤ counts.new.looks }
+    ensures sames_stay { counts.old.sames ≤ counts.new.sames }
 {
     let Some(text) = text else {
         return Ok(None);
@@ -91,6 +93,8 @@ fn hash_of(text: Option<&str>, counts: &mut Counts) -> Result<Option<Output>>
     ensures sames { OnOk result (counts.new.sames ≡ counts.old.sames + comparisons_of (lent text.entry)) }
     ensures most_looks { counts.new.looks ≤ counts.old.looks + 88 }
     ensures most_sames { counts.new.sames ≤ counts.old.sames + 4 }
+    ensures looks_stay { counts.old.looks ≤ counts.new.looks }
+    ensures sames_stay { counts.old.sames ≤ counts.new.sames }
 {
     let Some(text) = text else {
         return Ok(None);
@@ -110,6 +114,8 @@ fn record_of(id: &str, parts: FormParts<'_>, counts: &mut Counts) -> Result<Pass
     ensures sames { OnOk result (counts.new.sames ≡ counts.old.sames + layout_comparisons (parts_of parts.entry)) }
     ensures most_looks { counts.new.looks ≤ counts.old.looks + 156 }
     ensures most_sames { counts.new.sames ≤ counts.old.sames + 8 }
+    ensures looks_stay { counts.old.looks ≤ counts.new.looks }
+    ensures sames_stay { counts.old.sames ≤ counts.new.sames }
 {
     let algorithm = match Ident::new(id) {
         Ok(algorithm) => algorithm,
@@ -153,6 +159,8 @@ fn record_of_pieces(id: &str, pieces: Option<&str>, counts: &mut Counts) -> Resu
     ensures sames { OnOk result (counts.new.sames ≡ counts.old.sames + layout_comparisons (layout (pieces_left 36 pieces.entry))) }
     ensures most_looks { counts.new.looks ≤ counts.old.looks + 156 }
     ensures most_sames { counts.new.sames ≤ counts.old.sames + 8 }
+    ensures looks_stay { counts.old.looks ≤ counts.new.looks }
+    ensures sames_stay { counts.old.sames ≤ counts.new.sames }
 {
     record_of(id, layout(pieces), counts)
 }
@@ -167,6 +175,8 @@ fn record_of_text(s: &str, counts: &mut Counts) -> Result<PasswordHash>
     ensures sames { OnOk result (counts.new.sames ≡ counts.old.sames + layout_comparisons (layout_of_text s.now)) }
     ensures most_looks { counts.new.looks ≤ counts.old.looks + 156 }
     ensures most_sames { counts.new.sames ≤ counts.old.sames + 8 }
+    ensures looks_stay { counts.old.looks ≤ counts.new.looks }
+    ensures sames_stay { counts.old.sames ≤ counts.new.sames }
 {
     let (front, rest) = first_piece(s, '$');
     if !front.is_empty() {
@@ -211,6 +221,8 @@ impl PasswordHash {
         ensures sames { OnOk result (counts.new.sames ≡ counts.old.sames + layout_comparisons (layout_of_text s.now)) }
         ensures most_looks { counts.new.looks ≤ counts.old.looks + 156 }
         ensures most_sames { counts.new.sames ≤ counts.old.sames + 8 }
+        ensures looks_stay { counts.old.looks ≤ counts.new.looks }
+        ensures sames_stay { counts.old.sames ≤ counts.new.sames }
     {
         record_of_text(s, counts)
     }

@@ -3,14 +3,15 @@
 ghost use Rattle.std.specs.Prelude.{◌≡◌, ◌≤◌, ◌+◌, ◌*◌, ◌/◌, ◌^◌, ℕ, List, None, Some, IfOk, OnErr, OnOk, length};
 ghost use Rattle.std.specs.Io.KnownBytes.{Consumes};
 ghost use Rattle.rand_core.specs.Stream.{fill_bytes};
+ghost use Rattle.base64ct.specs.Counts.{field_looks};
 ghost use Rattle.phc.specs.Encoded.{decoding, encoding};
 ghost use Rattle.phc.specs.Grammar.{salt_fault};
 ghost use Rattle.phc.specs.Parts.{salt_of_bytes, salt_or_fault, salt_text_or_fault};
 ghost use Rattle.phc.specs.Refusals.{HasRisen};
 
-use crate::bytes::Bytes;
 use crate::{Error, Result, TryFill};
 use base64ct::{Base64Unpadded, Counts, Encoding};
+use pieces::short_bytes::ShortBytes;
 use rand_core::Rng;
 use std::fmt;
 use std::marker::Model;
@@ -19,7 +20,7 @@ use std::str::FromStr;
 /// A salt: 8 to 48 bytes. Contracts see it as the list of its bytes.
 #[derive(Clone, Copy, Debug, PartialEq, Eq, Drop)]
 pub struct Salt {
-    bytes: Bytes<48>,
+    bytes: ShortBytes<48>,
 }
 
 impl Model for Salt {
@@ -55,7 +56,7 @@ impl Salt {
             return Err(Error::SaltTooLong);
         }
         Ok(Salt {
-            bytes: Bytes::from_slice(slice),
+            bytes: ShortBytes::from_slice(slice),
         })
     }
 
@@ -73,10 +74,12 @@ impl Salt {
         requires looks { counts.old.looks ≤ 2 ^ 62 }
         requires sames { counts.old.sames ≤ 2 ^ 62 }
         ensures salt { result ≡ salt_or_fault b64.now }
-        ensures looks { OnOk result (counts.new.looks ≡ counts.old.looks + (4 * (length b64.now / 4) + 4)) }
+        ensures looks { OnOk result (counts.new.looks ≡ counts.old.looks + field_looks b64.now) }
         ensures sames { OnOk result (counts.new.sames ≡ counts.old.sames + 4) }
         ensures most_looks { counts.new.looks ≤ counts.old.looks + 68 }
         ensures most_sames { counts.new.sames ≤ counts.old.sames + 4 }
+        ensures looks_stay { counts.old.looks ≤ counts.new.looks }
+        ensures sames_stay { counts.old.sames ≤ counts.new.sames }
     {
         if b64.len() < SaltString::MIN_LENGTH {
             return Err(Error::SaltTooShort);
@@ -87,7 +90,7 @@ impl Salt {
         let mut room = [0; 48];
         match counts.decode::<Base64Unpadded>(b64.as_bytes(), &mut room) {
             Ok(bytes) => Ok(Salt {
-                bytes: Bytes::from_slice(bytes),
+                bytes: ShortBytes::from_slice(bytes),
             }),
             Err(e) => Err(Error::Base64(e)),
         }
@@ -101,7 +104,7 @@ impl Salt {
         let mut bytes = [0; 16];
         rng.fill_bytes(&mut bytes);
         Salt {
-            bytes: Bytes::from_slice(&bytes),
+            bytes: ShortBytes::from_slice(&bytes),
         }
     }
 
@@ -116,7 +119,7 @@ impl Salt {
         let mut bytes = [0; 16];
         rng.try_fill(&mut bytes)?;
         Ok(Salt {
-            bytes: Bytes::from_slice(&bytes),
+            bytes: ShortBytes::from_slice(&bytes),
         })
     }
 
@@ -140,7 +143,7 @@ impl Salt {
 }
 
 // The encoding of the bytes of a salt.
-fn encoded(bytes: &[u8]) -> Bytes<64>
+fn encoded(bytes: &[u8]) -> ShortBytes<64>
     requires least { 8 ≤ length bytes.now }
     requires most { length bytes.now ≤ 48 }
     ensures text { result ≡ encoding bytes.now }
@@ -148,8 +151,8 @@ fn encoded(bytes: &[u8]) -> Bytes<64>
 {
     let mut room = [0; 64];
     match Base64Unpadded::encode(bytes, &mut room) {
-        Ok(text) => Bytes::from_slice(text.as_bytes()),
-        Err(_) => Bytes::new(),
+        Ok(text) => ShortBytes::from_slice(text.as_bytes()),
+        Err(_) => ShortBytes::new(),
     }
 }
 
@@ -178,7 +181,7 @@ impl FromStr for Salt {
 /// The encoding of a salt: 11 to 64 characters. Contracts see it as the list of these characters.
 #[derive(Clone, Copy, Debug, PartialEq, Eq, Drop)]
 pub struct SaltString {
-    text: Bytes<64>,
+    text: ShortBytes<64>,
 }
 
 impl Model for SaltString {
@@ -207,7 +210,7 @@ impl SaltString {
     {
         match Salt::from_b64(s) {
             Ok(_) => Ok(SaltString {
-                text: Bytes::from_slice(s.as_bytes()),
+                text: ShortBytes::from_slice(s.as_bytes()),
             }),
             Err(e) => Err(e),
         }
@@ -253,14 +256,14 @@ impl SaltString {
 }
 
 // The bytes whose encoding the text of a salt is.
-fn decoded(text: &str) -> Bytes<48>
+fn decoded(text: &str) -> ShortBytes<48>
     requires { salt_fault text.now ≡ None }
     ensures { decoding text.now ≡ Some result }
 {
     let mut room = [0; 48];
     match Base64Unpadded::decode(text.as_bytes(), &mut room) {
-        Ok(bytes) => Bytes::from_slice(bytes),
-        Err(_) => Bytes::new(),
+        Ok(bytes) => ShortBytes::from_slice(bytes),
+        Err(_) => ShortBytes::new(),
     }
 }
 

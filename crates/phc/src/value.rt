@@ -7,10 +7,10 @@ ghost use Rattle.std.specs.Option.{ok_or};
 ghost use Rattle.std.specs.Result.{result_err};
 ghost use Rattle.phc.specs.Grammar.{decimal_value, has_value_bytes, is_empty, is_plain, is_value_byte, value_fault};
 
-use crate::bytes::Bytes;
 use crate::{Error, Result};
 use base64ct::{Base64Unpadded, Encoding};
 use pieces::begins_with;
+use pieces::short_bytes::ShortBytes;
 use std::fmt;
 
 /// A whole number below 2^32, as a parameter writes it: digits without a leading zero, or `0` alone.
@@ -58,7 +58,7 @@ impl<'a> Value<'a> {
     }
 
     /// The value of these digits.
-    pub(crate) fn of_digits(digits: &'a Bytes<10>) -> Value<'a>
+    pub(crate) fn of_digits(digits: &'a ShortBytes<10>) -> Value<'a>
         requires { list_all is_ascii_digit digits.now ≡ true }
         ensures text { value_text result ≡ digits.now }
     {

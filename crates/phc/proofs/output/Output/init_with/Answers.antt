@@ -26,5 +26,5 @@ returns-clause-filled g c =
       c.call_with.result,
       c.call_with.new.slice,
       record { shown = called.shown; shows = called.shows ∙ zeros_taken c.args.output_size most; left = called.left; met = called.met; leaves = called.leaves },
-      rw c.in_ok-call_with.was (ap Ok (c.from_slice.ensures ∙ take_at _ _ _ (c.call_with.auto.slice ∙ search rules))),
+      rw c.in_ok-call_with.was (ap Ok (c.from_slice.ensures.bytes ∙ take_at _ _ _ (c.call_with.auto.slice ∙ search rules))),
     )
