@@ -43,7 +43,7 @@ whole s id fields delimited cut name good = (rw (delimited, cut, name) good, ap 
 
 -- ---- an identifier alone
 
-identifier_bytes : (id : List ℕ) → is_identifier id ≡ true → list_all is_identifier_byte id ≡ true
+pub identifier_bytes : (id : List ℕ) → is_identifier id ≡ true → list_all is_identifier_byte id ≡ true
 identifier_bytes id h = grind (arith, nat_tests, h)
 
 no_identifier : is_identifier [] ≡ true → ⊥
@@ -59,7 +59,7 @@ fault_identifier (b ∷ id) h =
 
 -- ---- one more field
 
-field_bytes : (b : ℕ) (field : List ℕ) → field_fault (b ∷ field) ≡ None → list_all is_field_byte (b ∷ field) ≡ true
+pub field_bytes : (b : ℕ) (field : List ℕ) → field_fault (b ∷ field) ≡ None → list_all is_field_byte (b ∷ field) ≡ true
 field_bytes b field h = by_test (list_all is_field_byte (b ∷ field)) h
   where
     by_test : (t : Bool) → (if t then None else Some EncodingInvalid) ≡ None → t ≡ true

@@ -1,4 +1,6 @@
+pub mod Ascii
 pub mod Built
+pub mod Pushed
 pub mod ValidTexts
-mod Vectors
 mod FieldBytes
+mod Vectors

@@ -57,7 +57,8 @@ pieces_of_valid (b ∷ s) h =
 
 -- ---- the text of the parts
 
-join-fields : (piece : List ℕ) (fields : List (List ℕ)) → join_with_byte 36 (piece ∷ fields) ≡ piece ++ fields_text fields
+-- pieces joined behind a first one
+pub join-fields : (piece : List ℕ) (fields : List (List ℕ)) → join_with_byte 36 (piece ∷ fields) ≡ piece ++ fields_text fields
 join-fields piece [] = sym (append-nil piece)
 join-fields piece (field ∷ fields) = ap (λ (t : List ℕ). piece ++ 36 ∷ t) (join-fields field fields)
 

@@ -1,4 +1,5 @@
 pub mod Alphabets
 pub mod Grammar
+pub mod Owned
 pub mod Texts
 pub mod Views

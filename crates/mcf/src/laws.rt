@@ -1,6 +1,6 @@
 //! Laws over the definitions.
 
-ghost use Rattle.std.specs.Prelude.{◌≡◌, ℕ, List, [], ◌∷◌, ◌++◌, None, Ok, true};
+ghost use Rattle.std.specs.Prelude.{◌≡◌, ℕ, IsAscii, List, [], ◌∷◌, ◌++◌, None, Ok, true};
 ghost use Rattle.pieces.specs.Pieces.{pieces_at};
 ghost use Rattle.mcf.specs.Grammar.{dollar, fault, field_fault, first_field_fault, is_identifier, mcf, parts, Parts, parts_text, with_dollar, with_field};
 
@@ -35,4 +35,9 @@ pub fn read_back()
 /// A text without a fault is the text of its identifier and fields.
 pub fn written_back()
     ensures text { (s : List ℕ) (p : Parts) → mcf s ≡ Ok p → parts_text p ≡ s }
+{}
+
+/// A text without a fault is ASCII.
+pub fn valid_is_ascii()
+    ensures ascii { (s : List ℕ) → fault s ≡ None → IsAscii s }
 {}

@@ -1,6 +1,10 @@
 //! Rows that say what is refused, texts from outside, and one call of each kind.
 
-use crate::{Base64, DELIMITER, Error, Field, PasswordHashRef, laws};
+ghost use Rattle.std.specs.Prelude.{[], ◌∷◌, true};
+
+use crate::{
+    Base64, DELIMITER, Error, Field, FieldText, PasswordHash, PasswordHashRef, ShowFailed, laws,
+};
 use base64ct::DecodeVecError;
 use std::alloc::{AllocError, Global};
 use std::process::Abort;
@@ -193,7 +197,7 @@ fn encodings(rt: HostRuntime) -> Result<(), AllocError> {
 }
 
 // Errors and what they print.
-const PRINTED: [(Error, &str); 6] = [
+const PRINTED: [(Error, &str); 7] = [
     (
         Error::Base64(base64ct::Error::InvalidLength),
         "invalid Base64 length",
@@ -206,6 +210,7 @@ const PRINTED: [(Error, &str); 6] = [
     ),
     (Error::IdentifierInvalid, "MCF identifier invalid"),
     (Error::OutOfMemory, "out of memory"),
+    (Error::DisplayFailed, "value could not be displayed"),
 ];
 
 #[test]
@@ -228,4 +233,74 @@ fn laws_hold(_rt: HostRuntime) {
     laws::fault_pushed();
     laws::read_back();
     laws::written_back();
+    laws::valid_is_ascii();
+}
+
+// A value that prints as `a`, and whose printing fails.
+#[derive(Drop)]
+struct Mute;
+
+impl FieldText for Mute {
+    ghost shown = { λ _. 97 ∷ [] };
+
+    ghost fails = { λ _. true };
+
+    fn shown_len(&self) -> usize {
+        1
+    }
+
+    fn show(&self, _out: &mut [u8]) -> std::result::Result<(), ShowFailed> {
+        Err(ShowFailed)
+    }
+}
+
+#[test]
+fn pushes(rt: HostRuntime) -> Result<(), AllocError> {
+    let alloc = rt.alloc();
+    let mut hash = PasswordHash::new(alloc, "$6$rounds=100000").expect(&rt, "a password hash");
+    hash.push_base64(
+        b"\x6a\x3f\x23\x79\x88\x12\x6f\x80\x95\x8f\xa2\x4b",
+        Base64::Crypt,
+    )
+    .expect(&rt, "memory");
+    assert_eq!(rt; hash.as_str(), "$6$rounds=100000$exn6tVc2j/MZD8uG");
+    hash.push_base64(&HASH, Base64::Crypt).expect(&rt, "memory");
+    assert!(rt;
+        hash.as_password_hash_ref()
+            == PasswordHashRef::new(PARTS[3].0).expect(&rt, "a password hash")
+    );
+    assert_eq!(rt; hash.id(), "6");
+    assert!(rt; hash.fields().next().is_some());
+
+    let mut hash = PasswordHash::from_id(alloc, "6").expect(&rt, "a password hash");
+    assert!(rt; PasswordHash::from_id(alloc, "-a") == Err(Error::IdentifierInvalid));
+    assert!(rt; PasswordHash::new(alloc, "$6$") == Err(Error::DelimiterInvalid));
+    assert!(rt; hash.push_displayable("$$$") == Err(Error::EncodingInvalid));
+    assert!(rt; hash.push_base64(b"", Base64::B64) == Err(Error::FieldInvalid));
+    assert!(rt; hash.push_str("") == Err(Error::FieldInvalid));
+    assert!(rt; hash.push_displayable(Mute) == Err(Error::DisplayFailed));
+    assert_eq!(rt; hash.as_str(), "$6");
+    hash.push_displayable(100_000u32).expect(&rt, "memory");
+    assert_eq!(rt; hash.as_str(), "$6$100000");
+    hash.push_displayable('x').expect(&rt, "memory");
+    hash.push_displayable(255u8).expect(&rt, "memory");
+    hash.push_displayable(65_535u16).expect(&rt, "memory");
+    hash.push_displayable(0u64).expect(&rt, "memory");
+    hash.push_displayable(7usize).expect(&rt, "memory");
+    let field = Field::new("a").expect(&rt, "a field");
+    hash.push_displayable(field).expect(&rt, "memory");
+    hash.push_field(field).expect(&rt, "memory");
+    assert_eq!(rt; hash.as_str(), "$6$100000$x$255$65535$0$7$a$a");
+
+    let copy = hash.try_clone()?;
+    assert!(rt; copy == hash);
+    let again = hash
+        .as_password_hash_ref()
+        .to_password_hash(alloc)
+        .expect(&rt, "memory");
+    assert!(rt; again == hash);
+    assert!(rt; again.cmp(&hash) == std::cmp::Ordering::Equal);
+    assert_eq!(rt; format!(in alloc; "{}", hash)?.as_str(), hash.as_str());
+    assert_eq!(rt; copy.into_string().as_str(), hash.as_str());
+    Ok(())
 }
