@@ -61,7 +61,7 @@ kept : (n : ℕ) (b bytes : List ℕ) (t : Bool) → (length b == n) ≡ t → (
 kept n b bytes true is h = h
 kept n b bytes false is h = absurd (none_some bytes h)
 
-decoded_of : (n : ℕ) (bytes : List ℕ) (r : Option (List ℕ)) → of_length n r ≡ Some bytes → r ≡ Some bytes
+pub decoded_of : (n : ℕ) (bytes : List ℕ) (r : Option (List ℕ)) → of_length n r ≡ Some bytes → r ≡ Some bytes
 decoded_of n bytes None h = h
 decoded_of n bytes (Some b) h = kept n b bytes (length b == n) refl h
 
@@ -110,7 +110,7 @@ ordered_back n places back bytes lp lb len small undone =
     let in_back : slice_index places k < length back = omega (arith, all_below n places pos small k, lb) in
     sym (get_or-map f back (slice_index places k) 0 0 in_back ∙ ap f (at_undone n k places back undone lt)))
 
-below_map : (places digest : List ℕ) → EachBelow 256 digest → EachBelow 256 (in_order places digest)
+pub below_map : (places digest : List ℕ) → EachBelow 256 digest → EachBelow 256 (in_order places digest)
 below_map [] digest small i = omega arith
 below_map (p ∷ places) digest small zero = small p
 below_map (p ∷ places) digest small (suc i) = below_map places digest small i

@@ -1,6 +1,16 @@
-mod Repeats
-mod Rounds
-mod Vectors
-mod Numbers
-pub mod HashFields
+pub mod Decimals
+pub mod Digests
+mod Drawing
 pub mod Faults
+pub mod HashFields
+mod Joined
+pub mod MadeTexts
+mod Numbers
+mod PrintAnswers
+pub mod Reading
+pub mod Repeats
+pub mod Rounds
+pub mod Shapes
+pub mod Spellings
+mod Utf8
+mod Vectors

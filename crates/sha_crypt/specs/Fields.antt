@@ -1,12 +1,20 @@
--- The fields of a stored text behind its identifier, `[rounds=N$]salt$hash` (Drepper's text, 'Specification'; crypt(5)):
--- the first fault, or rounds, a salt and the text of a hash.
-use Rattle.std.specs.Prelude.{ℕ, ◌+◌, ◌*◌, ◌-◌, ◌^◌, Bool, ◌&&◌, ◌||◌, List, [], ◌∷◌, ◌==◌, nat_lt, nat_le, length, Option, Some, None, Result, Ok, Err, if◌then◌else◌, codes}
+-- The fields of a stored text behind its identifier: the first fault, or a record of them.
+--
+-- Drepper's text 'Unix crypt using SHA-256 and SHA-512' ('Specification', also crypt(5)) fixes the form
+-- `[rounds=N$]salt$hash`, 5,000 rounds where none are named, the range 1,000 to 999,999,999, and that the first 16 bytes
+-- of the salt count. There rounds out of range are clamped, and a longer salt is cut; here both are faults, and so are
+-- rounds that aren't a plain decimal, so that each record has one text. The order of the faults is ours. Earlier texts,
+-- in which the rounds had zeros and one `+` in front and the salt any length, are read by `old_fields`.
+use Rattle.std.specs.Prelude.{ℕ, ◌+◌, ◌*◌, ◌-◌, ◌^◌, Bool, false, true, ◌&&◌, ◌||◌, List, [], ◌∷◌, ◌==◌, nat_eq, nat_lt, nat_le, length, take, Option, Some, None, Result, Ok, Err, if◌then◌else◌, codes}
+use Rattle.std.specs.List.{starts_with}
 use Rattle.std.specs.Str.{all_ascii_digits}
 use Rattle.pieces.specs.Pieces.{behind, is_nil}
 use Rattle.sha_crypt.specs.declared.errors.CheckError.{CheckError}
 use Rattle.sha_crypt.specs.declared.errors.CheckError.TheVariants.{InvalidFormat, Crypt}
 use Rattle.sha_crypt.specs.declared.errors.CryptError.TheVariants.{RoundsError}
-use Rattle.sha_crypt.specs.declared.errors.FormatFault.TheVariants.{NoFields, NoSalt, RoundsNotNumber, NoHash, Trailing, Base64}
+use Rattle.sha_crypt.specs.declared.errors.FormatFault.TheVariants.{NoFields, NoSalt, RoundsNotNumber, NoHash, Trailing, SaltTooLong, Base64}
+
+-- ---- the number of rounds
 
 -- the number that decimal digits write, behind those of n
 abbrev pub number_after : ℕ → List ℕ → ℕ
@@ -17,49 +25,81 @@ number_after n (d ∷ ds) = number_after (n * 10 + (d - 48)) ds
 abbrev pub number_of_digits : List ℕ → Option ℕ
 number_of_digits s = if nat_le 1 (length s) && all_ascii_digits s && nat_lt (number_after 0 s) (2 ^ 64) then Some (number_after 0 s) else None
 
--- a number, with or without one `+` at its front
-abbrev pub number_of : List ℕ → Option ℕ
-number_of [] = None
-number_of (b ∷ s) = if b == 43 then number_of_digits s else number_of_digits (b ∷ s)
+-- a zero stands before further digits
+abbrev pub has_leading_zero : List ℕ → Bool
+has_leading_zero s = nat_lt 1 (length s) && starts_with nat_eq s (codes "0")
 
--- rounds, a salt and the text of a hash
+-- a plain decimal: digits, without a leading zero unless it is `0` alone
+abbrev pub plain_number : List ℕ → Option ℕ
+plain_number s = if has_leading_zero s then None else number_of_digits s
+
+-- earlier: digits, with or without zeros and one `+` in front
+abbrev pub old_number : List ℕ → Option ℕ
+old_number [] = None
+old_number (b ∷ s) = if b == 43 then number_of_digits s else number_of_digits (b ∷ s)
+
+-- ---- the fields by their form
+
+-- rounds, whether they are written, a salt and the text of a hash
 pub record ShaFields : Type 0 where
   pub rounds : ℕ
+  pub written : Bool
   pub salt : List ℕ
   pub hash : List ℕ
 
 -- the rounds are in range
-abbrev pub within : ℕ → List ℕ → List ℕ → Result ShaFields CheckError
-within rounds salt hash =
+abbrev pub within : ℕ → Bool → List ℕ → List ℕ → Result ShaFields CheckError
+within rounds written salt hash =
     if nat_lt rounds 1000 || nat_lt 999999999 rounds then Err (Crypt RoundsError)
-    else Ok (record { rounds = rounds; salt = salt; hash = hash })
+    else Ok (record { rounds = rounds; written = written; salt = salt; hash = hash })
 
 -- from the salt on: exactly a salt and a hash
-abbrev pub from_salt : ℕ → List (List ℕ) → Result ShaFields CheckError
-from_salt rounds [] = Err (InvalidFormat NoSalt)
-from_salt rounds (salt ∷ []) = Err (InvalidFormat NoHash)
-from_salt rounds (salt ∷ (hash ∷ more)) = if is_nil more then within rounds salt hash else Err (InvalidFormat Trailing)
+abbrev pub from_salt : ℕ → Bool → List (List ℕ) → Result ShaFields CheckError
+from_salt rounds written [] = Err (InvalidFormat NoSalt)
+from_salt rounds written (salt ∷ []) = Err (InvalidFormat NoHash)
+from_salt rounds written (salt ∷ (hash ∷ more)) = if is_nil more then within rounds written salt hash else Err (InvalidFormat Trailing)
 
 -- behind a piece that gives the rounds
 abbrev pub with_rounds : Option ℕ → List (List ℕ) → Result ShaFields CheckError
 with_rounds None pieces = Err (InvalidFormat RoundsNotNumber)
-with_rounds (Some rounds) pieces = from_salt rounds pieces
+with_rounds (Some rounds) pieces = from_salt rounds true pieces
 
--- by what stands behind `rounds=` in the first piece
-abbrev pub by_rounds : Option (List ℕ) → List ℕ → List (List ℕ) → Result ShaFields CheckError
-by_rounds None first pieces = from_salt 5000 (first ∷ pieces)
-by_rounds (Some digits) first pieces = if is_nil pieces then Err (InvalidFormat NoSalt) else with_rounds (number_of digits) pieces
+-- by what stands behind `rounds=` in the first piece; `number` reads the rounds
+abbrev pub by_rounds : (List ℕ → Option ℕ) → Option (List ℕ) → List ℕ → List (List ℕ) → Result ShaFields CheckError
+by_rounds number None first pieces = from_salt 5000 false (first ∷ pieces)
+by_rounds number (Some digits) first pieces = if is_nil pieces then Err (InvalidFormat NoSalt) else with_rounds (number digits) pieces
 
--- the fields by their form: all faults but the last
-abbrev pub by_form : List (List ℕ) → Result ShaFields CheckError
-by_form [] = Err (InvalidFormat NoFields)
-by_form (first ∷ pieces) = by_rounds (behind first (codes "rounds=")) first pieces
+-- the fields by their form: all faults but those of the salt's length and of the hash
+abbrev pub by_form : (List ℕ → Option ℕ) → List (List ℕ) → Result ShaFields CheckError
+by_form number [] = Err (InvalidFormat NoFields)
+by_form number (first ∷ pieces) = by_rounds number (behind first (codes "rounds=")) first pieces
 
--- the last fault: the text of the hash is the hash field of no digest
+-- ---- the last faults
+
+-- the salt has at most 16 bytes
+abbrev pub short_salt : Result ShaFields CheckError → Result ShaFields CheckError
+short_salt (Err e) = Err e
+short_salt (Ok f) = if nat_lt 16 (length f.salt) then Err (InvalidFormat SaltTooLong) else Ok f
+
+-- the text of the hash is a hash field
 abbrev pub tested : (List ℕ → Bool) → Result ShaFields CheckError → Result ShaFields CheckError
 tested is_hash_field (Err e) = Err e
 tested is_hash_field (Ok f) = if is_hash_field f.hash then Ok f else Err (InvalidFormat Base64)
 
+-- all faults but the last
+abbrev pub formed : List (List ℕ) → Result ShaFields CheckError
+formed pieces = short_salt (by_form plain_number pieces)
+
 -- the fields behind the identifier, or their first fault; `is_hash_field` tells the hash fields
 unfoldable pub sha_fields : (List ℕ → Bool) → List (List ℕ) → Result ShaFields CheckError
-sha_fields is_hash_field pieces = tested is_hash_field (by_form pieces)
+sha_fields is_hash_field pieces = tested is_hash_field (formed pieces)
+
+-- ---- earlier texts
+
+-- the same with the rounds as they once could be written, and a salt of any length
+unfoldable pub old_fields : (List ℕ → Bool) → List (List ℕ) → Result ShaFields CheckError
+old_fields is_hash_field pieces = tested is_hash_field (by_form old_number pieces)
+
+-- the fields with the bytes of the salt that count
+abbrev pub cut_salt : ShaFields → ShaFields
+cut_salt f = record f { salt = take 16 f.salt }

@@ -1,8 +1,12 @@
+pub mod Check
 pub mod Digest
+pub mod Families
+pub mod Fields
 pub mod Fronts
 pub mod HashField
-pub mod Fields
-pub mod Check
-pub mod Families
+pub mod Lent
+pub mod RecordViews
+pub mod Records
+pub mod Simple
 pub mod Texts
 pub mod Views

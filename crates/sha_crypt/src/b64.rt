@@ -37,7 +37,9 @@ pub(crate) fn counted_bytes<const N: usize>(text: &[u8], counts: &mut Counts) ->
     ensures bytes { result ≡ field_bytes N text.now }
     ensures looks { OnSome result (counts.new.looks ≡ counts.old.looks + (4 * (unpadded_len N / 4) + 4)) }
     ensures sames { OnSome result (counts.new.sames ≡ counts.old.sames + 4) }
+    ensures looks_stay { counts.old.looks ≤ counts.new.looks }
     ensures most_looks { counts.new.looks ≤ counts.old.looks + (4 * (unpadded_len N / 4) + 4) }
+    ensures sames_stay { counts.old.sames ≤ counts.new.sames }
     ensures most_sames { counts.new.sames ≤ counts.old.sames + 4 }
 {
     if !has_field_length(text, N) {

@@ -3,10 +3,9 @@
 ghost use Rattle.std.specs.Prelude.{◌≡◌, ℕ, ◌+◌, ◌*◌, ◌^◌, ◌<◌, ◌≤◌, List, [], ◌++◌, length, take};
 ghost use Rattle.sha_crypt.specs.Digest.{by_digits, copies, repeated_to, sha_crypt_digest, start_digest};
 
+use crate::SALT_MAX_LEN;
 use crate::hasher::Hasher;
 use crate::turns::after_rounds;
-
-const SALT_LEN: usize = 16;
 
 // Feeds `piece` `count` times.
 fn feed_copies<const N: usize, H: Hasher<N>>(hasher: &mut H, piece: &[u8], count: usize)
@@ -56,8 +55,8 @@ fn used_salt(salt: &[u8]) -> &[u8]
     ensures value { result.now ≡ take 16 salt.now }
     ensures short { length result.now ≤ 16 }
 {
-    if salt.len() > SALT_LEN {
-        &salt[..SALT_LEN]
+    if salt.len() > SALT_MAX_LEN {
+        &salt[..SALT_MAX_LEN]
     } else {
         salt
     }

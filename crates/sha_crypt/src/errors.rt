@@ -7,11 +7,13 @@ ghost use Rattle.sha_crypt.specs.Texts.{fault_text};
 
 use std::fmt;
 
-/// Why no parameters were made.
+/// Why no parameters, or no text, were made.
 #[derive(Clone, Debug, PartialEq, Eq, Drop)]
 pub enum CryptError {
     /// The rounds are outside 1,000 to 999,999,999.
-    RoundsError,
+    RoundsError = 1,
+    /// There was no memory for the text.
+    OutOfMemory,
 }
 
 /// Why a check of a password did not pass.
@@ -40,18 +42,20 @@ pub enum FormatFault {
     NoFields,
     /// A piece that names the rounds, and none behind it.
     NoSalt,
-    /// What names the rounds isn't a number below 2^64, with or without one `+` before it.
+    /// What names the rounds isn't a plain decimal below 2^64: digits, without a leading zero unless it is `0` alone.
     RoundsNotNumber,
     /// No piece follows the salt.
     NoHash,
     /// A piece follows the hash.
     Trailing,
+    /// The salt has more than 16 bytes.
+    SaltTooLong,
     /// The last piece is the hash field of no digest.
     Base64,
 }
 
 /// One of the two families.
-#[derive(Clone, Debug, PartialEq, Eq, Drop)]
+#[derive(Clone, Copy, Debug, PartialEq, Eq)]
 pub enum Family {
     /// SHA-256-crypt, with the identifier `5`.
     Sha256,
@@ -78,6 +82,7 @@ impl fmt::Display for FormatFault {
             FormatFault::RoundsNotNumber => f.write_str("rounds= specifier need to be a number"),
             FormatFault::NoHash => f.write_str("Does not contain a hash string"),
             FormatFault::Trailing => f.write_str("Trailing characters present"),
+            FormatFault::SaltTooLong => f.write_str("salt too long (maximum 16 bytes)"),
             FormatFault::Base64 => f.write_str("invalid B64"),
         }
     }

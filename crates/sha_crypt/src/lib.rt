@@ -4,13 +4,15 @@
 //! Nothing here takes memory. One body serves both hash functions.
 #![tactic(auto)]
 
-ghost use Rattle.std.specs.Prelude.{◌≡◌, ◌≤◌, ◌+◌, ◌^◌, ◌<◌, ℕ, List, MatchResult, false, length, true};
+ghost use Rattle.std.specs.Prelude.{◌≡◌, ◌≤◌, ◌+◌, ◌^◌, ◌<◌, ℕ, List, IfOk, IsOkUnless, MatchResult, false, length, string_bytes, true};
+ghost use Rattle.rand_core.specs.Stream.{Stream};
 ghost use Rattle.sha2.specs.Sha256.{sha256};
 ghost use Rattle.sha2.specs.Sha512.{sha512};
 ghost use Rattle.sha_crypt.specs.Check.{is_verdict};
 ghost use Rattle.sha_crypt.specs.Digest.{sha_crypt_digest};
 ghost use Rattle.sha_crypt.specs.Families.{sha256_answer, sha512_answer};
 ghost use Rattle.sha_crypt.specs.HashField.{hash_field, IsHashFieldOf};
+ghost use Rattle.sha_crypt.specs.Simple.{characters, sha256_text, sha512_text};
 
 mod b64;
 mod check;
@@ -20,7 +22,11 @@ mod errors;
 mod fields;
 mod hasher;
 pub mod laws;
+mod lent;
+mod old;
 mod params;
+mod record;
+mod simple;
 #[cfg(test)]
 mod tests;
 mod turns;
@@ -32,8 +38,13 @@ pub use defs::{
 };
 use defs::{BACK_SHA256, BACK_SHA512};
 pub use errors::{CheckError, CryptError, DecodeError, Family, FormatFault};
+pub use old::old_record;
 pub use params::{ROUNDS_DEFAULT, ROUNDS_MAX, ROUNDS_MIN, Sha256Params, Sha512Params};
+use rand_core::Rng;
+pub use record::ShaRecord;
 use sha2::{Sha256, Sha512};
+pub use simple::random_characters;
+use std::alloc::Global;
 
 /// The SHA-256-crypt digest of a password and a salt, of which the first 16 bytes count.
 ///
@@ -45,10 +56,44 @@ pub fn sha256_crypt(password: &[u8], salt: &[u8], params: &Sha256Params) -> [u8;
     digest::sha_crypt_digest::<32, Sha256>(password, salt, params.rounds())
 }
 
+/// The hash field of the SHA-256-crypt digest of a password and a salt: 43 characters. `OutOfMemory` may come in
+/// its place.
+pub fn sha256_crypt_b64(
+    alloc: Global,
+    password: &[u8],
+    salt: &[u8],
+    params: &Sha256Params,
+) -> Result<String, CryptError>
+    requires short { length password.now < 2 ^ 30 }
+    ensures field { IfOk result (λ t. string_bytes t
+        ≡ hash_field MAP_SHA256 (sha_crypt_digest sha256 password.now salt.now params.now)) }
+    ensures fault { IsOkUnless result CryptError.OutOfMemory }
+{
+    simple::crypt_b64::<32, Sha256>(alloc, &MAP_SHA256, password, salt, params.rounds())
+}
+
+/// The SHA-256-crypt text of a password, `$id$[rounds=N$]salt$hash`, with a salt of the characters of the next 16
+/// words of a generator. `rounds=N$` stands there for other rounds than 5,000. `OutOfMemory` may come in its place.
+#[tactic(auto, unfolding(crate::specs::Records::record_text))]
+pub fn sha256_simple<R: Rng>(
+    alloc: Global,
+    rng: &mut R,
+    password: &str,
+    params: &Sha256Params,
+) -> Result<String, CryptError>
+    requires short { length password.now < 2 ^ 30 }
+    ensures text { IfOk result (λ t. string_bytes t
+        ≡ sha256_text password.now (characters 16 (R.stream rng.old)).0 params.now) }
+    ensures stream { R.stream rng.new ≡ (characters 16 (R.stream rng.old)).1 }
+    ensures fault { IsOkUnless result CryptError.OutOfMemory }
+{
+    simple::crypt_simple::<32, Sha256, R>(alloc, rng, "5", &MAP_SHA256, password, params.rounds())
+}
+
 /// Checks a password against a SHA-256-crypt text `$5$[rounds=N$]salt$hash`.
 ///
 /// The first fault of the text is answered, in the order of `FormatFault` with the rounds out of range before
-/// `Base64`, and else `HashMismatch` for another password.
+/// `SaltTooLong`, and else `HashMismatch` for another password.
 pub fn sha256_check(password: &str, hashed_value: &str) -> Result<(), CheckError>
     requires short { length password.now < 2 ^ 30 }
     ensures answer { result ≡ sha256_answer password.now hashed_value.now }
@@ -57,7 +102,8 @@ pub fn sha256_check(password: &str, hashed_value: &str) -> Result<(), CheckError
     sha256_check_counted(password, hashed_value, &mut counts)
 }
 
-/// The same check, whose look-ups and comparisons of secret bytes are counted.
+/// The same check. On a verdict it adds 44 look-ups and 36 comparisons of secret bytes to the counts; on a fault at most
+/// 44 and 4.
 pub fn sha256_check_counted(
     password: &str,
     hashed_value: &str,
@@ -69,7 +115,9 @@ pub fn sha256_check_counted(
     ensures answer { result ≡ sha256_answer password.now hashed_value.now }
     ensures looks { is_verdict result ≡ true → counts.new.looks ≡ counts.old.looks + 44 }
     ensures sames { is_verdict result ≡ true → counts.new.sames ≡ counts.old.sames + 36 }
+    ensures looks_stay { counts.old.looks ≤ counts.new.looks }
     ensures most_looks { counts.new.looks ≤ counts.old.looks + 44 }
+    ensures sames_stay { counts.old.sames ≤ counts.new.sames }
     ensures most_sames { is_verdict result ≡ false → counts.new.sames ≤ counts.old.sames + 4 }
 {
     let password = password.as_bytes();
@@ -109,10 +157,44 @@ pub fn sha512_crypt(password: &[u8], salt: &[u8], params: &Sha512Params) -> [u8;
     digest::sha_crypt_digest::<64, Sha512>(password, salt, params.rounds())
 }
 
+/// The hash field of the SHA-512-crypt digest of a password and a salt: 86 characters. `OutOfMemory` may come in
+/// its place.
+pub fn sha512_crypt_b64(
+    alloc: Global,
+    password: &[u8],
+    salt: &[u8],
+    params: &Sha512Params,
+) -> Result<String, CryptError>
+    requires short { length password.now < 2 ^ 30 }
+    ensures field { IfOk result (λ t. string_bytes t
+        ≡ hash_field MAP_SHA512 (sha_crypt_digest sha512 password.now salt.now params.now)) }
+    ensures fault { IsOkUnless result CryptError.OutOfMemory }
+{
+    simple::crypt_b64::<64, Sha512>(alloc, &MAP_SHA512, password, salt, params.rounds())
+}
+
+/// The SHA-512-crypt text of a password, `$id$[rounds=N$]salt$hash`, with a salt of the characters of the next 16
+/// words of a generator. `rounds=N$` stands there for other rounds than 5,000. `OutOfMemory` may come in its place.
+#[tactic(auto, unfolding(crate::specs::Records::record_text))]
+pub fn sha512_simple<R: Rng>(
+    alloc: Global,
+    rng: &mut R,
+    password: &str,
+    params: &Sha512Params,
+) -> Result<String, CryptError>
+    requires short { length password.now < 2 ^ 30 }
+    ensures text { IfOk result (λ t. string_bytes t
+        ≡ sha512_text password.now (characters 16 (R.stream rng.old)).0 params.now) }
+    ensures stream { R.stream rng.new ≡ (characters 16 (R.stream rng.old)).1 }
+    ensures fault { IsOkUnless result CryptError.OutOfMemory }
+{
+    simple::crypt_simple::<64, Sha512, R>(alloc, rng, "6", &MAP_SHA512, password, params.rounds())
+}
+
 /// Checks a password against a SHA-512-crypt text `$6$[rounds=N$]salt$hash`.
 ///
 /// The first fault of the text is answered, in the order of `FormatFault` with the rounds out of range before
-/// `Base64`, and else `HashMismatch` for another password.
+/// `SaltTooLong`, and else `HashMismatch` for another password.
 pub fn sha512_check(password: &str, hashed_value: &str) -> Result<(), CheckError>
     requires short { length password.now < 2 ^ 30 }
     ensures answer { result ≡ sha512_answer password.now hashed_value.now }
@@ -121,7 +203,8 @@ pub fn sha512_check(password: &str, hashed_value: &str) -> Result<(), CheckError
     sha512_check_counted(password, hashed_value, &mut counts)
 }
 
-/// The same check, whose look-ups and comparisons of secret bytes are counted.
+/// The same check. On a verdict it adds 88 look-ups and 68 comparisons of secret bytes to the counts; on a fault at most
+/// 88 and 4.
 pub fn sha512_check_counted(
     password: &str,
     hashed_value: &str,
@@ -133,7 +216,9 @@ pub fn sha512_check_counted(
     ensures answer { result ≡ sha512_answer password.now hashed_value.now }
     ensures looks { is_verdict result ≡ true → counts.new.looks ≡ counts.old.looks + 88 }
     ensures sames { is_verdict result ≡ true → counts.new.sames ≡ counts.old.sames + 68 }
+    ensures looks_stay { counts.old.looks ≤ counts.new.looks }
     ensures most_looks { counts.new.looks ≤ counts.old.looks + 88 }
+    ensures sames_stay { counts.old.sames ≤ counts.new.sames }
     ensures most_sames { is_verdict result ≡ false → counts.new.sames ≤ counts.old.sames + 4 }
 {
     let password = password.as_bytes();

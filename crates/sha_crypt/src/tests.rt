@@ -2,10 +2,13 @@
 
 use crate::{
     CheckError, CryptError, DecodeError, Family, FormatFault, Sha256Params, Sha512Params,
-    decode_sha256, decode_sha512, encode_sha256, encode_sha512, sha256_check, sha256_check_counted,
-    sha256_crypt, sha512_check, sha512_check_counted, sha512_crypt,
+    ShaRecord, decode_sha256, decode_sha512, encode_sha256, encode_sha512, laws, old_record,
+    sha256_check, sha256_check_counted, sha256_crypt, sha256_crypt_b64, sha256_simple,
+    sha512_check, sha512_check_counted, sha512_crypt, sha512_crypt_b64, sha512_simple,
 };
 use base64ct::Counts;
+use rand_chacha::ChaCha20Rng;
+use rand_core::SeedableRng;
 use std::process::Abort;
 use std::test::Fail;
 
@@ -67,7 +70,7 @@ const MATCHES: [(&str, &str, bool); 8] = [
     ),
     (
         "Hello world!",
-        "$5$rounds=+05000$saltstring$5B8vYYiY.CVt1RlTTf8KbXBH3hsxY/GNooZaBBGWEc5",
+        "$5$rounds=5000$saltstring$5B8vYYiY.CVt1RlTTf8KbXBH3hsxY/GNooZaBBGWEc5",
         true,
     ),
     (
@@ -77,7 +80,7 @@ const MATCHES: [(&str, &str, bool); 8] = [
     ),
     (
         "This is just a test",
-        "$5$toolongsaltstring$Un/5jzAHMgOGZ5.mWJpuVolil07guHPvOW8mGRcvxa5",
+        "$5$toolongsaltstrin$Un/5jzAHMgOGZ5.mWJpuVolil07guHPvOW8mGRcvxa5",
         true,
     ),
     (
@@ -87,23 +90,23 @@ const MATCHES: [(&str, &str, bool); 8] = [
     ),
     (
         "This is just a test",
-        "$6$rounds=5000$toolongsaltstring$lQ8jolhgVRVhY4b5pZKaysCLi0QBxGoNeKQzQ3glMhwllF7oGDZxUhx1yxdYcz/e1JSbq3y6JMxxl8audkUEm0",
+        "$6$rounds=5000$toolongsaltstrin$lQ8jolhgVRVhY4b5pZKaysCLi0QBxGoNeKQzQ3glMhwllF7oGDZxUhx1yxdYcz/e1JSbq3y6JMxxl8audkUEm0",
         false,
     ),
     (
         "a very much longer text to encrypt.  This one even stretches over morethan one line.",
-        "$5$rounds=1400$anotherlongsaltstring$Rx.j8H.h8HjEDGomFU8bDkXm3XIUnzyxf12oP84Bnq1",
+        "$5$rounds=1400$anotherlongsalts$Rx.j8H.h8HjEDGomFU8bDkXm3XIUnzyxf12oP84Bnq1",
         true,
     ),
     (
         "a very much longer text to encrypt.  This one even stretches over morethan one line.",
-        "$6$rounds=1400$anotherlongsaltstring$POfYwTEok97VWcjxIiSOjiykti.o/pQs.wPvMxQ6Fm7I6IoYN3CmLs66x9t0oSwbtEW7o7UmJEiDwGqd8p4ur1",
+        "$6$rounds=1400$anotherlongsalts$POfYwTEok97VWcjxIiSOjiykti.o/pQs.wPvMxQ6Fm7I6IoYN3CmLs66x9t0oSwbtEW7o7UmJEiDwGqd8p4ur1",
         false,
     ),
 ];
 
 // A text that `sha256_check` refuses for `Hello world!`, and the answer.
-const REFUSED_256: [(&str, CheckError); 14] = [
+const REFUSED_256: [(&str, CheckError); 20] = [
     ("x", CheckError::InvalidFormat(FormatFault::NoDollar)),
     (
         "",
@@ -121,6 +124,30 @@ const REFUSED_256: [(&str, CheckError); 14] = [
     (
         "$5$rounds=++5000$s$x",
         CheckError::InvalidFormat(FormatFault::RoundsNotNumber),
+    ),
+    (
+        "$5$rounds=+05000$saltstring$5B8vYYiY.CVt1RlTTf8KbXBH3hsxY/GNooZaBBGWEc5",
+        CheckError::InvalidFormat(FormatFault::RoundsNotNumber),
+    ),
+    (
+        "$5$rounds=01000$s$x",
+        CheckError::InvalidFormat(FormatFault::RoundsNotNumber),
+    ),
+    (
+        "$5$rounds=0$s$x",
+        CheckError::Crypt(CryptError::RoundsError),
+    ),
+    (
+        "$5$saltstringsaltstr$x",
+        CheckError::InvalidFormat(FormatFault::SaltTooLong),
+    ),
+    (
+        "$5$rounds=999$saltstringsaltstr$x",
+        CheckError::Crypt(CryptError::RoundsError),
+    ),
+    (
+        "$5$toolongsaltstring$Un/5jzAHMgOGZ5.mWJpuVolil07guHPvOW8mGRcvxa5",
+        CheckError::InvalidFormat(FormatFault::SaltTooLong),
     ),
     (
         "$5$rounds=18446744073709551616$s",
@@ -290,10 +317,146 @@ fn texts_of_the_faults(rt: HostRuntime) -> Result<(), Fail> {
         ),
         (FormatFault::NoHash, "Does not contain a hash string"),
         (FormatFault::Trailing, "Trailing characters present"),
+        (FormatFault::SaltTooLong, "salt too long (maximum 16 bytes)"),
         (FormatFault::Base64, "invalid B64"),
     ] {
         assert_eq!(rt; format!(in rt.alloc(); "{fault}")?.as_str(), text);
     }
     assert!(rt; CheckError::from(DecodeError) == CheckError::InvalidFormat(FormatFault::Base64));
     Ok(())
+}
+
+// An earlier text of `$5$`, and the text of its record.
+const EARLIER_TEXTS: [(&str, &str); 4] = [
+    (
+        "$5$rounds=+05000$saltstring$5B8vYYiY.CVt1RlTTf8KbXBH3hsxY/GNooZaBBGWEc5",
+        "$5$rounds=5000$saltstring$5B8vYYiY.CVt1RlTTf8KbXBH3hsxY/GNooZaBBGWEc5",
+    ),
+    (
+        "$5$rounds=0010000$saltstringsaltstring$3xv.VbSHBb41AL9AvLeujZkZRBAwqFMz2.opqey6IcA",
+        "$5$rounds=10000$saltstringsaltst$3xv.VbSHBb41AL9AvLeujZkZRBAwqFMz2.opqey6IcA",
+    ),
+    (
+        "$5$toolongsaltstring$Un/5jzAHMgOGZ5.mWJpuVolil07guHPvOW8mGRcvxa5",
+        "$5$toolongsaltstrin$Un/5jzAHMgOGZ5.mWJpuVolil07guHPvOW8mGRcvxa5",
+    ),
+    (
+        "$5$saltstring$5B8vYYiY.CVt1RlTTf8KbXBH3hsxY/GNooZaBBGWEc5",
+        "$5$saltstring$5B8vYYiY.CVt1RlTTf8KbXBH3hsxY/GNooZaBBGWEc5",
+    ),
+];
+
+#[test]
+fn earlier_texts_written_anew(rt: HostRuntime) -> Result<(), Fail> {
+    for (earlier, today) in EARLIER_TEXTS {
+        assert!(rt; earlier.is_ascii());
+        let record = old_record(earlier, Family::Sha256).ok_or("a record")?;
+        assert_eq!(rt; format!(in rt.alloc(); "{record}")?.as_str(), today);
+        let mut room = [b'x'; 100];
+        let len = today.len();
+        assert!(rt; 0 < len && len <= 100);
+        assert!(rt; record.print_into(&mut room) == Ok(today));
+        assert!(rt; record.print_into(&mut room[..len]) == Ok(today));
+        assert!(rt; record.print_to(&mut room[..len]) == Ok(len));
+        assert!(rt; record.print_into(&mut room[..len - 1]).is_err());
+        let Ok(again) = ShaRecord::new(today, Family::Sha256) else {
+            panic!(rt; "a text of today")
+        };
+        assert_eq!(rt; format!(in rt.alloc(); "{again}")?.as_str(), today);
+        assert_eq!(rt; again.rounds_written(), record.rounds_written());
+    }
+    for text in ["$5$rounds=999$s$x", "$6$s$x", "x", "$5$a$b$c"] {
+        assert!(rt; text.is_ascii());
+        assert!(rt; old_record(text, Family::Sha256).is_none(), "{text:?}");
+    }
+    Ok(())
+}
+
+#[test]
+fn records_of_texts(rt: HostRuntime) {
+    let text =
+        "$6$rounds=1400$anotherlongsalts$POfYwTEok97VWcjxIiSOjiykti.o/pQs.wPvMxQ6Fm7I6IoYN3CmLs66x9t0oSwbtEW7o7UmJEiDwGqd8p4ur1";
+    let Ok(record) = ShaRecord::new(text, Family::Sha512) else {
+        panic!(rt; "a text")
+    };
+    assert!(rt; record.family() == Family::Sha512);
+    assert_eq!(rt; record.rounds(), 1_400);
+    assert!(rt; record.rounds_written());
+    assert_eq!(rt; record.salt(), "anotherlongsalts");
+    assert_eq!(rt;
+        record.hash(),
+        "POfYwTEok97VWcjxIiSOjiykti.o/pQs.wPvMxQ6Fm7I6IoYN3CmLs66x9t0oSwbtEW7o7UmJEiDwGqd8p4ur1"
+    );
+    for (text, error) in REFUSED_256 {
+        if error != CheckError::HashMismatch {
+            assert!(rt;
+                ShaRecord::new(text, Family::Sha256).err() == Some(error),
+                "{text:?}"
+            );
+        }
+    }
+}
+
+#[test]
+fn hash_fields_of_passwords(rt: HostRuntime) {
+    let alloc = rt.alloc();
+    let field = sha256_crypt_b64(
+        alloc,
+        b"Hello world!",
+        b"saltstring",
+        &Sha256Params::default(),
+    )
+    .expect(&rt, "memory");
+    assert_eq!(rt;
+        field.as_str(),
+        "5B8vYYiY.CVt1RlTTf8KbXBH3hsxY/GNooZaBBGWEc5"
+    );
+    let field = sha512_crypt_b64(
+        alloc,
+        b"Hello world!",
+        b"saltstring",
+        &Sha512Params::default(),
+    )
+    .expect(&rt, "memory");
+    assert_eq!(rt;
+        field.as_str(),
+        "svn8UoSVapNtMuq1ukKS4tPQd8iKwSMHWjl/O817G3uBnIFNjnQJuesI68u4OTLiBFdcbYEdFCoEOfaS35inz1"
+    );
+}
+
+// The texts are those of libxcrypt for the salts that a program of its own took from the stream of ChaCha20 under a key
+// of zeros.
+#[test]
+fn texts_from_a_generator(rt: HostRuntime) {
+    let alloc = rt.alloc();
+    let mut rng = ChaCha20Rng::from_seed([0; 32]);
+    let params = Sha256Params::new(1_000).expect(&rt, "rounds");
+    let text = sha256_simple(alloc, &mut rng, "Hello world!", &params).expect(&rt, "memory");
+    assert_eq!(rt;
+        text.as_str(),
+        "$5$rounds=1000$fYt8i4nlTXDBx5OV$w/AyiZnXAglKF/2HClJ8xgUvyw4lEVtRWtjuh8fq132"
+    );
+    assert_eq!(rt; text.len(), 75);
+    assert!(rt; sha256_check("Hello world!", text.as_str()).is_ok());
+    let text = sha512_simple(alloc, &mut rng, "Hello world!", &Sha512Params::default()).expect(
+        &rt, "memory",
+    );
+    assert_eq!(rt;
+        text.as_str(),
+        "$6$jST1cODvREgp8F5P$SrpIHYgI8oI0D5FxsQyOK.hTTHPBvzAGwafkyltGIYy2WZbIzRe9geqiDJLYg6JrFS.TiU06LRDL4Xk8wRwDT/"
+    );
+    assert_eq!(rt; text.len(), 106);
+    assert!(rt; sha512_check("Hello world!", text.as_str()).is_ok());
+    laws::simple_matches();
+}
+
+#[test]
+fn laws_hold(rt: HostRuntime) {
+    laws::hash_field_of_some_digest();
+    laws::hash_field_once();
+    laws::one_text();
+    laws::earlier_texts();
+    laws::salt_bytes_that_count();
+    assert!(rt; laws::round_trip_sha256(&[7; 32]) == Ok([7; 32]));
+    assert!(rt; laws::round_trip_sha512(&[7; 64]) == Ok([7; 64]));
 }
