@@ -1,5 +1,5 @@
 -- Laws over the definitions.
-use Rattle.std.specs.Prelude.{◌≡◌, ℕ, ◌≤◌, List, length, take}
+use Rattle.std.specs.Prelude.{◌≡◌, ℕ, ◌≤◌, ◌<◌, List, length, slice_index, take}
 use Rattle.scrypt_plain.specs.Hmac.{hmac, block_key}
 use Rattle.scrypt_plain.specs.Scrypt.{scrypt}
 
@@ -21,3 +21,11 @@ abbrev pub ShorterKey : Type 0
 ShorterKey =
     (password salt : List ℕ) (n r p short long : ℕ) → short ≤ long
     → scrypt password salt n r p short ≡ take short (scrypt password salt n r p long)
+
+-- each number of a list is that of a byte
+abbrev pub AreBytes : List ℕ → Type 0
+AreBytes xs = (i : ℕ) → slice_index xs i < 256
+
+-- a key is a list of bytes
+abbrev pub KeyBytes : Type 0
+KeyBytes = (password salt : List ℕ) (n r p dk_len : ℕ) → AreBytes (scrypt password salt n r p dk_len)

@@ -1,5 +1,5 @@
 -- The PHC records for which scrypt derives a key (a profile of this crate's own), and that key.
-use Rattle.std.specs.Prelude.{ℕ, ◌*◌, ◌^◌, Bool, false, ◌&&◌, List, nat_eq, nat_lt, nat_le, ◌==◌, length, replicate, Option, Some, None, is_none, codes}
+use Rattle.std.specs.Prelude.{ℕ, ◌*◌, ◌^◌, Bool, true, false, ◌&&◌, List, nat_eq, nat_lt, nat_le, ◌==◌, length, replicate, Option, Some, None, is_none, codes}
 use Rattle.std.specs.Option.{option_and_then}
 use Rattle.std.specs.Cmp.Lexicographic.{pointwise}
 use Rattle.phc.specs.Grammar.{decimal_value}
@@ -45,3 +45,17 @@ key_at (Some cost) password salt n = scrypt password salt (2 ^ cost.ln) cost.r c
 -- the key of n bytes for a record
 unfoldable pub scrypt_key : List ℕ → PasswordHash → List ℕ → ℕ → List ℕ
 scrypt_key password parsed salt n = key_at (cost_of parsed) password salt n
+
+-- ---- what a verdict takes from scrypt, whichever of its two forms derives the key
+
+-- the records that it takes, whatever their salt
+abbrev pub accepted : PasswordHash → List ℕ → ℕ → Bool
+accepted parsed salt n = scrypt_accepts parsed n
+
+-- memory may be wanting for each of them
+abbrev pub needs_memory : PasswordHash → Bool
+needs_memory parsed = true
+
+-- their keys
+abbrev pub key : List ℕ → PasswordHash → List ℕ → ℕ → List ℕ
+key password parsed salt n = scrypt_key password parsed salt n

@@ -1,6 +1,6 @@
 //! Laws over the definitions.
 
-ghost use Rattle.scrypt_plain.specs.Laws.{BlockKeyLength, CodeLength, KeyLength, ShorterKey};
+ghost use Rattle.scrypt_plain.specs.Laws.{BlockKeyLength, CodeLength, KeyBytes, KeyLength, ShorterKey};
 
 /// A code of HMAC-SHA-256 has 32 bytes.
 pub fn code_length()
@@ -20,4 +20,9 @@ pub fn key_length()
 /// A shorter key of scrypt is the beginning of a longer one.
 pub fn shorter_key()
     ensures { ShorterKey }
+{}
+
+/// A key of scrypt is a list of bytes: as a definition it is one of numbers, and each of these is below 256.
+pub fn key_bytes()
+    ensures { KeyBytes }
 {}

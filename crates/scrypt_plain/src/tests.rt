@@ -1,7 +1,7 @@
 //! Vectors of RFC 7914, section 12, and of RFC 4231.
 
 use crate::hmac::{HmacSha256, block_key, hmac};
-use crate::{ScryptPlain, bytes, in_bounds, laws, scrypt, scrypt_in, work_len};
+use crate::{ScryptKept, ScryptPlain, bytes, in_bounds, laws, scrypt, scrypt_in, work_len};
 use phc::PasswordHash;
 use std::test::Fail;
 use stored_check::PhcKdf;
@@ -139,6 +139,7 @@ fn laws_stand(_rt: HostRuntime) {
     laws::block_key_length();
     laws::key_length();
     laws::shorter_key();
+    laws::key_bytes();
 }
 
 // A record, the bytes of a hash, and whether it is taken.
@@ -182,5 +183,42 @@ fn key_of_a_record(rt: HostRuntime) -> Result<(), Fail> {
     assert!(rt; ScryptPlain.accepts(&record, b"NaCl", 64));
     ScryptPlain.derive(rt.alloc(), b"password", &record, b"NaCl", &mut key)?;
     assert_eq!(rt; key.as_slice(), KEYS[1].5.as_slice());
+    Ok(())
+}
+
+// A key by OpenSSL 3.0: "pleaseletmein", "SodiumChloride", N = 32, r = 2, p = 3.
+const OTHER_KEY: [u8; 64] =
+    *b"\x60\x1b\x33\xb7\x04\x75\x0b\x95\x16\xd0\x93\xe0\x89\xa6\x89\x62\x73\xe2\x7c\xd8\x4a\xe5\x8a\x9d\x94\x6d\xa1\x0f\xe7\x75\xf0\x26\x27\x05\x33\xde\x02\x23\x32\x89\xd4\x05\x42\x16\x4c\xd7\x72\x02\xe0\x09\xe5\xe6\xdf\x78\xba\x0c\xa8\xaf\x11\xd9\x3b\x10\xe8\xea";
+
+#[test]
+fn keys_in_a_kept_table(rt: HostRuntime) -> Result<(), Fail> {
+    // A record, a password, a salt and the key.
+    let costs: [(&str, &[u8], &[u8], [u8; 64]); 2] = [
+        ("$scrypt$ln=4,r=1,p=1", b"", b"", KEYS[0].5),
+        (
+            "$scrypt$ln=5,r=2,p=3",
+            b"pleaseletmein",
+            b"SodiumChloride",
+            OTHER_KEY,
+        ),
+    ];
+    for order in [[0, 1, 0], [1, 0, 1]] {
+        let kept = ScryptKept::new(rt.alloc());
+        let mut refused = 0;
+        for at in order {
+            let (text, password, salt, expected) = costs[at];
+            let Ok(record) = PasswordHash::new(text) else {
+                panic!(rt; "a record")
+            };
+            let mut key = [0u8; 64];
+            assert!(rt; kept.accepts(&record, salt, 64));
+            match kept.derive(rt.alloc(), password, &record, salt, &mut key) {
+                Ok(()) => assert_eq!(rt; key.as_slice(), expected.as_slice(), "{text:?}"),
+                Err(_) => refused += 1,
+            }
+        }
+        // A run in which one memory is refused passes too: the other keys are right.
+        assert!(rt; refused <= 1);
+    }
     Ok(())
 }

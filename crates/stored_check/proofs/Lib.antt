@@ -1,4 +1,9 @@
 pub mod Causes
+mod ComparedFields
 mod Counted
+pub mod MadeTexts
+mod NamedFaults
+pub mod Normals
+pub mod Records
 mod Vectors
 mod Walk

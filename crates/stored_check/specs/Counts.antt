@@ -3,7 +3,8 @@
 use Rattle.std.specs.Prelude.{ℕ, ◌+◌, List, length, Option, Some, None, Result, Ok, Err}
 use Rattle.mcf.specs.Grammar.{mcf, Parts}
 use Rattle.mcf.specs.declared.error.Error as mcf_error
-use Rattle.phc.specs.Counts.{field_looks, layout_comparisons, layout_looks}
+use Rattle.base64ct.specs.Counts.{field_looks}
+use Rattle.phc.specs.Counts.{layout_comparisons, layout_looks}
 use Rattle.phc.specs.Grammar.{layout}
 use Rattle.phc.specs.Record.{phc}
 use Rattle.phc.specs.declared.error.Error as phc_error

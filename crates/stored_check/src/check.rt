@@ -90,6 +90,8 @@ fn check_phc<K: PhcKdf>(
     ensures looks { OnOk result (counts.new.looks ≡ counts.old.looks + layout_looks (layout_of_text stored.now)) }
     ensures sames { OnOk result (counts.new.sames ≡ counts.old.sames
         + (layout_comparisons (layout_of_text stored.now) + record_hash_length (phc_text stored.now))) }
+    ensures looks_stay { counts.old.looks ≤ counts.new.looks }
+    ensures sames_stay { counts.old.sames ≤ counts.new.sames }
     ensures most_looks { counts.new.looks ≤ counts.old.looks + 156 }
     ensures most_sames { OnErr result (counts.new.sames ≤ counts.old.sames + 8) }
 {
@@ -135,6 +137,8 @@ pub fn check_stored_counted<K: PhcKdf>(
         result }
     ensures looks { OnOk result (counts.new.looks ≡ counts.old.looks + verdict_looks stored.now) }
     ensures sames { OnOk result (counts.new.sames ≡ counts.old.sames + verdict_comparisons stored.now) }
+    ensures looks_stay { counts.old.looks ≤ counts.new.looks }
+    ensures sames_stay { counts.old.sames ≤ counts.new.sames }
     ensures most_looks { OnErr result (counts.new.looks ≤ counts.old.looks + 156) }
     ensures most_sames { OnErr result (counts.new.sames ≤ counts.old.sames + 8) }
 {

@@ -9,9 +9,14 @@ mod error;
 mod kdf;
 pub mod laws;
 mod names;
+mod normal;
 #[cfg(test)]
 mod tests;
+mod words;
 
 pub use check::{check_stored, check_stored_counted};
 pub use error::{McfFault, PhcFault, ShaFault, ShaFormat, StoredError};
 pub use kdf::PhcKdf;
+pub use names::mcf_name;
+pub use normal::{normal_text, write_normal};
+pub use words::word;

@@ -6,8 +6,8 @@ ghost use Rattle.stored_check.specs.Verdict.{mcf_name, phc_name, sha_format_name
 use crate::{McfFault, PhcFault, ShaFault, ShaFormat, StoredError};
 use sha_crypt::{CheckError, FormatFault};
 
-/// The name of a fault of the grammar, which gives four alone.
-pub(crate) fn mcf_name(e: mcf::Error) -> McfFault
+/// The name of a fault of the modular crypt format, whose grammar gives the first four alone.
+pub fn mcf_name(e: mcf::Error) -> McfFault
     ensures { result ≡ mcf_name e }
 {
     match e {
@@ -27,6 +27,7 @@ fn sha_format_name(fault: FormatFault) -> ShaFormat
         FormatFault::RoundsNotNumber => ShaFormat::RoundsNotNumber,
         FormatFault::NoHash => ShaFormat::NoHash,
         FormatFault::Trailing => ShaFormat::Trailing,
+        FormatFault::SaltTooLong => ShaFormat::SaltTooLong,
         _ => ShaFormat::Base64,
     }
 }

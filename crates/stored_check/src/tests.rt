@@ -5,7 +5,7 @@ ghost use Rattle.std.proofs.lemmas.List.{length-replicate};
 
 use crate::{
     McfFault, PhcFault, PhcKdf, ShaFault, ShaFormat, StoredError, check_stored,
-    check_stored_counted, laws,
+    check_stored_counted, laws, mcf_name, normal_text, word, write_normal,
 };
 use base64ct::Counts;
 use phc::PasswordHash;
@@ -69,7 +69,7 @@ impl PhcKdf for Poor {
 }
 
 // A stored text, and the verdict on it with the password `Hello world!`.
-const VERDICTS: [(&str, Result<bool, StoredError>); 25] = [
+const VERDICTS: [(&str, Result<bool, StoredError>); 29] = [
     ("", Err(StoredError::Mcf(McfFault::DelimiterInvalid))),
     ("$", Err(StoredError::Mcf(McfFault::DelimiterInvalid))),
     ("$5$", Err(StoredError::Mcf(McfFault::DelimiterInvalid))),
@@ -116,6 +116,22 @@ const VERDICTS: [(&str, Result<bool, StoredError>); 25] = [
     (
         "$5$rounds=999$s$x",
         Err(StoredError::Sha(ShaFault::RoundsError)),
+    ),
+    (
+        "$5$rounds=0$s$x",
+        Err(StoredError::Sha(ShaFault::RoundsError)),
+    ),
+    (
+        "$5$rounds=01000$s$x",
+        Err(StoredError::Sha(ShaFault::InvalidFormat(ShaFormat::RoundsNotNumber))),
+    ),
+    (
+        "$5$rounds=+05000$saltstring$5B8vYYiY.CVt1RlTTf8KbXBH3hsxY/GNooZaBBGWEc5",
+        Err(StoredError::Sha(ShaFault::InvalidFormat(ShaFormat::RoundsNotNumber))),
+    ),
+    (
+        "$5$saltstringsaltstr$x",
+        Err(StoredError::Sha(ShaFault::InvalidFormat(ShaFormat::SaltTooLong))),
     ),
     (
         "$6$s$x",
@@ -202,4 +218,72 @@ fn want_of_memory(rt: HostRuntime) {
     let text = "$5$saltstring$5B8vYYiY.CVt1RlTTf8KbXBH3hsxY/GNooZaBBGWEc5";
     assert!(rt; check_stored(rt.alloc(), &Poor, "Hello world!", text) == Ok(true));
     laws::no_want_of_memory();
+    laws::hash_field_of_a_verdict();
+    laws::faults_by_their_names();
+}
+
+// A stored text and its normal text.
+const NORMAL_TEXTS: [(&str, &str); 7] = [
+    (
+        "$5$rounds=+05000$saltstring$5B8vYYiY.CVt1RlTTf8KbXBH3hsxY/GNooZaBBGWEc5",
+        "$5$rounds=5000$saltstring$5B8vYYiY.CVt1RlTTf8KbXBH3hsxY/GNooZaBBGWEc5",
+    ),
+    (
+        "$5$saltstringsaltstring$a5C8Ofk71MUIoKve2QuP9FMl.dwNgseF5tR1LGAL7iB",
+        "$5$saltstringsaltst$a5C8Ofk71MUIoKve2QuP9FMl.dwNgseF5tR1LGAL7iB",
+    ),
+    (
+        "$5$saltstring$5B8vYYiY.CVt1RlTTf8KbXBH3hsxY/GNooZaBBGWEc5",
+        "$5$saltstring$5B8vYYiY.CVt1RlTTf8KbXBH3hsxY/GNooZaBBGWEc5",
+    ),
+    ("$5$rounds=999$s$x", "$5$rounds=999$s$x"),
+    (
+        "$2a$12$R9h/cIPz0gi.URNNX3kh2OPST9/PgBkqquzi.Ss7KIUgO2t0jWMUW",
+        "$2a$12$R9h/cIPz0gi.URNNX3kh2OPST9/PgBkqquzi.Ss7KIUgO2t0jWMUW",
+    ),
+    ("$6$\u{e9}$x", "$6$\u{e9}$x"),
+    ("", ""),
+];
+
+#[test]
+fn normal_texts(rt: HostRuntime) {
+    for (stored, normal) in NORMAL_TEXTS {
+        let mut room = [b'x'; 100];
+        assert!(rt; stored.len() <= 100);
+        assert_eq!(rt; normal_text(stored, &mut room), normal);
+        let mut room = [b'x'; 100];
+        let len = write_normal(stored, &mut room);
+        assert_eq!(rt; &room[..len], normal.as_bytes());
+        assert!(rt;
+            check_stored(rt.alloc(), &Zeros, "Hello world!", normal).is_ok()
+                || check_stored(rt.alloc(), &Zeros, "Hello world!", stored).is_err()
+        );
+        laws::normal_verdict(&Zeros, b"Hello world!", stored.as_bytes());
+        laws::normal_twice(stored.as_bytes());
+    }
+    laws::normal_of_other_bytes();
+}
+
+#[test]
+fn words_of_answers(rt: HostRuntime) {
+    for (answer, text) in [
+        (Ok(true), "match"),
+        (Ok(false), "mismatch"),
+        (Err(StoredError::PasswordTooLong), "password-too-long"),
+        (
+            Err(StoredError::Mcf(mcf_name(mcf::Error::FieldInvalid))),
+            "mcf-field",
+        ),
+        (Err(StoredError::Sha(ShaFault::RoundsError)), "sha-rounds"),
+        (
+            Err(StoredError::Phc(PhcFault::SaltTooShort)),
+            "phc-salt-short",
+        ),
+        (Err(StoredError::NoHash), "no-hash"),
+        (Err(StoredError::Kdf), "kdf"),
+    ] {
+        if answer != Err(StoredError::OutOfMemory) {
+            assert_eq!(rt; word(&answer), text);
+        }
+    }
 }

@@ -1,0 +1,76 @@
+-- The verdicts on texts that SHA-crypt makes.
+use Rattle.std.proofs.Common.{◌≡◌, ℕ, ◌≤◌, Bool, true, false, List, [], ◌∷◌, ◌++◌, length, refl, ap, ◌∙◌, arith, Ok}
+use Rattle.std.specs.Prelude.{not, nat_lt, Some, None}
+use Rattle.std.specs.List.{list_all}
+use Rattle.std.proofs.lemmas.Bool.Decides.{nat_tests}
+use Rattle.base64ct.proofs.DecodingLaws.{true_same}
+use Rattle.mcf.specs.Grammar.{mcf, field_fault, first_field_fault, is_field_byte, is_identifier, Parts}
+use Rattle.mcf.proofs.Built.{mcf-parts_text}
+use Rattle.phc.specs.declared.password_hash.PasswordHash.{PasswordHash}
+use Rattle.sha_crypt.specs.Families.{Scheme, scheme_fields, scheme_hash_field}
+use Rattle.sha_crypt.specs.Fields.{ShaFields}
+use Rattle.sha_crypt.specs.Records.{family_id, family_scheme, field_pieces, rounds_pieces}
+use Rattle.sha_crypt.specs.Simple.{made_fields, made_text}
+use Rattle.sha_crypt.specs.declared.errors.Family.{Family}
+use Rattle.sha_crypt.specs.declared.errors.Family.TheVariants.{Sha256, Sha512}
+use Rattle.sha_crypt.proofs.Digests.{hash_passes, hash_some, is_scheme, made_hash}
+use Rattle.sha_crypt.proofs.MadeTexts.{IsSalt, by_default, made_read}
+use Rattle.stored_check.specs.Verdict.{parts_answer, same_text, scheme_of, sha_answer, text_answer, verdict}
+use Rattle.stored_check.proofs.Normals.{rounds_field}
+use Rattle.stored_check.proofs.Records.{printed_is}
+
+pub good_field : (s : List ℕ) → 1 ≤ length s → list_all is_field_byte s ≡ true → field_fault s ≡ None
+good_field [] some h = absurd (omega (arith, some))
+good_field (b ∷ s) some h = rw h refl
+
+is_name : (family : Family) → is_identifier (family_id family) ≡ true
+is_name Sha256 = refl
+is_name Sha512 = refl
+
+is_family : (family : Family) → scheme_of (family_id family) ≡ Some (family_scheme family)
+is_family Sha256 = refl
+is_family Sha512 = refl
+
+module _ (accepted : PasswordHash → List ℕ → ℕ → Bool) (tag : List ℕ → PasswordHash → List ℕ → ℕ → List ℕ) where
+  -- a text of a password: each password that is asked has a verdict on it, and this one matches
+  abbrev pub IsMade : List ℕ → List ℕ → Type 0
+  IsMade password text = (matches : List ℕ → Bool)
+      × ((asked : List ℕ) → length asked ≤ 4096 → verdict accepted tag asked text ≡ Ok (matches asked)) × (matches password ≡ true)
+
+  -- the verdict by the parts
+  pub of_parts : (asked text : List ℕ) (p : Parts) → length asked ≤ 4096 → mcf text ≡ Ok p
+      → verdict accepted tag asked text ≡ parts_answer accepted tag asked (scheme_of p.id) p
+  unfolding verdict
+  of_parts asked text p fits is =
+      let test : nat_lt 4096 (length asked) ≡ false = grind (arith, nat_tests, fits) in
+      rw test (ap (text_answer accepted tag asked) is)
+
+  module _ (family : Family) (password salt : List ℕ) (n : ℕ) (least : 1000 ≤ n) (most : n ≤ 999999999) (good : IsSalt salt) (some : 1 ≤ length salt)
+      (plain : list_all is_field_byte salt ≡ true) where
+    fields_good : first_field_fault (field_pieces (made_fields (family_scheme family) password salt n)) ≡ None
+    fields_good =
+        let is = is_scheme family in
+        let hash : List ℕ = made_hash (family_scheme family) password salt n in
+        let of_salt : field_fault salt ≡ None = good_field salt some plain in
+        let of_hash : field_fault hash ≡ None = good_field hash (hash_some (family_scheme family) is password salt n (omega (arith, least)))
+        (hash_passes is_field_byte (family_scheme family) is password salt n (omega (arith, least)) refl) in
+        by_default (λ (t : Bool). first_field_fault (rounds_pieces (not t) n ++ salt ∷ (hash ∷ [])) ≡ None) n
+        (λ default. rw (of_salt, of_hash) refl)
+        (λ other. rw (rounds_field n (omega (arith, most)), of_salt, of_hash) refl)
+
+    read : mcf (made_text family password salt n) ≡ Ok (record { id = family_id family; fields = field_pieces (made_fields (family_scheme family) password salt n) })
+    read =
+        ap mcf (printed_is family (made_fields (family_scheme family) password salt n))
+        ∙ mcf-parts_text (record { id = family_id family; fields = field_pieces (made_fields (family_scheme family) password salt n) }) (is_name family) fields_good
+
+    -- the text that a family makes of a password and a salt of field characters
+    pub sha_made : IsMade password (made_text family password salt n)
+    sha_made =
+        let s : Scheme = family_scheme family in
+        let f : ShaFields = made_fields (family_scheme family) password salt n in
+        let p : Parts = record { id = family_id family; fields = field_pieces f } in
+        let fields : scheme_fields s (field_pieces f) ≡ Ok f = made_read s (is_scheme family) password salt n least most good in (
+          λ (asked : List ℕ). same_text (scheme_hash_field s asked f) f.hash,
+          λ (asked : List ℕ) fits. of_parts asked (made_text family password salt n) p fits read ∙ ap (λ o. parts_answer accepted tag asked o p) (is_family family) ∙ ap (sha_answer s asked) fields,
+          true_same f.hash,
+        )

@@ -1,0 +1,198 @@
+-- Each fault that the grammars give is the one that its name stands for.
+use Rattle.std.proofs.Common.{◌≡◌, ℕ, Bool, true, false, List, [], ◌∷◌, length, map, refl, Result, Ok, Err}
+use Rattle.std.specs.Prelude.{⊤, nat_le, nat_lt, ◌||◌, Option, Some, None, if◌then◌else◌, is_some, unwrap_or, codes}
+use Rattle.std.specs.List.{list_all}
+use Rattle.pieces.specs.Pieces.{behind, is_nil}
+use Rattle.mcf.specs.Grammar as mcf_grammar
+use Rattle.mcf.specs.Grammar.{fault, parts}
+use Rattle.mcf.specs.declared.error.Error as mcf_error
+use Rattle.mcf.specs.declared.error.Error.TheVariants as mcf_fault
+use Rattle.std.specs.declared.cmp.Ordering.TheVariants.{Less}
+use Rattle.base64ct.specs.declared.errors.Error.TheVariants.{InvalidEncoding, InvalidLength}
+use Rattle.phc.specs.Encoded.{decoding}
+use Rattle.phc.specs.Grammar.{decimal_value, has_value_bytes, is_name, fault_of, fault_of_layout, first_fault, hash_fault, cut_pairs, layout, name_fault, pair_fault, params_fault, salt_fault, text_fault, unless, value_or_fault, version_fault, is_empty, Layout}
+use Rattle.phc.specs.Record.{phc, record_of_layout}
+use Rattle.phc.specs.declared.error.Error as phc_error
+use Rattle.phc.specs.declared.error.Error.TheVariants as phc_fault
+use Rattle.phc.specs.declared.password_hash.PasswordHash.{PasswordHash}
+use Rattle.sha_crypt.specs.Families.{Scheme, scheme_fields}
+use Rattle.sha_crypt.specs.Fields.{ShaFields, by_form, by_rounds, formed, from_salt, plain_number, sha_fields, short_salt, tested, with_rounds, within}
+use Rattle.sha_crypt.specs.HashField.{is_hash_field}
+use Rattle.sha_crypt.specs.declared.errors.CheckError.{CheckError}
+use Rattle.stored_check.specs.Names.{mcf_named, phc_named, sha_named}
+use Rattle.stored_check.specs.Verdict.{mcf_name, phc_name, sha_name}
+
+-- ---- the modular crypt format
+
+abbrev Mcf : Option mcf_error.Error → Type 0
+Mcf None = ⊤
+Mcf (Some e) = mcf_named (mcf_name e) ≡ e
+
+mcf_or : (a b : Option mcf_error.Error) → Mcf a → Mcf b → Mcf (mcf_grammar.or_else a b)
+mcf_or None b ha hb = hb
+mcf_or (Some e) b ha hb = ha
+
+mcf_unless : (t : Bool) (e : mcf_error.Error) → mcf_named (mcf_name e) ≡ e → Mcf (mcf_grammar.unless t e)
+mcf_unless true e h = tt
+mcf_unless false e h = h
+
+mcf_bytes : (t : Bool) → Mcf (if t then None else Some mcf_fault.EncodingInvalid)
+mcf_bytes true = tt
+mcf_bytes false = refl
+
+mcf_field : (s : List ℕ) → Mcf (mcf_grammar.field_fault s)
+mcf_field [] = refl
+mcf_field (b ∷ s) = mcf_bytes (list_all mcf_grammar.is_field_byte (b ∷ s))
+
+mcf_fields : (fields : List (List ℕ)) → Mcf (mcf_grammar.first_field_fault fields)
+mcf_fields [] = tt
+mcf_fields (field ∷ fields) = mcf_or (mcf_grammar.field_fault field) (mcf_grammar.first_field_fault fields) (mcf_field field) (mcf_fields fields)
+
+of_mcf : (stored : List ℕ) → Mcf (fault stored)
+of_mcf stored =
+    mcf_or (mcf_grammar.unless (mcf_grammar.is_delimited stored) mcf_fault.DelimiterInvalid) _ (mcf_unless (mcf_grammar.is_delimited stored) mcf_fault.DelimiterInvalid refl)
+    (mcf_or (mcf_grammar.unless (mcf_grammar.is_identifier (parts stored).id) mcf_fault.IdentifierInvalid) _
+    (mcf_unless (mcf_grammar.is_identifier (parts stored).id) mcf_fault.IdentifierInvalid refl) (mcf_fields (parts stored).fields))
+
+mcf_by : (o : Option mcf_error.Error) (e : mcf_error.Error) → Mcf o → o ≡ Some e → mcf_named (mcf_name e) ≡ e
+mcf_by None e h is = absurd cc
+mcf_by (Some f) e h is = let same : f ≡ e = cc in rw same at h
+
+pub mcf_has_name : (stored : List ℕ) (e : mcf_error.Error) → fault stored ≡ Some e → mcf_named (mcf_name e) ≡ e
+mcf_has_name stored e is = mcf_by (fault stored) e (of_mcf stored) is
+
+-- ---- SHA-crypt
+
+abbrev Sha : Result ShaFields CheckError → Type 0
+Sha (Ok f) = ⊤
+Sha (Err e) = sha_named (sha_name e) ≡ e
+
+sha_if : (t : Bool) (x y : Result ShaFields CheckError) → Sha x → Sha y → Sha (if t then x else y)
+sha_if true x y hx hy = hx
+sha_if false x y hx hy = hy
+
+sha_salt : (n : ℕ) (w : Bool) (pieces : List (List ℕ)) → Sha (from_salt n w pieces)
+sha_salt n w [] = refl
+sha_salt n w (s ∷ []) = refl
+sha_salt n w (s ∷ (h ∷ more)) = sha_if (is_nil more) (within n w s h) _ (sha_if (nat_lt n 1000 || nat_lt 999999999 n) _ _ refl tt) refl
+
+sha_with : (o : Option ℕ) (pieces : List (List ℕ)) → Sha (with_rounds o pieces)
+sha_with None pieces = refl
+sha_with (Some n) pieces = sha_salt n true pieces
+
+sha_rounds : (o : Option (List ℕ)) (first : List ℕ) (pieces : List (List ℕ)) → Sha (by_rounds plain_number o first pieces)
+sha_rounds None first pieces = sha_salt 5000 false (first ∷ pieces)
+sha_rounds (Some digits) first pieces = sha_if (is_nil pieces) _ (with_rounds (plain_number digits) pieces) refl (sha_with (plain_number digits) pieces)
+
+sha_form : (pieces : List (List ℕ)) → Sha (by_form plain_number pieces)
+sha_form [] = refl
+sha_form (first ∷ pieces) = sha_rounds (behind first (codes "rounds=")) first pieces
+
+sha_short : (r : Result ShaFields CheckError) → Sha r → Sha (short_salt r)
+sha_short (Err e) h = h
+sha_short (Ok f) h = sha_if (nat_lt 16 (length f.salt)) _ (Ok f) refl tt
+
+sha_tested : (t : List ℕ → Bool) (r : Result ShaFields CheckError) → Sha r → Sha (tested t r)
+sha_tested t (Err e) h = h
+sha_tested t (Ok f) h = sha_if (t f.hash) (Ok f) _ tt refl
+
+of_sha : (s : Scheme) (pieces : List (List ℕ)) → Sha (scheme_fields s pieces)
+unfolding sha_fields
+of_sha s pieces = sha_tested (is_hash_field s.size) (formed pieces) (sha_short (by_form plain_number pieces) (sha_form pieces))
+
+sha_by : (r : Result ShaFields CheckError) (e : CheckError) → Sha r → r ≡ Err e → sha_named (sha_name e) ≡ e
+sha_by (Ok f) e h is = absurd cc
+sha_by (Err f) e h is = let same : f ≡ e = cc in rw same at h
+
+pub sha_has_name : (s : Scheme) (pieces : List (List ℕ)) (e : CheckError) → scheme_fields s pieces ≡ Err e → sha_named (sha_name e) ≡ e
+sha_has_name s pieces e is = sha_by (scheme_fields s pieces) e (of_sha s pieces) is
+
+-- ---- PHC texts
+
+abbrev Phc : Option phc_error.Error → Type 0
+Phc None = ⊤
+Phc (Some e) = phc_named (phc_name e) ≡ e
+
+phc_unless : (t : Bool) (e : phc_error.Error) → phc_named (phc_name e) ≡ e → Phc (unless t e)
+phc_unless true e h = tt
+phc_unless false e h = h
+
+phc_part : (f : List ℕ → Option phc_error.Error) → ((s : List ℕ) → Phc (f s)) → (o : Option (List ℕ)) → Phc (fault_of f o)
+phc_part f h None = tt
+phc_part f h (Some s) = h s
+
+-- the first of two, three or four tests that fails
+phc_two : (a b : Bool) (e f : phc_error.Error) → phc_named (phc_name e) ≡ e → phc_named (phc_name f) ≡ f → Phc (first_fault (unless a e ∷ (unless b f ∷ [])))
+phc_two false b e f he hf = he
+phc_two true false e f he hf = hf
+phc_two true true e f he hf = tt
+
+phc_three : (a b c : Bool) (e f g : phc_error.Error) → phc_named (phc_name e) ≡ e → phc_named (phc_name f) ≡ f → phc_named (phc_name g) ≡ g
+    → Phc (first_fault (unless a e ∷ (unless b f ∷ (unless c g ∷ []))))
+phc_three false b c e f g he hf hg = he
+phc_three true b c e f g he hf hg = phc_two b c f g hf hg
+
+phc_four : (a b c d : Bool) (e f g h : phc_error.Error) → phc_named (phc_name e) ≡ e → phc_named (phc_name f) ≡ f → phc_named (phc_name g) ≡ g → phc_named (phc_name h) ≡ h
+    → Phc (first_fault (unless a e ∷ (unless b f ∷ (unless c g ∷ (unless d h ∷ [])))))
+phc_four false b c d e f g h he hf hg hh = he
+phc_four true b c d e f g h he hf hg hh = phc_three b c d f g h hf hg hh
+
+phc_cons : (o : Option phc_error.Error) (os : List (Option phc_error.Error)) → Phc o → Phc (first_fault os) → Phc (first_fault (o ∷ os))
+phc_cons (Some e) os h hs = h
+phc_cons None os h hs = hs
+
+phc_version : (s : List ℕ) → Phc (version_fault s)
+phc_version s = phc_two (nat_le (length s) 64) (is_some (decimal_value s)) phc_fault.ParamValueTooLong phc_fault.ParamValueInvalid refl refl
+
+phc_pair : (pieces : List (List ℕ)) → Phc (pair_fault pieces)
+phc_pair [] = refl
+phc_pair (name ∷ []) = phc_two (is_name name) false phc_fault.ParamNameInvalid phc_fault.ParamValueInvalid refl refl
+phc_pair (name ∷ (value ∷ more)) =
+    phc_four (is_name name) (nat_le (length value) 64) (has_value_bytes value) (is_nil more)
+    phc_fault.ParamNameInvalid phc_fault.ParamValueTooLong phc_fault.ParamValueInvalid phc_fault.ParamValueInvalid refl refl refl refl
+
+phc_pairs : (pairs : List (List (List ℕ))) → Phc (first_fault (map pair_fault pairs))
+phc_pairs [] = tt
+phc_pairs (pair ∷ pairs) = phc_cons (pair_fault pair) (map pair_fault pairs) (phc_pair pair) (phc_pairs pairs)
+
+phc_if : (t : Bool) (x y : Option phc_error.Error) → Phc x → Phc y → Phc (if t then x else y)
+phc_if true x y hx hy = hx
+phc_if false x y hx hy = hy
+
+phc_params : (s : List ℕ) → Phc (text_fault s)
+phc_params s =
+    phc_if (is_empty s) None (params_fault s) tt
+    (phc_cons (unless (nat_le (length s) 127) phc_fault.ParamsMaxExceeded) (map pair_fault (cut_pairs s)) (phc_unless (nat_le (length s) 127) phc_fault.ParamsMaxExceeded refl)
+    (phc_pairs (cut_pairs s)))
+
+phc_salt : (s : List ℕ) → Phc (salt_fault s)
+phc_salt s =
+    phc_three (nat_le 11 (length s)) (nat_le (length s) 64) (is_some (decoding s))
+    phc_fault.SaltTooShort phc_fault.SaltTooLong (phc_fault.Base64 InvalidEncoding) refl refl refl
+
+phc_hash : (s : List ℕ) → Phc (hash_fault s)
+phc_hash s =
+    phc_three (nat_le (length s) 86) (is_some (decoding s)) (nat_le 10 (length (unwrap_or (decoding s) [])))
+    (phc_fault.Base64 InvalidLength) (phc_fault.Base64 InvalidEncoding) (phc_fault.OutputSize Less 10) refl refl refl
+
+of_layout : (id : List ℕ) (l : Layout) → Phc (fault_of_layout id l)
+of_layout id l =
+    let version : Option phc_error.Error = fault_of version_fault l.version in
+    let params : Option phc_error.Error = fault_of text_fault l.params in
+    let salt : Option phc_error.Error = fault_of salt_fault l.salt in
+    let hash : Option phc_error.Error = fault_of hash_fault l.hash in
+    let rest : Option phc_error.Error = unless (is_nil l.rest) phc_fault.TrailingData in
+    phc_cons (name_fault id) (version ∷ (params ∷ (salt ∷ (hash ∷ (rest ∷ []))))) (phc_unless (is_name id) phc_fault.ParamNameInvalid refl)
+    (phc_cons version (params ∷ (salt ∷ (hash ∷ (rest ∷ [])))) (phc_part version_fault phc_version l.version)
+    (phc_cons params (salt ∷ (hash ∷ (rest ∷ []))) (phc_part text_fault phc_params l.params)
+    (phc_cons salt (hash ∷ (rest ∷ [])) (phc_part salt_fault phc_salt l.salt)
+    (phc_cons hash (rest ∷ []) (phc_part hash_fault phc_hash l.hash)
+    (phc_cons rest [] (phc_unless (is_nil l.rest) phc_fault.TrailingData refl) tt)))))
+
+phc_by : (r : PasswordHash) (o : Option phc_error.Error) (e : phc_error.Error) → Phc o → value_or_fault r o ≡ Err e → phc_named (phc_name e) ≡ e
+phc_by r None e h is = absurd cc
+phc_by r (Some f) e h is = let same : f ≡ e = cc in rw same at h
+
+pub phc_has_name : (id : List ℕ) (pieces : List (List ℕ)) (e : phc_error.Error) → phc id pieces ≡ Err e → phc_named (phc_name e) ≡ e
+unfolding phc
+phc_has_name id pieces e is = phc_by (record_of_layout id (layout pieces)) (fault_of_layout id (layout pieces)) e (of_layout id (layout pieces)) is
