@@ -6,7 +6,9 @@ use Rattle.std.specs.Str.{is_utf8}
 use Rattle.stored_check.specs.Verdict.{verdict}
 use Rattle.stored_check.specs.declared.error.StoredError.TheVariants.{OutOfMemory}
 use Rattle.stored_check.proofs.Causes.{never_memory}
-use Rattle.pwcheck.specs.Answer.{IsAnswer, IsTextAnswer, accepted, answer, answer_text, has_verdict, is_tab, key, line_may_lack, text_answer}
+use Rattle.scrypt_plain.specs.Profile.{accepted, key}
+use Rattle.line_program.specs.PlainOutput.{is_tab}
+use Rattle.pwcheck.specs.Answer.{IsAnswer, IsTextAnswer, answer, answer_text, has_verdict, line_may_lack, text_answer}
 use Rattle.pwcheck.specs.declared.answer.Answer.{Answer}
 use Rattle.pwcheck.specs.declared.answer.Answer.TheVariants.{TooLong, BadLine, Checked}
 use Rattle.pwcheck.specs.declared.form.Form.{Form}

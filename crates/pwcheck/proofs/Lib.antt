@@ -1,6 +1,8 @@
-mod Cuts
-mod Digits
 mod Known
 mod Longest
-mod Answered
-mod Steps
+mod Kept
+mod Rooms
+mod MadeLines
+mod Verdicts
+mod BenchWords
+mod BenchVectors

@@ -1,58 +1,22 @@
 -- What a line of a password file is answered with.
-use Rattle.std.specs.Prelude.{◌≡◌, ◌⊎◌, ℕ, Bool, true, false, List, [], ◌∷◌, ◌++◌, length, nat_lt, ◌==◌, ◌&&◌, codes, if◌then◌else◌, Result, Ok, Err}
+use Rattle.std.specs.Prelude.{◌≡◌, ◌⊎◌, ℕ, Bool, true, false, List, [], ◌∷◌, ◌++◌, length, nat_lt, ◌&&◌, codes, if◌then◌else◌, Result, Ok, Err}
 use Rattle.std.specs.Fmt.{decimal}
 use Rattle.std.specs.List.{list_any, before_last, after_last}
 use Rattle.std.specs.Str.{is_utf8}
-use Rattle.base64ct.specs.declared.errors.Error.TheVariants as of_base64
-use Rattle.phc.specs.declared.password_hash.PasswordHash.{PasswordHash}
-use Rattle.scrypt_plain.specs.Profile.{scrypt_accepts, scrypt_key}
+use Rattle.scrypt_plain.specs.Profile.{accepted, key, needs_memory}
 use Rattle.stored_check.specs.Counts.{verdict_comparisons, verdict_looks}
 use Rattle.stored_check.specs.Verdict.{may_lack_memory, verdict}
+use Rattle.stored_check.specs.Words.{word}
 use Rattle.stored_check.specs.declared.error.StoredError.{StoredError}
 use Rattle.stored_check.specs.declared.error.StoredError.TheVariants as of_stored
-use Rattle.stored_check.specs.declared.error.McfFault.{McfFault}
-use Rattle.stored_check.specs.declared.error.McfFault.TheVariants as of_mcf
-use Rattle.stored_check.specs.declared.error.ShaFault.TheVariants as of_sha
-use Rattle.stored_check.specs.declared.error.PhcFault.{PhcFault}
-use Rattle.stored_check.specs.declared.error.PhcFault.TheVariants as of_phc
 use Rattle.pwcheck.specs.declared.answer.Answer.{Answer}
 use Rattle.pwcheck.specs.declared.answer.Answer.TheVariants.{TooLong, BadLine, Checked}
 use Rattle.pwcheck.specs.declared.form.Form.{Form}
 use Rattle.pwcheck.specs.declared.form.Form.TheVariants.{Plain, Counted}
-use Rattle.pwcheck.specs.Outcome.{LineRules}
+use Rattle.line_program.specs.PlainOutput.{is_tab}
+use Rattle.line_program.specs.Rules.{LineRules, each_line}
 
 -- ---- words
-
-abbrev pub mcf_word : McfFault → List ℕ
-mcf_word of_mcf.DelimiterInvalid = codes "mcf-delimiter"
-mcf_word of_mcf.IdentifierInvalid = codes "mcf-identifier"
-mcf_word of_mcf.FieldInvalid = codes "mcf-field"
-mcf_word of_mcf.EncodingInvalid = codes "mcf-encoding"
-
-abbrev pub phc_word : PhcFault → List ℕ
-phc_word of_phc.ParamNameInvalid = codes "phc-name"
-phc_word of_phc.ParamValueTooLong = codes "phc-value-long"
-phc_word of_phc.ParamValueInvalid = codes "phc-value"
-phc_word of_phc.ParamsMaxExceeded = codes "phc-params-long"
-phc_word of_phc.SaltTooShort = codes "phc-salt-short"
-phc_word of_phc.SaltTooLong = codes "phc-salt-long"
-phc_word (of_phc.Base64 of_base64.InvalidEncoding) = codes "phc-b64"
-phc_word (of_phc.Base64 of_base64.InvalidLength) = codes "phc-hash-long"
-phc_word of_phc.OutputSize = codes "phc-hash-short"
-phc_word of_phc.TrailingData = codes "phc-trailing"
-
--- the word of a verdict, or of the cause that there is none; want of memory has no word
-abbrev pub word : Result Bool StoredError → List ℕ
-word (Ok true) = codes "match"
-word (Ok false) = codes "mismatch"
-word (Err of_stored.PasswordTooLong) = codes "password-too-long"
-word (Err (of_stored.Mcf fault)) = mcf_word fault
-word (Err (of_stored.Sha (of_sha.InvalidFormat fault))) = codes "sha-format"
-word (Err (of_stored.Sha of_sha.RoundsError)) = codes "sha-rounds"
-word (Err (of_stored.Phc fault)) = phc_word fault
-word (Err of_stored.NoHash) = codes "no-hash"
-word (Err of_stored.Kdf) = codes "kdf"
-word (Err of_stored.OutOfMemory) = []
 
 abbrev pub answer_word : Answer → List ℕ
 answer_word TooLong = codes "toolong"
@@ -74,16 +38,6 @@ has_verdict BadLine = false
 
 -- ---- the answer of a line
 
-abbrev pub is_tab : ℕ → Bool
-is_tab b = b == 9
-
--- the records that scrypt takes, and its keys
-abbrev pub accepted : PasswordHash → List ℕ → ℕ → Bool
-accepted parsed salt n = scrypt_accepts parsed n
-
-abbrev pub key : List ℕ → PasswordHash → List ℕ → ℕ → List ℕ
-key password parsed salt n = scrypt_key password parsed salt n
-
 -- what stands before the last tab, the password, has a verdict with the stored text behind it, or the first cause
 -- that it has none
 abbrev pub text_answer : List ℕ → Answer
@@ -97,7 +51,7 @@ answer line = if nat_lt 8192 (length line) then TooLong else if is_utf8 line the
 -- the line is valid, its identifier is neither `5` nor `6`, and the derivation may need memory for its record
 abbrev pub text_may_lack : List ℕ → Bool
 text_may_lack text =
-    list_any is_tab text && may_lack_memory accepted (λ parsed. true) key (before_last is_tab text) (after_last is_tab text)
+    list_any is_tab text && may_lack_memory accepted needs_memory key (before_last is_tab text) (after_last is_tab text)
 
 unfoldable pub line_may_lack : List ℕ → Bool
 line_may_lack line = if nat_lt 8192 (length line) then false else if is_utf8 line then text_may_lack line else false
@@ -129,10 +83,12 @@ abbrev pub answer_text : Form → Answer → ℕ → ℕ → List ℕ
 answer_text Plain a looks sames = answer_word a ++ 10 ∷ []
 answer_text Counted a looks sames = answer_word a ++ (if has_verdict a then counts_text looks sames else []) ++ 10 ∷ []
 
--- The rules of `check`, with and without `--count`.
+abbrev pub line_output : Form → List ℕ → List ℕ
+line_output form line = answer_text form (answer line) (line_looks line) (line_comparisons line)
+
+abbrev pub line_is_good : List ℕ → Bool
+line_is_good line = is_match (answer line)
+
+-- The rules of `check`, with and without `--count`: each line is answered by itself.
 abbrev pub line_rules : Form → LineRules
-line_rules form = record {
-  line_output = λ line. answer_text form (answer line) (line_looks line) (line_comparisons line);
-  is_good = λ line. is_match (answer line);
-  may_lack_memory = line_may_lack;
-}
+line_rules form = each_line (line_output form) line_is_good line_may_lack

@@ -1,4 +1,8 @@
 pub mod Words
 pub mod Answer
-pub mod Outcome
-pub mod Next
+pub mod Check
+pub mod Normalize
+pub mod NormalState
+pub mod Bench
+pub mod BenchOutcome
+pub mod Streams

@@ -6,25 +6,29 @@
 #![tactic(auto)]
 
 mod answer;
+mod bench;
 mod check;
+mod checker;
 mod form;
+#[cfg(test)]
+mod form_tests;
+mod input;
+pub mod laws;
 mod line_answer;
-mod next;
+mod normalize;
+mod normalizer;
 mod program;
-mod status;
-mod stop;
+mod streams;
 #[cfg(test)]
 mod tests;
-mod text;
 mod word;
 mod words;
-mod write;
 
 ghost use Rattle.std.specs.Prelude.{◌≡◌, ◌⊎◌, IfErr};
 
 use line_io::{StdSink, StdSource};
+use line_program::status::{NO_MEMORY, NO_WORDS};
 pub use program::{run, run_limited};
-use status::{NO_MEMORY, NO_WORDS};
 use std::process::ExitCode;
 use std::rt::Env;
 use std::{env, io};

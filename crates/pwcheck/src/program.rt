@@ -1,16 +1,22 @@
 //! The top calls.
 
-ghost use Rattle.std.specs.Prelude.{◌≡◌, ◌≢◌, ◌≤◌, ◌^◌, ◌↔◌};
+ghost use Rattle.std.specs.Prelude.{◌≡◌, ◌≢◌, ◌⊎◌, ◌≤◌, ◌^◌, ◌↔◌, ℕ, min};
 ghost use Rattle.line_io.specs.Devices.{HasRisen, WhereTold};
+ghost use Rattle.line_program.specs.Outcome.{Outcome};
 ghost use Rattle.pwcheck.specs.Answer.{line_rules};
-ghost use Rattle.pwcheck.specs.Outcome.{Outcome};
-ghost use Rattle.pwcheck.specs.Words.{check, check_count};
+ghost use Rattle.pwcheck.specs.BenchOutcome.{BenchOutcome};
+ghost use Rattle.pwcheck.specs.Normalize.{normal_rules};
+ghost use Rattle.pwcheck.specs.Streams.{KeptOutcome, Unwraps, Wraps, longest_kept};
+ghost use Rattle.pwcheck.specs.Words.{IsBench, IsUnwrap, IsWrap, check, check_count, normalize};
 
 use crate::Words;
+use crate::bench::bench;
 use crate::check::check_lines;
 use crate::form::Form;
-use crate::status::BAD_WORDS;
+use crate::normalize::normalize_lines;
+use crate::streams::{unwrap_input, wrap_input};
 use line_io::{Sink, Source};
+use line_program::status::BAD_WORDS;
 use std::alloc::Global;
 
 /// The most bytes of an input.
@@ -18,8 +24,12 @@ const INPUT_MAX: u64 = 1 << 40;
 
 /// Does what the words of the command line say, over a source of at most `max` bytes, and gives the status.
 ///
-/// The forms of words are `check` and `check --count`. The lines are kept one at a time in a buffer of 16,384
-/// bytes. Only the key of a scrypt record takes memory, and gives it back.
+/// The forms of words are `check`, `check --count`, `normalize`, and with a number `bench`, `wrap` and `unwrap`.
+/// `check` and `normalize` keep the lines one at a time in a buffer of 16,384 bytes, and replies are gathered in another:
+/// they are written where it is full, before each read, behind a match or a mismatch, and at the end. Of `check` only
+/// the key of a scrypt record takes memory: the table of the largest such record so far, which is kept for those that
+/// follow and given back at the end. `normalize` takes none; `bench` keeps one stored text at a time, and the summary;
+/// `wrap` and `unwrap` keep their whole input, at most 1,048,576 bytes.
 pub fn run_limited<S: Source, K: Sink>(
     alloc: Global,
     words: &Words,
@@ -29,11 +39,15 @@ pub fn run_limited<S: Source, K: Sink>(
 ) -> u8
     requires { max ≤ 2 ^ 40 }
 
-    // No other status comes.
-    ensures statuses { result ≤ 6 }
+    // No other status comes; 1 is for lines, 7 for `unwrap` alone.
+    ensures statuses { result ≤ 7 }
+    ensures some_other { result ≡ 1 → (words.now ≡ check) ⊎ ((words.now ≡ check_count) ⊎ (words.now ≡ normalize)) }
+    ensures no_text { result ≡ 7 → (w : ℕ) × IsUnwrap w words.now }
 
-    // Other words than those of the two forms: nothing is read or written.
-    ensures words { (result ≡ 2) ↔ ((words.now ≢ check) × (words.now ≢ check_count)) }
+    // Other words than those of a form: nothing is read or written.
+    ensures words { (result ≡ 2) ↔ ((words.now ≢ check) × (words.now ≢ check_count) × (words.now ≢ normalize)
+        × ((n : ℕ) → IsBench n words.now → ⊥) × ((w : ℕ) → IsWrap w words.now → ⊥)
+        × ((w : ℕ) → IsUnwrap w words.now → ⊥)) }
     ensures untouched { result ≡ 2 → (source.new ≡ source.old) × (sink.new ≡ sink.old) }
 
     // A fault is answered only where the count of that device rose in this call.
@@ -46,6 +60,22 @@ pub fn run_limited<S: Source, K: Sink>(
         (λ held taken added. Outcome (line_rules Form.Plain) result max held taken added) }
     ensures counted { words.now ≡ check_count → WhereTold (S.left source.old) (S.left source.new) (K.written sink.old) (K.written sink.new)
         (λ held taken added. Outcome (line_rules Form.Counted) result max held taken added) }
+
+    // `normalize` never wants memory.
+    ensures normalized { words.now ≡ normalize → WhereTold (S.left source.old) (S.left source.new) (K.written sink.old) (K.written sink.new)
+        (λ held taken added. Outcome normal_rules result max held taken added) }
+    ensures no_want_of_memory { words.now ≡ normalize → result ≢ 5 }
+
+    // `bench` reads nothing. Want of memory ends it before anything is written.
+    ensures bench { (n : ℕ) → IsBench n words.now → BenchOutcome n result (K.written sink.old) (K.written sink.new) }
+    ensures bench_reads { (n : ℕ) → IsBench n words.now → source.new ≡ source.old }
+    ensures bench_memory { (n : ℕ) → IsBench n words.now → result ≡ 5 → sink.new ≡ sink.old }
+
+    // `wrap` and `unwrap` read their whole input before they write.
+    ensures wrapped { (w : ℕ) → IsWrap w words.now → WhereTold (S.left source.old) (S.left source.new) (K.written sink.old) (K.written sink.new)
+        (λ held taken added. KeptOutcome (Wraps w) result (min max longest_kept) held taken added) }
+    ensures unwrapped { (w : ℕ) → IsUnwrap w words.now → WhereTold (S.left source.old) (S.left source.new) (K.written sink.old) (K.written sink.new)
+        (λ held taken added. KeptOutcome (Unwraps w) result (min max longest_kept) held taken added) }
 {
     if words.is_check() {
         return check_lines(alloc, Form::Plain, source, sink, max);
@@ -53,13 +83,29 @@ pub fn run_limited<S: Source, K: Sink>(
     if words.is_check_count() {
         return check_lines(alloc, Form::Counted, source, sink, max);
     }
-    BAD_WORDS
+    if words.is_normalize() {
+        return normalize_lines(source, sink, max);
+    }
+    if let Some(n) = words.bench_lines() {
+        return bench(alloc, n, sink);
+    }
+    if let Some(width) = words.wrap_width() {
+        return wrap_input(alloc, width as usize, source, sink, max);
+    }
+    match words.unwrap_width() {
+        Some(width) => unwrap_input(alloc, width as usize, source, sink, max),
+        None => BAD_WORDS,
+    }
 }
 
 /// The program: `run_limited` over a source of at most 2^40 bytes.
 pub fn run<S: Source, K: Sink>(alloc: Global, words: &Words, source: &mut S, sink: &mut K) -> u8
-    ensures statuses { result ≤ 6 }
-    ensures words { (result ≡ 2) ↔ ((words.now ≢ check) × (words.now ≢ check_count)) }
+    ensures statuses { result ≤ 7 }
+    ensures some_other { result ≡ 1 → (words.now ≡ check) ⊎ ((words.now ≡ check_count) ⊎ (words.now ≡ normalize)) }
+    ensures no_text { result ≡ 7 → (w : ℕ) × IsUnwrap w words.now }
+    ensures words { (result ≡ 2) ↔ ((words.now ≢ check) × (words.now ≢ check_count) × (words.now ≢ normalize)
+        × ((n : ℕ) → IsBench n words.now → ⊥) × ((w : ℕ) → IsWrap w words.now → ⊥)
+        × ((w : ℕ) → IsUnwrap w words.now → ⊥)) }
     ensures untouched { result ≡ 2 → (source.new ≡ source.old) × (sink.new ≡ sink.old) }
     ensures read_fault { result ≡ 3 → HasRisen (S.faults source.old) (S.faults source.new) }
     ensures write_fault { result ≡ 4 → HasRisen (K.faults sink.old) (K.faults sink.new) }
@@ -67,6 +113,16 @@ pub fn run<S: Source, K: Sink>(alloc: Global, words: &Words, source: &mut S, sin
         (λ held taken added. Outcome (line_rules Form.Plain) result (2 ^ 40) held taken added) }
     ensures counted { words.now ≡ check_count → WhereTold (S.left source.old) (S.left source.new) (K.written sink.old) (K.written sink.new)
         (λ held taken added. Outcome (line_rules Form.Counted) result (2 ^ 40) held taken added) }
+    ensures normalized { words.now ≡ normalize → WhereTold (S.left source.old) (S.left source.new) (K.written sink.old) (K.written sink.new)
+        (λ held taken added. Outcome normal_rules result (2 ^ 40) held taken added) }
+    ensures no_want_of_memory { words.now ≡ normalize → result ≢ 5 }
+    ensures bench { (n : ℕ) → IsBench n words.now → BenchOutcome n result (K.written sink.old) (K.written sink.new) }
+    ensures bench_reads { (n : ℕ) → IsBench n words.now → source.new ≡ source.old }
+    ensures bench_memory { (n : ℕ) → IsBench n words.now → result ≡ 5 → sink.new ≡ sink.old }
+    ensures wrapped { (w : ℕ) → IsWrap w words.now → WhereTold (S.left source.old) (S.left source.new) (K.written sink.old) (K.written sink.new)
+        (λ held taken added. KeptOutcome (Wraps w) result longest_kept held taken added) }
+    ensures unwrapped { (w : ℕ) → IsUnwrap w words.now → WhereTold (S.left source.old) (S.left source.new) (K.written sink.old) (K.written sink.new)
+        (λ held taken added. KeptOutcome (Unwraps w) result longest_kept held taken added) }
 {
     run_limited(alloc, words, source, sink, INPUT_MAX)
 }

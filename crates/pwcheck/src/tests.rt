@@ -13,7 +13,7 @@ const TWO_LINES: &str = "Hello world!\t$5$saltstring$5B8vYYiY.CVt1RlTTf8KbXBH3hs
     Hello world\t$5$saltstring$5B8vYYiY.CVt1RlTTf8KbXBH3hsxY/GNooZaBBGWEc5\n";
 
 // An input, the output and the status.
-const ROWS: [(&[u8], &str, u8); 33] = [
+const ROWS: [(&[u8], &str, u8); 36] = [
     (b"", "", 0),
     (
         b"Hello world!\t$5$saltstring$5B8vYYiY.CVt1RlTTf8KbXBH3hsxY/GNooZaBBGWEc5\n",
@@ -47,6 +47,11 @@ const ROWS: [(&[u8], &str, u8); 33] = [
     ),
     (
         b"Hello world!\t$5$rounds=+05000$saltstring$5B8vYYiY.CVt1RlTTf8KbXBH3hsxY/GNooZaBBGWEc5\n",
+        "sha-format\n",
+        1,
+    ),
+    (
+        b"Hello world!\t$5$rounds=5000$saltstring$5B8vYYiY.CVt1RlTTf8KbXBH3hsxY/GNooZaBBGWEc5\n",
         "match\n",
         0,
     ),
@@ -121,13 +126,23 @@ const ROWS: [(&[u8], &str, u8); 33] = [
         "phc-hash-long\n",
         1,
     ),
-    // The field that the first 16 bytes of the salt give.
+    // The salt of 20 bytes, and its first 16, which give the same field.
     (
         b"Hello world!\t$5$saltstringsaltstring$a5C8Ofk71MUIoKve2QuP9FMl.dwNgseF5tR1LGAL7iB\n",
+        "sha-format\n",
+        1,
+    ),
+    (
+        b"Hello world!\t$5$saltstringsaltst$a5C8Ofk71MUIoKve2QuP9FMl.dwNgseF5tR1LGAL7iB\n",
         "match\n",
         0,
     ),
-    (b"\t$5$rounds=999$s$x\n", "sha-rounds\n", 1),
+    (
+        b"\t$5$rounds=999$s$x\n\t$5$rounds=0$s$x\n",
+        "sha-rounds\nsha-rounds\n",
+        1,
+    ),
+    (b"\t$5$rounds=01000$s$x\n", "sha-format\n", 1),
     (b"\t$6$rounds=x$s\n", "sha-format\n", 1),
     (b"\t$5\n\t$5$a\n", "sha-format\nsha-format\n", 1),
     (
@@ -486,8 +501,10 @@ fn other_words(rt: HostRuntime) -> Result<(), Fail> {
         &["check", "--Count"],
         &["check", "--count", "x"],
         &["--count", "check"],
-        &["bench", "8"],
-        &["wrap", "4"],
+        &["bench"],
+        &["wrap", "4", "4"],
+        &["Normalize"],
+        &["normalize", "x"],
         &[""],
     ] {
         let mut words = Words::new(rt.alloc());

@@ -1,0 +1,5 @@
+pub mod Rules
+pub mod Outcome
+pub mod Next
+pub mod PlainOutput
+pub mod Toys

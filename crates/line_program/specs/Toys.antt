@@ -1,0 +1,91 @@
+-- Two programs that the tests run. No public clause names these words.
+--
+-- Notes: a program whose replies depend on the lines before. It keeps lines, and `list` lists them.
+use Rattle.std.specs.Prelude.{ℕ, Bool, true, false, ◌&&◌, ◌==◌, not, List, [], ◌∷◌, ◌++◌, length, nat_lt, nat_le, codes, bytes_eq, nat_eq, if◌then◌else◌, Option, Some, None}
+use Rattle.std.specs.Cmp.Lexicographic.{pointwise}
+use Rattle.std.specs.List.{flat_map}
+use Rattle.line_program.specs.Rules.{LineRules, StateRules, each_line, from_state}
+
+abbrev pub is_list : List ℕ → Bool
+is_list line = bytes_eq line (codes "list")
+
+-- each kept line and a line feed
+abbrev pub listing : List (List ℕ) → List ℕ
+listing texts = flat_map (λ text. text ++ 10 ∷ []) texts
+
+-- the reply to a line, where these lines are kept, by the first that holds
+abbrev pub reply_over : List (List ℕ) → List ℕ → List ℕ
+reply_over texts line =
+    if nat_lt 8192 (length line) then codes "toolong" ++ 10 ∷ []
+    else if is_list line then listing texts
+    else if nat_le 4096 (length texts) then codes "full" ++ 10 ∷ []
+    else codes "ok" ++ 10 ∷ []
+
+-- ---- over the history: the pairs of a line and its reply
+
+-- a line that isn't `list` and was answered `ok`
+abbrev pub was_kept : List ℕ × List ℕ → Bool
+was_kept pair = not (is_list pair.0) && bytes_eq pair.1 (codes "ok" ++ 10 ∷ [])
+
+abbrev pub kept : List (List ℕ × List ℕ) → List (List ℕ)
+kept [] = []
+kept (pair ∷ more) = if was_kept pair then pair.0 ∷ kept more else kept more
+
+-- ---- the rules of notes
+
+-- the line is kept
+abbrev pub keeps : List (List ℕ) → List ℕ → Bool
+keeps texts line = if nat_lt 8192 (length line) then false else if is_list line then false else not (nat_le 4096 (length texts))
+
+-- a reply of `ok` or a listing
+abbrev pub is_good_over : List (List ℕ) → List ℕ → Bool
+is_good_over texts line = if nat_lt 8192 (length line) then false else if is_list line then true else not (nat_le 4096 (length texts))
+
+-- what is kept, as the code has it
+abbrev pub notes_rules : StateRules (List (List ℕ))
+notes_rules = record {
+  reply = reply_over;
+  after = λ texts line. if keeps texts line then texts ++ line ∷ [] else texts;
+  is_good = is_good_over;
+  may_lack_memory = keeps;
+}
+
+-- the same over the history: the pairs of a line and its reply
+abbrev pub history_rules : StateRules (List (List ℕ × List ℕ))
+history_rules = record {
+  reply = λ h line. reply_over (kept h) line;
+  after = λ h line. h ++ (line, reply_over (kept h) line) ∷ [];
+  is_good = λ h line. is_good_over (kept h) line;
+  may_lack_memory = λ h line. keeps (kept h) line;
+}
+
+abbrev pub program_rules : LineRules
+program_rules = from_state history_rules []
+
+-- ---- Echo: each line is given back, without memory
+
+abbrev pub fits : List ℕ → Bool
+fits line = nat_le (length line) 8192
+
+abbrev pub echo_reply : List ℕ → List ℕ
+echo_reply line = if fits line then line ++ 10 ∷ [] else codes "toolong" ++ 10 ∷ []
+
+abbrev pub echo_rules : LineRules
+echo_rules = each_line echo_reply fits (λ line. false)
+
+-- the same, by whatever gives them back
+abbrev pub echo_state : {St : Type 0} → StateRules St
+echo_state = record {
+  reply = λ s line. echo_reply line;
+  after = λ s line. s;
+  is_good = λ s line. fits line;
+  may_lack_memory = λ s line. false;
+}
+
+-- ---- a check by which a password matches the same text, and the empty text is no stored text
+
+abbrev pub same_verdict : {St : Type 0} → St → List ℕ → List ℕ → Option Bool
+same_verdict s password stored = if length stored == 0 then None else Some (pointwise nat_eq password stored)
+
+abbrev pub same_lacks : {St : Type 0} → St → List ℕ → List ℕ → Bool
+same_lacks s password stored = false

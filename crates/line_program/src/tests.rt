@@ -1,0 +1,155 @@
+//! Two programs, worked inputs, and when replies are written.
+
+mod echo;
+mod notes;
+mod turns;
+
+use crate::{PasswordCheck, PlainLines, cut_at_last_tab, run_plain};
+use echo::run_echo;
+use line_io::{MemorySink, MemorySource};
+use notes::run_notes;
+use std::alloc::AllocError;
+use std::cell::Cell;
+use turns::{Answers, Questions};
+
+#[test]
+fn kept_and_listed(rt: HostRuntime) {
+    for step in [1, 3, 1_000] {
+        let mut room = [0; 128];
+        let mut source = MemorySource::new(b"a\nlist\n\nbc\nlist\nlist", step, &[]);
+        let mut sink = MemorySink::new(&mut room, 5, &[]);
+        let status = run_notes(rt.alloc(), &mut source, &mut sink, 1_000);
+        assert_eq!(rt; status, 0);
+        assert_eq!(rt;
+            sink.bytes(),
+            b"ok\na\nok\nok\na\n\nbc\na\n\nbc\n".as_slice()
+        );
+    }
+}
+
+#[test]
+fn a_listing_longer_than_the_buffer(rt: HostRuntime) {
+    let mut input = [b'a'; 24_008];
+    input[8_000] = b'\n';
+    input[16_001] = b'\n';
+    input[24_002] = b'\n';
+    input[24_003] = b'l';
+    input[24_004] = b'i';
+    input[24_005] = b's';
+    input[24_006] = b't';
+    input[24_007] = b'\n';
+    let mut room = [0; 24_100];
+    let mut source = MemorySource::new(&input, 16_384, &[]);
+    let mut sink = MemorySink::new(&mut room, 10_000, &[]);
+    let status = run_notes(rt.alloc(), &mut source, &mut sink, 100_000);
+    assert_eq!(rt; status, 0);
+    // Three replies, and the three lines.
+    assert_eq!(rt; sink.bytes().len(), 9 + 24_003);
+    assert!(rt; sink.bytes().starts_with(b"ok\nok\nok\naaa"));
+    assert!(rt; sink.bytes().ends_with(b"aaa\n"));
+}
+
+#[test]
+fn statuses(rt: HostRuntime) {
+    // An input, the reads and writes that fail at two bytes each, the bytes that count, the status and the output.
+    let rows: [(&[u8], &[u64], &[u64], u64, u8, &[u8]); 6] = [
+        (b"", &[], &[], 9, 0, b""),
+        (b"a\nb\n", &[], &[], 9, 0, b"a\nb\n"),
+        (b"a\nb\n", &[1], &[], 9, 3, b"a\n"),
+        (b"abc\nd\n", &[], &[1], 9, 4, b"ab"),
+        (b"a\nb\n", &[], &[], 3, 6, b"a\n"),
+        (b"a\nb", &[], &[], 3, 0, b"a\nb\n"),
+    ];
+    for (input, reads, writes, max, status, output) in rows {
+        let mut room = [0; 16];
+        let mut source = MemorySource::new(input, 2, reads);
+        let mut sink = MemorySink::new(&mut room, 2, writes);
+        assert!(rt; max <= 9);
+        assert_eq!(rt; run_echo(&mut source, &mut sink, max), status);
+        assert_eq!(rt; sink.bytes(), output);
+    }
+}
+
+#[test]
+fn a_line_that_is_too_long(rt: HostRuntime) {
+    let mut input = [b'a'; 8_195];
+    input[8_193] = b'\n';
+    let mut room = [0; 16];
+    let mut source = MemorySource::new(&input, 1_000, &[]);
+    let mut sink = MemorySink::new(&mut room, 16, &[]);
+    assert_eq!(rt; run_echo(&mut source, &mut sink, 10_000), 1);
+    assert_eq!(rt; sink.bytes(), b"toolong\na\n".as_slice());
+}
+
+#[test]
+fn answered_before_the_next_read(rt: HostRuntime) {
+    let lines: [&[u8]; 3] = [b"one\n", b"\n", b"three\n"];
+    let answered = Cell::new(0);
+    let mut source = Questions::new(&lines, &answered);
+    let mut sink = Answers::new(&answered);
+    assert_eq!(rt; run_echo(&mut source, &mut sink, 100), 0);
+    assert!(rt; !source.is_early());
+    assert_eq!(rt; answered.get(), 3);
+    // A short reply is one write, though it is put in two pieces.
+    assert_eq!(rt; sink.writes(), 3);
+}
+
+#[test]
+fn many_lines_of_one_read_are_one_write(rt: HostRuntime) {
+    let lines: [&[u8]; 1] = [b"one\ntwo\nthree\n"];
+    let answered = Cell::new(0);
+    let mut source = Questions::new(&lines, &answered);
+    let mut sink = Answers::new(&answered);
+    assert_eq!(rt; run_echo(&mut source, &mut sink, 100), 0);
+    assert_eq!(rt; answered.get(), 3);
+    assert_eq!(rt; sink.writes(), 1);
+}
+
+/// A check by which a password matches the stored text that is the same.
+#[derive(Clone, Copy, Debug)]
+struct Same;
+
+impl PasswordCheck for Same {
+    ghost use Rattle.line_program.specs.Toys.{same_verdict, same_lacks};
+
+    ghost verdict = { same_verdict };
+
+    ghost may_lack = { same_lacks };
+
+    fn check(&self, password: &str, stored: &str) -> Result<Option<bool>, AllocError> {
+        if stored.is_empty() {
+            return Ok(None);
+        }
+        Ok(Some(password == stored))
+    }
+}
+
+// A line, its word and the status.
+const PLAIN: [(&[u8], &[u8], u8); 7] = [
+    (b"a\ta\n", b"match\n", 0),
+    (b"a\tb\n", b"mismatch\n", 1),
+    (b"a\t\n", b"invalid\n", 1),
+    (b"a\n", b"invalid\n", 1),
+    (b"b\tb\tb", b"mismatch\n", 1),
+    (b"\xff\t\xff\n", b"invalid\n", 1),
+    (b"", b"", 0),
+];
+
+#[test]
+fn plain_lines(rt: HostRuntime) {
+    for (line, word, status) in PLAIN {
+        let mut room = [0; 16];
+        let mut source = MemorySource::new(line, 3, &[]);
+        let mut sink = MemorySink::new(&mut room, 16, &[]);
+        let mut lines = PlainLines { check: Same };
+        assert_eq!(rt; run_plain(&mut lines, &mut source, &mut sink, 100), status);
+        assert_eq!(rt; sink.bytes(), word);
+    }
+}
+
+#[test]
+fn cut_at_tabs(rt: HostRuntime) {
+    assert_eq!(rt; cut_at_last_tab("a\tb\tc"), Some(("a\tb", "c")));
+    assert_eq!(rt; cut_at_last_tab("\t"), Some(("", "")));
+    assert_eq!(rt; cut_at_last_tab("abc"), None);
+}
