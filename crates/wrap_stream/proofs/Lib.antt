@@ -1,0 +1,14 @@
+mod FrontVectors
+pub mod Letters
+pub mod Grown
+pub mod Runs
+pub mod Laid
+pub mod Fronts
+pub mod Growths
+pub mod Turning
+pub mod Strides
+pub mod Unwrapped
+pub mod Laying
+pub mod Pieces
+pub mod Numbers
+pub mod Settled

@@ -1,0 +1,17 @@
+//! Base64 in lines, wrapped and unwrapped between a source and a sink in fixed memory.
+#![tactic(auto)]
+
+mod grow;
+pub mod laws;
+mod lines;
+mod place;
+mod program;
+mod reader;
+mod status;
+#[cfg(test)]
+mod tests;
+mod unwrap;
+mod width;
+mod wrap;
+
+pub use program::{run_stream, run_stream_limited};
