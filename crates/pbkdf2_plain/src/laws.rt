@@ -1,0 +1,51 @@
+//! Laws over the definitions.
+
+ghost use Rattle.std.specs.Prelude.{◌≡◌, ℕ, List, if◌then◌else◌};
+ghost use Rattle.mcf.specs.Grammar.{mcf};
+ghost use Rattle.stored_check.specs.Verdict.{may_lack_memory, verdict};
+ghost use Rattle.pbkdf2_plain.specs.Either.{CostlyTexts, EitherMayLack, EitherVerdict, has_identifier};
+ghost use Rattle.pbkdf2_plain.specs.Laws.{KeyLength, OneRound, ShorterKey};
+
+use crate::EitherKdf;
+use stored_check::PhcKdf;
+
+/// One round is the derivation that scrypt makes.
+pub fn one_round()
+    ensures { OneRound }
+{}
+
+/// A key has as many bytes as were asked for.
+pub fn key_length()
+    ensures { KeyLength }
+{}
+
+/// A shorter key is the beginning of a longer one.
+pub fn shorter_key()
+    ensures { ShorterKey }
+{}
+
+/// The verdict by two derivations is that by the first for the texts with its identifier, and that by the second for
+/// all others; and so is whether memory may be wanting for it, which is for just the valid texts with the first's
+/// identifier where the first may need memory for every record and the second for none.
+pub fn either_verdict()
+    ensures verdict { EitherVerdict }
+    ensures memory { EitherMayLack }
+    ensures costly { CostlyTexts }
+{}
+
+/// The same of [`EitherKdf`] and what it is made of.
+pub fn verdict_of_either<A: PhcKdf, B: PhcKdf>(kdf: &EitherKdf<A, B>)
+    ensures verdict { (password stored : List ℕ)
+        → verdict (⟦<EitherKdf<A, B> as PhcKdf>⟧.accepted kdf.now) (⟦<EitherKdf<A, B> as PhcKdf>⟧.tag kdf.now)
+        password stored
+        ≡ (if has_identifier kdf.now.first (mcf stored)
+        then verdict (A.accepted kdf.now.a) (A.tag kdf.now.a) password stored
+        else verdict (B.accepted kdf.now.b) (B.tag kdf.now.b) password stored) }
+    ensures memory { (password stored : List ℕ)
+        → may_lack_memory (⟦<EitherKdf<A, B> as PhcKdf>⟧.accepted kdf.now)
+        (⟦<EitherKdf<A, B> as PhcKdf>⟧.needs_memory kdf.now) (⟦<EitherKdf<A, B> as PhcKdf>⟧.tag kdf.now)
+        password stored
+        ≡ (if has_identifier kdf.now.first (mcf stored)
+        then may_lack_memory (A.accepted kdf.now.a) (A.needs_memory kdf.now.a) (A.tag kdf.now.a) password stored
+        else may_lack_memory (B.accepted kdf.now.b) (B.needs_memory kdf.now.b) (B.tag kdf.now.b) password stored) }
+{}

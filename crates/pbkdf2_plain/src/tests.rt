@@ -1,0 +1,232 @@
+//! Keys of OpenSSL, records, and two derivations as one.
+
+use crate::{EitherKdf, Pbkdf2Plain, laws, pbkdf2, run_either, run_either_limited};
+use line_io::{MemorySink, MemorySource};
+use phc::{Ident, PasswordHash};
+use scrypt_plain::ScryptPlain;
+use std::test::Fail;
+use stored_check::{PhcKdf, StoredError, check_stored};
+
+// A password, a salt, the rounds and the key: the inputs of RFC 6070, with SHA-256 as openssl and Python's hashlib give
+// them.
+const KEYS: [(&[u8], &[u8], u32, &[u8]); 5] = [
+    (
+        b"password",
+        b"salt",
+        1,
+        b"\x12\x0f\xb6\xcf\xfc\xf8\xb3\x2c\x43\xe7\x22\x52\x56\xc4\xf8\x37\xa8\x65\x48\xc9\x2c\xcc\x35\x48\x08\x05\x98\x7c\xb7\x0b\xe1\x7b\x4d\xbf\x3a\x2f\x3d\xad\x33\x77\x26\x4b\xb7\xb8\xe8\x33\x0d\x4e\xfc\x74\x51\x41\x86\x17\xda\xbe\xf6\x83\x73\x53\x61\xcd\xc1\x8c",
+    ),
+    (
+        b"password",
+        b"salt",
+        2,
+        b"\xae\x4d\x0c\x95\xaf\x6b\x46\xd3\x2d\x0a\xdf\xf9\x28\xf0\x6d\xd0\x2a\x30\x3f\x8e\xf3\xc2\x51\xdf\xd6\xe2\xd8\x5a\x95\x47\x4c\x43\x83\x06\x51\xaf\xcb\x5c\x86\x2f\x0b\x24\x9b\xd0\x31\xf7\xa6\x75\x20\xd1\x36\x47\x0f\x5e\xc2\x71\xec\xe9\x1c\x07\x77\x32\x53\xd9",
+    ),
+    (
+        b"password",
+        b"salt",
+        4096,
+        b"\xc5\xe4\x78\xd5\x92\x88\xc8\x41\xaa\x53\x0d\xb6\x84\x5c\x4c\x8d\x96\x28\x93\xa0\x01\xce\x4e\x11\xa4\x96\x38\x73\xaa\x98\x13\x4a",
+    ),
+    (
+        b"passwordPASSWORDpassword",
+        b"saltSALTsaltSALTsaltSALTsaltSALTsalt",
+        4096,
+        b"\x34\x8c\x89\xdb\xcb\xd3\x2b\x2f\x32\xd8\x14\xb8\x11\x6e\x84\xcf\x2b\x17\x34\x7e\xbc\x18\x00\x18\x1c\x4e\x2a\x1f\xb8\xdd\x53\xe1\xc6\x35\x51\x8c\x7d\xac\x47\xe9",
+    ),
+    (
+        b"pass\0word",
+        b"sa\0lt",
+        4096,
+        b"\x89\xb6\x9d\x05\x16\xf8\x29\x89\x3c\x69\x62\x26\x65\x0a\x86\x87",
+    ),
+];
+
+#[test]
+fn keys(rt: HostRuntime) {
+    for (password, salt, rounds, key) in KEYS {
+        let mut out = [0u8; 64];
+        let count = key.len();
+        pbkdf2(password, salt, rounds, &mut out[..count]);
+        assert_eq!(rt; &out[..count], key, "{rounds} {count}");
+        assert!(rt; out[count..].iter().all(|b| *b == 0));
+    }
+}
+
+#[test]
+fn shorter_keys(rt: HostRuntime) {
+    let (password, salt, rounds, key) = KEYS[1];
+    for count in [1, 10, 31, 32, 33, 40, 63] {
+        let mut out = [0u8; 64];
+        pbkdf2(password, salt, rounds, &mut out[..count]);
+        assert_eq!(rt; &out[..count], &key[..count], "{count}");
+        assert!(rt; out[count..].iter().all(|b| *b == 0));
+    }
+}
+
+// A record, the bytes of a hash, and whether it is taken.
+const RECORDS: [(&str, usize, bool); 17] = [
+    ("$pbkdf2-sha256$i=1", 10, true),
+    ("$pbkdf2-sha256$i=1", 64, true),
+    ("$pbkdf2-sha256$i=1", 9, false),
+    ("$pbkdf2-sha256$i=1", 65, false),
+    ("$pbkdf2-sha256$i=10000000,l=32", 32, true),
+    ("$pbkdf2-sha256$l=32,i=10000000", 32, true),
+    ("$pbkdf2-sha256$i=10000001", 32, false),
+    ("$pbkdf2-sha256$i=0", 32, false),
+    ("$pbkdf2-sha256$i=1,l=31", 32, false),
+    ("$pbkdf2-sha256$i=01", 32, false),
+    ("$pbkdf2-sha256$l=32", 32, false),
+    ("$pbkdf2-sha256$i=1,i=1", 32, false),
+    ("$pbkdf2-sha256$i=1,l=32,l=32", 32, false),
+    ("$pbkdf2-sha256$i=1,n=32", 32, false),
+    ("$pbkdf2-sha256$v=1$i=1", 32, false),
+    ("$pbkdf2-sha512$i=1", 32, false),
+    ("$pbkdf2-sha256", 32, false),
+];
+
+#[test]
+fn records_taken(rt: HostRuntime) {
+    for (text, length, taken) in RECORDS {
+        match PasswordHash::new(text) {
+            Ok(record) => assert_eq!(rt;
+                Pbkdf2Plain.accepts(&record, b"salt", length),
+                taken,
+                "{text:?} {length}"
+            ),
+            Err(_) => panic!(rt; "no record: {text:?}"),
+        }
+    }
+}
+
+// A password, a stored text and its verdict. The hash of the second is openssl's.
+const VERDICTS: [(&str, &str, Result<bool, StoredError>); 9] = [
+    (
+        "x",
+        "$pbkdf2-sha256$i=1,l=10$abcdabcdabc$AAAAAAAAAAAAAA",
+        Ok(false),
+    ),
+    (
+        "x",
+        "$pbkdf2-sha256$i=3,l=20$abcdabcdabc$AV51HpxlcLyeNoRwT7WM5XsdQVM",
+        Ok(true),
+    ),
+    (
+        "y",
+        "$pbkdf2-sha256$i=3,l=20$abcdabcdabc$AV51HpxlcLyeNoRwT7WM5XsdQVM",
+        Ok(false),
+    ),
+    (
+        "x",
+        "$pbkdf2-sha256$i=0,l=10$abcdabcdabc$AAAAAAAAAAAAAA",
+        Err(StoredError::Kdf),
+    ),
+    (
+        "x",
+        "$pbkdf2-sha256$i=1,l=11$abcdabcdabc$AAAAAAAAAAAAAA",
+        Err(StoredError::Kdf),
+    ),
+    (
+        "Hello world!",
+        "$5$saltstring$5B8vYYiY.CVt1RlTTf8KbXBH3hsxY/GNooZaBBGWEc5",
+        Ok(true),
+    ),
+    (
+        "",
+        "$scrypt$ln=4,r=1,p=1$abcdabcdabc$pD4UWShsOuWpZmDptoXHTRSo68CYHCw5zKTiBB5COvc",
+        Ok(true),
+    ),
+    (
+        "x",
+        "$scrypt$ln=4,r=1,p=1$abcdabcdabc$pD4UWShsOuWpZmDptoXHTRSo68CYHCw5zKTiBB5COvc",
+        Ok(false),
+    ),
+    (
+        "x",
+        "$scrypt$i=1$abcdabcdabc$AAAAAAAAAAAAAA",
+        Err(StoredError::Kdf),
+    ),
+];
+
+#[test]
+fn verdicts(rt: HostRuntime) {
+    let either = EitherKdf::new(Ident::new_unwrap("scrypt"), ScryptPlain, Pbkdf2Plain);
+    for (password, stored, verdict) in VERDICTS {
+        assert_eq!(rt;
+            check_stored(rt.alloc(), &either, password, stored),
+            verdict,
+            "{stored:?}"
+        );
+    }
+}
+
+#[test]
+fn laws_stand(_rt: HostRuntime) {
+    laws::one_round();
+    laws::key_length();
+    laws::shorter_key();
+    laws::either_verdict();
+    laws::verdict_of_either(&EitherKdf::new(Ident::new_unwrap("scrypt"), ScryptPlain, Pbkdf2Plain));
+}
+
+// Lines, and their words.
+const LINES: [(&[u8], &[u8]); 8] = [
+    (
+        b"x\t$pbkdf2-sha256$i=1,l=10$abcdabcdabc$AAAAAAAAAAAAAA",
+        b"mismatch\n",
+    ),
+    (
+        b"x\t$pbkdf2-sha256$i=0,l=10$abcdabcdabc$AAAAAAAAAAAAAA",
+        b"invalid\n",
+    ),
+    (
+        b"x\t$pbkdf2-sha256$i=1,l=11$abcdabcdabc$AAAAAAAAAAAAAA",
+        b"invalid\n",
+    ),
+    (
+        b"Hello world!\t$5$saltstring$5B8vYYiY.CVt1RlTTf8KbXBH3hsxY/GNooZaBBGWEc5",
+        b"match\n",
+    ),
+    (
+        b"password\t$scrypt$ln=16,r=8,p=1$aM15713r3Xsvxbi31lqr1Q$nFNh2CVHVjNldFVKDHDlm4CbdRSCdEBsjjJxD+iCs5E",
+        b"match\n",
+    ),
+    (b"no tab", b"invalid\n"),
+    (b"\xff\t$5", b"invalid\n"),
+    (b"x\t$1$a$b", b"invalid\n"),
+];
+
+#[test]
+fn lines_and_their_words(rt: HostRuntime) {
+    for (line, word) in LINES {
+        let mut room = [0; 16];
+        let mut source = MemorySource::new(line, 9, &[]);
+        let mut sink = MemorySink::new(&mut room, 4, &[]);
+        let got = run_either(rt.alloc(), &mut source, &mut sink);
+        assert_eq!(rt; got, if word == b"match\n".as_slice() { 0 } else { 1 });
+        assert_eq!(rt; sink.bytes(), word);
+    }
+}
+
+#[test]
+fn stopped_early(rt: HostRuntime) {
+    let input = b"a\t$5\n\nb\n".as_slice();
+    let mut room = [0; 64];
+    let mut source = MemorySource::new(input, 5, &[1]);
+    let mut sink = MemorySink::new(&mut room, 64, &[]);
+    assert_eq!(rt; run_either(rt.alloc(), &mut source, &mut sink), 3);
+    assert_eq!(rt; sink.bytes(), b"invalid\n".as_slice());
+    let mut room = [0; 64];
+    let mut source = MemorySource::new(input, 64, &[]);
+    let mut sink = MemorySink::new(&mut room, 9, &[1]);
+    assert_eq!(rt; run_either(rt.alloc(), &mut source, &mut sink), 4);
+    assert_eq!(rt; sink.bytes(), b"invalid\ni".as_slice());
+    let mut room = [0; 64];
+    let mut source = MemorySource::new(input, 64, &[]);
+    let mut sink = MemorySink::new(&mut room, 64, &[]);
+    assert_eq!(rt;
+        run_either_limited(rt.alloc(), &mut source, &mut sink, 6),
+        6
+    );
+    assert_eq!(rt; sink.bytes(), b"invalid\ninvalid\n".as_slice());
+}
