@@ -1,6 +1,6 @@
 -- How far a buffer is filled with decoded bytes.
 use Rattle.std.proofs.Common.{◌≡◌, ◌≢◌, ℕ, zero, suc, ◌+◌, ◌-◌, ◌*◌, ◌/◌, ◌%◌, ◌<◌, ◌≤◌, Bool, true, false, List, [], ◌∷◌, ◌++◌, length, take, drop, refl, sym, ap, ◌∙◌, subst, arith, inl, inr, Some, None, take-add}
-use Rattle.std.proofs.lemmas.List.{append-nil, length-append, length-map, take_at, drop_at, take-append-le, take-take, length-take-le, length-take, length-drop, nil_from_length, take_all, drop_all, drop-drop, drop-take}
+use Rattle.std.proofs.lemmas.List.{append-nil, length-append, length-map, take_at, drop_at, take-append-le, take-take, length-take-le, length-take, length-drop, nil_from_length, take_all, drop_all, drop-drop, drop-take, take-append-drop}
 use Rattle.std.proofs.lemmas.Slice.{take-put_mid}
 use Rattle.std.proofs.lemmas.Bool.{cases_lt}
 use borrow.Rule.Slice.PartMut.{put_mid}
@@ -16,6 +16,7 @@ use Rattle.base64ct.proofs.Wrapping.{length-put_mid}
 use Rattle.base64ct.specs.Encoding.{EachBelow, encoding}
 use Rattle.base64ct.proofs.Encodings.{decoded-encoding, below-take}
 use Rattle.base64ct.specs.Wrapping.{characters_from, before}
+use Rattle.base64ct.proofs.Layouts.{line_taken}
 use Rattle.base64ct.proofs.Taken.{before-before, before-nil}
 use Rattle.base64ct.proofs.Firsts.{decoded_more, decoded_last, decoded_nil, last_is, last_more, text_nil, count_four, None≢Some, Some-once}
 
@@ -144,6 +145,15 @@ filling_first a w body t out new kept read first at room s fits len few none som
 
 -- ---- a block more
 
+pub filling_moved : (a : Alphabet) (w : ℕ) (body t out kept : List ℕ) (from done at room start space : ℕ) → characters_from w space (drop start body) ≡ characters_from w room (drop at body) → start ≤ length body
+    → Filling a w body t out kept from done at room → Filling a w body t out kept from done start space
+filling_moved a w body t out kept from done at room start space same within f = record {
+  bytes = f.bytes;
+  good = f.good;
+  stands = record { last = f.stands.last; place = (same ∙ f.stands.place.0, within); keeps = f.stands.keeps; three = f.stands.three };
+  aligned = f.aligned;
+}
+
 pub filling_more : (a : Alphabet) (w : ℕ) (body t out kept bytes ys : List ℕ) (from done at room len next behind some k : ℕ) → done < length out → from + length out ≤ length (decoded a t)
     → Filling a w body t out kept from done at room → FirstRead a w body (drop (4 * ((from + done) / 3)) t) bytes len next behind
     → some ≤ len → some ≤ length out - done → (some < length out - done → some ≡ len) → 0 < some → k ≡ some → ys ≡ take some bytes
@@ -233,6 +243,22 @@ pub record Scanned (w : ℕ) (body : List ℕ) (at room k : ℕ) : Type 0 where
 
 pub scanned_none : (w : ℕ) (body : List ℕ) → Scanned w body 0 w 0
 scanned_none w body = record { front = []; text = sym (before-nil (characters_from w w body)); count = refl }
+
+pub scanned_moved : (w : ℕ) (body : List ℕ) (at room start space k : ℕ) → characters_from w space (drop start body) ≡ characters_from w room (drop at body) → Scanned w body at room k → Scanned w body start space k
+scanned_moved w body at room start space k same s = record { front = s.front; text = s.text ∙ ap (λ o. before s.front o) (sym same); count = s.count }
+
+pub scanned_blocks : (w : ℕ) (body : List ℕ) (at room k n : ℕ) → 4 * n ≤ room → at + 4 * n ≤ length body → Scanned w body at room k → Scanned w body (at + 4 * n) (room - 4 * n) (k + n)
+scanned_blocks w body at room k n fits within s =
+    let line : List ℕ = take (4 * n) (drop at body) in
+    let ll : length line ≡ 4 * n = length-take-le (4 * n) (drop at body) (omega (arith, length-drop at body)) in
+    let parts : drop at body ≡ line ++ drop (at + 4 * n) body = sym (ap (λ (l : List ℕ). line ++ l) (sym (drop-drop (4 * n) at body)) ∙ take-append-drop (4 * n) (drop at body)) in
+    let taken : characters_from w room (drop at body) ≡ before line (characters_from w (room - 4 * n) (drop (at + 4 * n) body)) =
+    ap (λ (l : List ℕ). characters_from w room l) parts ∙ line_taken w room line (drop (at + 4 * n) body) (omega (arith, ll)) ∙ ap (λ m. before line (characters_from w (room - m) (drop (at + 4 * n) body))) ll in
+    record {
+      front = s.front ++ line;
+      text = s.text ∙ rw taken (before-before s.front line _);
+      count = omega (arith, length-append s.front line, s.count, ll);
+    }
 
 pub scanned_more : (w : ℕ) (body block : List ℕ) (at room k next left n : ℕ) → Scanned w body at room k → characters_from w room (drop at body) ≡ before (take n block) (characters_from w left (drop next body))
     → length block ≡ 4 → n ≤ 4 → (n < 4 → next ≡ length body) → next < length body → Scanned w body next left (k + 1)

@@ -1,15 +1,13 @@
 -- What a part that is lent says, from what was done and what is answered.
-use Rattle.std.proofs.Common.{◌≡◌, ◌≢◌, ℕ, ◌<◌, ◌≤◌, List, length, take, Result, Ok, Err, refl, sym, ◌∙◌, subst, arith}
+use Rattle.std.proofs.Common.{◌≡◌, ℕ, ◌<◌, ◌≤◌, List, length, Result, Ok, Err, refl, sym, ◌∙◌, subst, arith}
 use Rattle.std.specs.Prelude.{MatchResult, IfOk}
-use Rattle.std.proofs.lemmas.Bool.{ne_eqb}
 use Rattle.std.proofs.lemmas.List.{take_all}
 use denote.Ref.{Bor}
 use Rattle.base64ct.specs.Encoding.{Alphabet}
 use Rattle.base64ct.specs.Blocks.{AskedAreGood}
 use Rattle.base64ct.specs.Decoders.{Decoded, left, IsDecoded}
 use Rattle.base64ct.specs.Runs.{IsPart, part_of}
-use Rattle.base64ct.specs.Lent.{decoding_answer, decoding_fault}
-use Rattle.base64ct.proofs.LentAnswers.{DecodeAnswers}
+use Rattle.base64ct.proofs.LentAnswers.{HandsBack}
 use Rattle.base64ct.specs.declared.errors.Error.{Error}
 use Rattle.base64ct.specs.declared.errors.Error.TheVariants.{InvalidEncoding, InvalidLength}
 
@@ -53,12 +51,15 @@ part_refused : (a : Alphabet) (x : Error) (old new : Decoded) (out last : List �
 unfolding refusal lent_refusal
 part_refused a x old new out last told = (tt, ((λ short. (again x InvalidLength (told.0 short).0, (told.0 short).1)), (λ fits. told.1 fits)))
 
-pub part_says : (a : Alphabet) (t : Result (Bor (List ℕ)) Error) (len fault : ℕ) (old new : Decoded) (out now last : List ℕ) → DecodeAnswers t fault (take len now) → len ≡ length now
-    → IsPart a old (length out) (part_of (decoding_answer len fault) now) new → last ≡ now → PartEnds t last × PartSays a old out t new
-part_says a (Ok b) len fault old new out now last ok whole told e =
-    let is : decoding_answer len fault ≡ Ok len = rw ok.0 refl in
-    let same : b.now ≡ now = ok.1 ∙ take_all len now (omega arith) in
-    part_given a b old new out now last same (subst (λ (r : Result ℕ Error). IsPart a old (length out) (part_of r now) new) is told) e
-part_says a (Err x) len fault old new out now last ok whole told e =
-    let is : decoding_answer len fault ≡ Err x = rw (ne_eqb fault 0 ok.0, ok.1) refl in
-    part_refused a x old new out last (subst (λ (r : Result ℕ Error). IsPart a old (length out) (part_of r now) new) is told)
+pub no_more_than : {F : Type 0} (outcome : Result ℕ F) (len : ℕ) → IfOk outcome (λ n. n ≡ len) → IfOk outcome (λ n. n ≤ len)
+no_more_than (Ok n) len all = omega (arith, all)
+no_more_than (Err e) len all = tt
+
+pub part_says : (a : Alphabet) (t : Result (Bor (List ℕ)) Error) (outcome : Result ℕ Error) (old new : Decoded) (out now last : List ℕ) → HandsBack t outcome now → IfOk outcome (λ n. n ≡ length now)
+    → IsPart a old (length out) (part_of outcome now) new → last ≡ now → PartEnds t last × PartSays a old out t new
+part_says a (Ok b) outcome old new out now last ok whole told e =
+    let all : length b.now ≡ length now = subst (λ (r : Result ℕ Error). IfOk r (λ n. n ≡ length now)) ok.0 whole in
+    let same : b.now ≡ now = ok.1 ∙ take_all (length b.now) now (omega (arith, all)) in
+    part_given a b old new out now last same (subst (λ (r : Result ℕ Error). IsPart a old (length out) (part_of r now) new) ok.0 told) e
+part_says a (Err x) outcome old new out now last ok whole told e =
+    part_refused a x old new out last (subst (λ (r : Result ℕ Error). IsPart a old (length out) (part_of r now) new) ok told)

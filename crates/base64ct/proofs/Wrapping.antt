@@ -249,6 +249,20 @@ stride_wrote w e out xs more ys at k n left is en h fits =
       at = rw (← en) (sym (room-short w left n h));
     }
 
+-- an ending and some characters are written behind the others, where the line has no room
+pub line_wrote : (w : ℕ) (e out one xs more ys : List ℕ) (at l m n : ℕ) → one ≡ e → l ≡ length e → ys ≡ xs ++ more → n ≡ length xs → 0 < n → n ≤ w → at + length e ≤ length out
+    → Wrote w e out (put_mid (at + length e) m (put_mid at l out one) ys) at (at + length e + n) 0 (w - n) xs
+line_wrote w e out one xs more ys at l m n e1 el ey en pos h fits =
+    let ended : List ℕ = put_mid at l out one in
+    let len : length ended ≡ length out = length-put_mid at l out one (omega arith) (ap length e1 ∙ sym el) in
+    let front : take (at + length e) ended ≡ take at out ++ one = take-put_mid at l out one (at + length e) (omega (arith, ap length e1)) (omega arith) in
+    let f = stride_wrote w e ended xs more ys (at + length e) m n w ey en h (omega (arith, len)) in
+    record {
+      put = f.put ∙ rw (front, e1, wrap-short w e w xs (omega arith), wrap-new_line w e xs (omega arith) (omega arith)) (append_assoc (take at out) e xs);
+      within = f.within;
+      at = rw (← en) (sym (room-new_line w n pos h));
+    }
+
 pub three_of : (m : List ℕ) (i : ℕ) → i + 3 ≤ length m → take 3 (drop i m) ≡ slice_index m i ∷ slice_index m (i + 1) ∷ slice_index m (i + 2) ∷ []
 three_of m i h =
     let two : i + 1 + 1 ≡ i + 2 = omega arith in

@@ -1,17 +1,14 @@
 -- What a call has done to a buffer that is lent to it, and what it answers.
-use Rattle.std.specs.Prelude.{◌≡◌, ◌≢◌, ◌↔◌, ◌⊎◌, ◌++◌, ℕ, ◌<◌, ◌≤◌, ◌==◌, List, length, take, drop, Result, Ok, Err, Some, None, MatchResult, if◌then◌else◌}
+use Rattle.std.specs.Prelude.{◌≡◌, ◌≢◌, ◌↔◌, ◌⊎◌, ◌++◌, ℕ, ◌<◌, ◌≤◌, List, length, take, drop, Result, Err, Some, None, IsErr, IfOk, OnErr, MatchResult}
+use Rattle.std.specs.Borrow.{RattleType, u8 as byte}
+use Rattle.std.specs.contracts.vec.Vec.{the_row as vec_row}
+use Rattle.std.specs.contracts.alloc.Global.{the_row as global}
+use Rattle.std.specs.contracts.impls.GlobalAllocator.TheImpl.{ghosts as global_allocator}
 use Rattle.base64ct.specs.Encoding.{Alphabet, encoding, decoded_len, longest_input, EachBelow, IsMisaligned}
 use Rattle.base64ct.specs.Decoding.{decoding}
 use Rattle.base64ct.specs.declared.errors.Error.{Error}
 use Rattle.base64ct.specs.declared.errors.Error.TheVariants.{InvalidEncoding, InvalidLength}
-
--- what is refused: 2 for want of room
-abbrev pub decoding_fault : ℕ → Error
-decoding_fault fault = if fault == 2 then InvalidLength else InvalidEncoding
-
--- a number of bytes where the fault is 0, or what is refused
-abbrev pub decoding_answer : ℕ → ℕ → Result ℕ Error
-decoding_answer len fault = if fault == 0 then Ok len else Err (decoding_fault fault)
+use Rattle.base64ct.specs.declared.errors.InvalidLengthError.{InvalidLengthError}
 
 -- decoding a text into a buffer that was old and is new
 unfoldable pub Decodes : Alphabet → (src old new : List ℕ) → Result ℕ Error → Type 0
@@ -24,9 +21,13 @@ Decodes a src old new r =
     → MatchResult r (λ n. (n ≡ decoded_len a src) × (n ≤ length old) × (decoding a src ≡ Some (take n new))) (λ e. (e ≡ InvalidEncoding) × (decoding a src ≡ None)))
     × (drop (decoded_len a src) new ≡ drop (decoded_len a src) old)
 
--- encoding bytes into a buffer that was old and is new: so many characters where the fault is 0
-unfoldable pub Encodes : Alphabet → (src old new : List ℕ) → (len fault : ℕ) → Type 0
-Encodes a src old new len fault =
-    ((fault ≢ 0) ↔ ((longest_input < length src) ⊎ (length old < length (encoding a src))))
-    × (fault ≡ 0 → (len ≡ length (encoding a src)) × (new ≡ encoding a src ++ drop len old))
-    × (fault ≢ 0 → new ≡ old)
+-- encoding bytes into a buffer that was old and is new
+unfoldable pub Encodes : Alphabet → (src old new : List ℕ) → Result ℕ InvalidLengthError → Type 0
+Encodes a src old new r =
+    (IsErr r ↔ ((longest_input < length src) ⊎ (length old < length (encoding a src))))
+    × IfOk r (λ n. (n ≡ length (encoding a src)) × (n ≤ length old) × (new ≡ encoding a src ++ drop n old))
+    × OnErr r (new ≡ old)
+
+-- the type `Vec<u8>`, as clauses on lent buffers name it
+abbrev pub byte_vec : RattleType
+byte_vec = vec_row byte global global_allocator

@@ -6,6 +6,7 @@ ghost use Rattle.base64ct.specs.Encoding.{groups, whole_bytes, unpadded_encoding
 use crate::alphabet::Alphabet;
 
 // The values of three bytes, the high bits first.
+#[inline(always)]
 pub(crate) fn values_high(a: u8, b: u8, c: u8) -> [u8; 4]
     ensures values { result ≡ groups false (a ∷ b ∷ c ∷ []) }
     ensures small { EachBelow 64 result }
@@ -15,6 +16,7 @@ pub(crate) fn values_high(a: u8, b: u8, c: u8) -> [u8; 4]
 }
 
 // The values of three bytes, the low bits first.
+#[inline(always)]
 pub(crate) fn values_low(a: u8, b: u8, c: u8) -> [u8; 4]
     ensures values { result ≡ groups true (a ∷ b ∷ c ∷ []) }
     ensures small { EachBelow 64 result }
@@ -24,6 +26,7 @@ pub(crate) fn values_low(a: u8, b: u8, c: u8) -> [u8; 4]
 }
 
 // The bytes of four values, the high bits first.
+#[inline(always)]
 pub(crate) fn bytes_high(v: u8, w: u8, x: u8, y: u8) -> [u8; 3]
     requires v { v < 64 }
     requires w { w < 64 }
@@ -35,6 +38,7 @@ pub(crate) fn bytes_high(v: u8, w: u8, x: u8, y: u8) -> [u8; 3]
 }
 
 // The bytes of four values, the low bits first.
+#[inline(always)]
 pub(crate) fn bytes_low(v: u8, w: u8, x: u8, y: u8) -> [u8; 3]
     requires v { v < 64 }
     requires w { w < 64 }
@@ -46,6 +50,7 @@ pub(crate) fn bytes_low(v: u8, w: u8, x: u8, y: u8) -> [u8; 3]
 }
 
 // The values of three bytes.
+#[inline(always)]
 pub(crate) fn values<A: Alphabet>(a: u8, b: u8, c: u8) -> [u8; 4]
     ensures values { result ≡ groups A.alphabet.low_first (a ∷ b ∷ c ∷ []) }
     ensures small { EachBelow 64 result }
@@ -58,6 +63,7 @@ pub(crate) fn values<A: Alphabet>(a: u8, b: u8, c: u8) -> [u8; 4]
 }
 
 /// The characters of three bytes.
+#[inline(always)]
 pub(crate) fn encode_block<A: Alphabet>(a: u8, b: u8, c: u8) -> [u8; 4]
     ensures { result ≡ unpadded_encoding A.alphabet (a ∷ b ∷ c ∷ []) }
 {
@@ -71,13 +77,26 @@ pub(crate) fn encode_block<A: Alphabet>(a: u8, b: u8, c: u8) -> [u8; 4]
 }
 
 // The value of `c`, or a number of at least 64 where it is no character.
+#[inline(always)]
 fn value_byte<A: Alphabet>(c: u8) -> u8
     ensures { MatchOption (value_of A.alphabet c) (64 ≤ result) (λ v. result ≡ v) }
 {
     (A::decode_6bits(c) & 255) as u8
 }
 
+// Puts three bytes, one by one: LLVM makes vectors of the loops around it, which it doesn't of a copy of three.
+#[inline(always)]
+pub(crate) fn put_three(to: &mut [u8], bytes: [u8; 3])
+    requires { length to.old ≡ 3 }
+    ensures after { to.new ≡ bytes }
+{
+    to[0] = bytes[0];
+    to[1] = bytes[1];
+    to[2] = bytes[2];
+}
+
 /// The bytes of four characters, and a number that is 0 exactly where all four are characters.
+#[inline(always)]
 pub(crate) fn decode_block<A: Alphabet>(c: u8, d: u8, e: u8, f: u8) -> ([u8; 3], u8)
     ensures fault { (result.1 ≡ 0) ↔ AreCharacters A.alphabet (c ∷ d ∷ e ∷ f ∷ []) }
     ensures len { length result.0 ≡ 3 }

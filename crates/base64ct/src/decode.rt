@@ -4,7 +4,7 @@ ghost use Rattle.std.specs.Prelude.{◌≡◌, ◌<◌, ◌≤◌, ◌-◌, ◌=
 ghost use Rattle.base64ct.specs.Encoding.{unpadded_encoding, byte_count, equals_sign, padding_len, decoded_len, EachBelow};
 
 use crate::alphabet::Alphabet;
-use crate::blocks::{decode_block, encode_block};
+use crate::blocks::{decode_block, encode_block, put_three};
 
 // The bytes of a last block of less than four characters, and a number that is 0 exactly where the
 // block is the characters of these bytes.
@@ -47,7 +47,7 @@ pub(crate) fn decode_unpadded<A: Alphabet>(src: &[u8], dst: &mut [u8]) -> bool
         let i = 4 * block;
         let o = 3 * block;
         let (bytes, wrong) = decode_block::<A>(src[i], src[i + 1], src[i + 2], src[i + 3]);
-        dst[o..o + 3].copy_from_slice(&bytes);
+        put_three(&mut dst[o..o + 3], bytes);
         fault |= wrong;
     }
     let o = 3 * blocks;

@@ -11,7 +11,7 @@ ghost use Rattle.base64ct.specs.Decoders.{left, IsOpened, IsDecoded};
 ghost use Rattle.base64ct.specs.Runs.{IsPart, part_of};
 ghost use Rattle.std.specs.Borrow.{sem, Array, u8 as byte};
 ghost use Rattle.std.specs.Io.BufRead.{Rests};
-ghost use Rattle.base64ct.specs.Lent.{decoding_answer};
+ghost use Rattle.base64ct.specs.Lent.{byte_vec};
 
 use crate::cursor::{fill_from, measure};
 use crate::lent::{Filled, finish_decoded};
@@ -172,37 +172,23 @@ impl<'i, E: Encoding> Decoder<'i, E> {
     }
 
     // Fills `out` with the next bytes.
-    fn fill_part<'o>(&mut self, out: &'o mut [u8]) -> Filled<'o>
+    fn fill_part<'o>(&mut self, out: &'o mut [u8]) -> Filled<'o, Error>
         ensures same { result.dst.ghost_name ≡ out.entry.ghost_name }
-        ensures whole { result.len ≡ length result.dst.now }
-        ensures fits { result.len ≤ length result.dst.now }
-        ensures told { IsPart E.alphabet self.old (length out.old) (part_of (decoding_answer result.len result.fault) result.dst.now) self.new }
+        ensures whole { IfOk result.outcome (λ n. n ≡ length result.dst.now) }
+        ensures told { IsPart E.alphabet self.old (length out.old) (part_of result.outcome result.dst.now) self.new }
     {
         match self.decode_into(out) {
             Ok(()) => {
                 let len = out.len();
                 Filled {
                     dst: out,
-                    len,
-                    fault: 0,
+                    outcome: Ok(len),
                 }
             }
-            Err(Error::InvalidEncoding) => {
-                let len = out.len();
-                Filled {
-                    dst: out,
-                    len,
-                    fault: 1,
-                }
-            }
-            Err(Error::InvalidLength) => {
-                let len = out.len();
-                Filled {
-                    dst: out,
-                    len,
-                    fault: 2,
-                }
-            }
+            Err(e) => Filled {
+                dst: out,
+                outcome: Err(e),
+            },
         }
     }
 
@@ -249,17 +235,32 @@ impl<'i, E: Encoding> Decoder<'i, E> {
         }
     }
 
+    // `decode_to_end` with the vector first, where the borrow checker proves what a lender ends as.
+    fn append_rest<'o>(buf: &'o mut Vec<u8>, decoder: &mut Self) -> Result<&'o [u8], DecodeVecError>
+        ensures* buffer { sem 𝓛 (Rests byte_vec buf.entry (λ new.
+            IfOk result (λ b. new.items ≡ buf.old.items ++ b.now) × OnErr result (new.items ≡ buf.old.items))) }
+        ensures answer { MatchResult result
+            (λ b. IsDecoded E.alphabet decoder.old decoder.new (length (left E.alphabet decoder.old)) b.now)
+            (λ e. (e ≡ DecodeVecError.InvalidEncoding
+            → AskedAreGood E.alphabet decoder.old.text decoder.old.read (length (left E.alphabet decoder.old)) → ⊥)
+            × (decoder.new ≡ decoder.old)) }
+    {
+        match decoder.decode_rest(buf) {
+            Ok(start) => Ok(&buf[start..]),
+            Err(e) => Err(e),
+        }
+    }
+
     /// Appends all that is left to `buf`, and gives that part. After a refusal the decoder and the
     /// vector are as they were.
     pub fn decode_to_end<'o>(&mut self, buf: &'o mut Vec<u8>) -> Result<&'o [u8], DecodeVecError>
+        ensures* buffer { sem 𝓛 (Rests byte_vec buf.entry (λ new.
+            IfOk result (λ b. new.items ≡ buf.old.items ++ b.now) × OnErr result (new.items ≡ buf.old.items))) }
         ensures answer { MatchResult result
             (λ b. IsDecoded E.alphabet self.old self.new (length (left E.alphabet self.old)) b.now)
             (λ e. (e ≡ DecodeVecError.InvalidEncoding → AskedAreGood E.alphabet self.old.text self.old.read (length (left E.alphabet self.old)) → ⊥) × (self.new ≡ self.old)) }
     {
-        match self.decode_rest(buf) {
-            Ok(start) => Ok(&buf[start..]),
-            Err(e) => Err(e),
-        }
+        Self::append_rest(buf, self)
     }
 
     /// Appends all that is left to `buf`, and tells where it begins. Its clauses on `buf` serve callers

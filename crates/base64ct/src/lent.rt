@@ -1,110 +1,102 @@
-//! Buffers that are lent and handed back as slices of them.
+//! Buffers that are lent and handed back as slices of them: for crates whose calls lend theirs in the same way.
 
-ghost use Rattle.std.specs.Prelude.{◌≡◌, ◌≢◌, ◌≤◌, length, take, MatchResult};
+ghost use Rattle.std.specs.Prelude.{◌≡◌, ◌≤◌, length, take, Ok, Err, IfOk, MatchResult};
 ghost use Rattle.std.specs.Str.{IsUtf8};
 ghost use Rattle.std.specs.Borrow.{sem};
 ghost use Rattle.std.specs.Borrow.{Array, u8 as byte};
 ghost use Rattle.std.specs.Io.BufRead.{Rests};
-ghost use Rattle.base64ct.specs.Lent.{decoding_answer, decoding_fault, Decodes, Encodes};
+ghost use Rattle.base64ct.specs.Lent.{Decodes, Encodes};
 
 use crate::{Encoding, Error, InvalidLengthError};
 
-/// What a call has done to the buffer that was lent to it: how many bytes it wrote at its front, and
-/// 0, or what it refuses.
-pub(crate) struct Filled<'d> {
-    pub(crate) dst: &'d mut [u8],
-    pub(crate) len: usize,
-    pub(crate) fault: u8,
+/// A buffer that was lent to a call, and what came of the call: how many bytes it wrote at the buffer's
+/// front, or what it refuses.
+pub struct Filled<'d, F> {
+    pub dst: &'d mut [u8],
+    pub outcome: Result<usize, F>,
 }
 
 /// Decodes `src` into `dst`.
 #[tactic(auto, unfolding(crate::specs::Lent::Decodes))]
-pub(crate) fn fill_decoded<'d, E: Encoding>(src: &[u8], dst: &'d mut [u8]) -> Filled<'d>
+pub(crate) fn fill_decoded<'d, E: Encoding>(src: &[u8], dst: &'d mut [u8]) -> Filled<'d, Error>
     ensures same { result.dst.ghost_name ≡ dst.entry.ghost_name }
-    ensures fits { result.len ≤ length result.dst.now }
-    ensures told { Decodes E.alphabet src.now dst.old result.dst.now (decoding_answer result.len result.fault) }
+    ensures fits { IfOk result.outcome (λ n. n ≤ length result.dst.now) }
+    ensures told { Decodes E.alphabet src.now dst.old result.dst.now result.outcome }
 {
-    match E::decode_into(src, dst) {
-        Ok(len) => Filled { dst, len, fault: 0 },
-        Err(Error::InvalidEncoding) => Filled {
-            dst,
-            len: 0,
-            fault: 1,
-        },
-        Err(Error::InvalidLength) => Filled {
-            dst,
-            len: 0,
-            fault: 2,
-        },
-    }
+    let outcome = E::decode_into(src, dst);
+    Filled { dst, outcome }
 }
 
-/// The front of `dst`.
-fn front<'d>(dst: &'d mut [u8], n: usize) -> &'d [u8]
-    requires { n ≤ length dst.old }
+/// All of `dst`.
+fn shared<'d>(dst: &'d mut [u8]) -> &'d [u8]
     ensures* ends { sem 𝓛 (Rests (Array byte 0) dst.entry (λ new. new ≡ dst.old)) }
-    ensures value { result.now ≡ take n dst.old }
+    ensures value { result.now ≡ dst.old }
 {
-    &dst[..n]
+    &*dst
 }
 
-fn decoded<'d>(bytes: &'d [u8], fault: u8) -> Result<&'d [u8], Error>
-    ensures { MatchResult result (λ b. (fault ≡ 0) × (b.now ≡ bytes.now)) (λ e. (fault ≢ 0) × (e ≡ decoding_fault fault)) }
+fn decoded<'d>(bytes: &'d [u8], outcome: Result<usize, Error>) -> Result<&'d [u8], Error>
+    requires { IfOk outcome (λ n. n ≤ length bytes.now) }
+    ensures { MatchResult result (λ b. (outcome ≡ Ok (length b.now)) × (b.now ≡ take (length b.now) bytes.now))
+        (λ e. outcome ≡ Err e) }
 {
-    match fault {
-        0 => Ok(bytes),
-        2 => Err(Error::InvalidLength),
-        _ => Err(Error::InvalidEncoding),
+    match outcome {
+        Ok(len) => Ok(&bytes[..len]),
+        Err(e) => Err(e),
     }
 }
 
 /// The bytes at the front of the buffer, or what is refused.
-pub(crate) fn finish_decoded<'d>(f: Filled<'d>) -> Result<&'d [u8], Error>
-    requires { f.len ≤ length f.dst.now }
+pub(crate) fn finish_decoded<'d>(f: Filled<'d, Error>) -> Result<&'d [u8], Error>
+    requires { IfOk f.outcome (λ n. n ≤ length f.dst.now) }
     ensures* ends { sem 𝓛 (Rests (Array byte 0) f.entry.dst (λ new. new ≡ f.entry.dst.now)) }
-    ensures answer { MatchResult result (λ b. (f.entry.fault ≡ 0) × (b.now ≡ take f.entry.len f.entry.dst.now))
-        (λ e. (f.entry.fault ≢ 0) × (e ≡ decoding_fault f.entry.fault)) }
+    ensures answer { MatchResult result
+        (λ b. (f.entry.outcome ≡ Ok (length b.now)) × (b.now ≡ take (length b.now) f.entry.dst.now))
+        (λ e. f.entry.outcome ≡ Err e) }
 {
-    let Filled { dst, len, fault } = f;
-    decoded(front(dst, len), fault)
+    let Filled { dst, outcome } = f;
+    decoded(shared(dst), outcome)
 }
 
 /// Encodes `src` into `dst`.
 #[tactic(auto, unfolding(crate::specs::Lent::Encodes))]
-pub(crate) fn fill_encoded<'d, E: Encoding>(src: &[u8], dst: &'d mut [u8]) -> Filled<'d>
+pub(crate) fn fill_encoded<'d, E: Encoding>(
+    src: &[u8],
+    dst: &'d mut [u8],
+) -> Filled<'d, InvalidLengthError>
     ensures same { result.dst.ghost_name ≡ dst.entry.ghost_name }
-    ensures fits { result.len ≤ length result.dst.now }
-    ensures text { result.fault ≡ 0 → IsUtf8 (take result.len result.dst.now) }
-    ensures told { Encodes E.alphabet src.now dst.old result.dst.now result.len result.fault }
+    ensures fits { IfOk result.outcome (λ n. n ≤ length result.dst.now) }
+    ensures text { IfOk result.outcome (λ n. IsUtf8 (take n result.dst.now)) }
+    ensures told { Encodes E.alphabet src.now dst.old result.dst.now result.outcome }
 {
-    match E::encode_into(src, dst) {
-        Ok(len) => Filled { dst, len, fault: 0 },
-        Err(InvalidLengthError) => Filled {
-            dst,
-            len: 0,
-            fault: 1,
-        },
+    let outcome = E::encode_into(src, dst);
+    Filled { dst, outcome }
+}
+
+fn encoded<'d>(
+    bytes: &'d [u8],
+    outcome: Result<usize, InvalidLengthError>,
+) -> Result<&'d str, InvalidLengthError>
+    requires fits { IfOk outcome (λ n. n ≤ length bytes.now) }
+    requires text { IfOk outcome (λ n. IsUtf8 (take n bytes.now)) }
+    ensures { MatchResult result (λ t. (outcome ≡ Ok (length t.now)) × (t.now ≡ take (length t.now) bytes.now))
+        (λ e. outcome ≡ Err e) }
+{
+    match outcome {
+        Ok(len) => Ok(unsafe { str::from_utf8_unchecked(&bytes[..len]) }),
+        Err(e) => Err(e),
     }
 }
 
-fn encoded<'d>(bytes: &'d [u8], fault: u8) -> Result<&'d str, InvalidLengthError>
-    requires { fault ≡ 0 → IsUtf8 bytes.now }
-    ensures { MatchResult result (λ t. (fault ≡ 0) × (t.now ≡ bytes.now)) (λ _. fault ≢ 0) }
-{
-    if fault == 0 {
-        Ok(unsafe { str::from_utf8_unchecked(bytes) })
-    } else {
-        Err(InvalidLengthError)
-    }
-}
-
-/// The text at the front of the buffer, or what is refused.
-pub(crate) fn finish_encoded<'d>(f: Filled<'d>) -> Result<&'d str, InvalidLengthError>
-    requires fits { f.len ≤ length f.dst.now }
-    requires text { f.fault ≡ 0 → IsUtf8 (take f.len f.dst.now) }
+/// The text at the front of the buffer, or what is refused. The buffer is no longer written then.
+pub fn finish_encoded<'d>(f: Filled<'d, InvalidLengthError>) -> Result<&'d str, InvalidLengthError>
+    requires fits { IfOk f.outcome (λ n. n ≤ length f.dst.now) }
+    requires text { IfOk f.outcome (λ n. IsUtf8 (take n f.dst.now)) }
     ensures* ends { sem 𝓛 (Rests (Array byte 0) f.entry.dst (λ new. new ≡ f.entry.dst.now)) }
-    ensures answer { MatchResult result (λ t. (f.entry.fault ≡ 0) × (t.now ≡ take f.entry.len f.entry.dst.now)) (λ _. f.entry.fault ≢ 0) }
+    ensures answer { MatchResult result
+        (λ t. (f.entry.outcome ≡ Ok (length t.now)) × (t.now ≡ take (length t.now) f.entry.dst.now))
+        (λ e. f.entry.outcome ≡ Err e) }
 {
-    let Filled { dst, len, fault } = f;
-    encoded(front(dst, len), fault)
+    let Filled { dst, outcome } = f;
+    encoded(shared(dst), outcome)
 }

@@ -17,7 +17,7 @@ mod encoding;
 mod errors;
 mod in_place;
 pub mod laws;
-mod lent;
+pub mod lent;
 mod line_ending;
 mod lines;
 #[cfg(test)]

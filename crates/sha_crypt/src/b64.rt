@@ -1,4 +1,5 @@
-//! Hash fields.
+//! Hash fields, for digests of any length whose bytes stand in the field in an order of their own: SHA-crypt's, and
+//! those of other schemes that have the same field.
 
 ghost use Rattle.std.specs.Prelude.{◌≡◌, ◌≢◌, ◌≤◌, ◌+◌, ◌*◌, ◌/◌, ◌^◌, ◌==◌, ℕ, List, OnSome, length, true, MatchResult};
 ghost use Rattle.base64ct.specs.Encoding.{EachBelow, byte_count, unpadded_len};
@@ -14,9 +15,9 @@ fn has_field_length(text: &[u8], n: usize) -> bool
     3 * (text.len() / 4) + 3 * (text.len() % 4) / 4 == n
 }
 
-/// The `N` bytes whose encoding a text is.
-pub(crate) fn field_bytes<const N: usize>(text: &[u8]) -> Option<[u8; N]>
-    ensures { result ≡ field_bytes N text.now }
+/// The `N` bytes whose encoding a text is, in the order in which they stand there.
+pub fn field_bytes<const N: usize>(text: &[u8]) -> Option<[u8; N]>
+    ensures bytes { result ≡ field_bytes N text.now }
 {
     let mut bytes = [0; N];
     if !has_field_length(text, N) {
@@ -69,8 +70,8 @@ fn put_in_order(places: &[u8], digest: &[u8], bytes: &mut [u8])
 }
 
 /// The bytes of a digest in the order of these places.
-pub(crate) fn in_order<const N: usize>(places: &[u8; N], digest: &[u8; N]) -> [u8; N]
-    requires { are_places N places.now ≡ true }
+pub fn in_order<const N: usize>(places: &[u8; N], digest: &[u8; N]) -> [u8; N]
+    requires places { are_places N places.now ≡ true }
     ensures small { EachBelow 256 result }
     ensures value { result ≡ in_order places.now digest.now }
 {
@@ -80,11 +81,11 @@ pub(crate) fn in_order<const N: usize>(places: &[u8; N], digest: &[u8; N]) -> [u
 }
 
 /// The hash field of a digest, of `M` characters.
-pub(crate) fn encode<const N: usize, const M: usize>(places: &[u8; N], digest: &[u8; N]) -> [u8; M]
+pub fn encode<const N: usize, const M: usize>(places: &[u8; N], digest: &[u8; N]) -> [u8; M]
     requires places { are_places N places.now ≡ true }
     requires len { unpadded_len N ≡ M }
     requires short { N ≤ 64 }
-    ensures { result ≡ hash_field places.now digest.now }
+    ensures field { result ≡ hash_field places.now digest.now }
 {
     let bytes = in_order(places, digest);
     let mut field = [0; M];
@@ -92,8 +93,9 @@ pub(crate) fn encode<const N: usize, const M: usize>(places: &[u8; N], digest: &
     field
 }
 
-/// The digest whose hash field a text is, where `back` tells at which place each of its bytes stands.
-pub(crate) fn decode<const N: usize>(
+/// The digest whose hash field a text is, where `back` tells at which place each of its bytes stands. `DecodeError`
+/// where it is the field of none.
+pub fn decode<const N: usize>(
     places: &[u8; N],
     back: &[u8; N],
     source: &[u8],
@@ -101,7 +103,7 @@ pub(crate) fn decode<const N: usize>(
     requires places { are_places N places.now ≡ true }
     requires back { are_places N back.now ≡ true }
     requires undoes { undoes N places.now back.now ≡ true }
-    ensures { MatchResult result
+    ensures found { MatchResult result
         (λ digest. IsHashFieldOf N places.now source.now digest)
         (λ _. (digest : List ℕ) → IsHashFieldOf N places.now source.now digest → ⊥) }
 {

@@ -14,7 +14,7 @@ ghost use Rattle.sha_crypt.specs.Families.{sha256_answer, sha512_answer};
 ghost use Rattle.sha_crypt.specs.HashField.{hash_field, IsHashFieldOf};
 ghost use Rattle.sha_crypt.specs.Simple.{characters, sha256_text, sha512_text};
 
-mod b64;
+pub mod b64;
 mod check;
 mod defs;
 mod digest;

@@ -10,9 +10,10 @@ ghost use Rattle.sha_crypt.specs.Records.{family_id, family_scheme, old_record_o
 
 use crate::b64::field_bytes;
 use crate::fields::{Reading, text_parts};
-use crate::lent::{fill_printed, finish_encoded};
+use crate::lent::fill_printed;
 use crate::{CheckError, Family, FormatFault, SALT_MAX_LEN};
 use base64ct::InvalidLengthError;
+use base64ct::lent::finish_encoded;
 use pieces::short_bytes::ShortBytes;
 use std::fmt;
 

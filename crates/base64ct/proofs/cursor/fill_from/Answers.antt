@@ -5,7 +5,7 @@ use borrow.Rule.Slice.PartMut.{put_mid}
 use Rattle.base64ct.proofs.Encodings.{below-take, below-drop}
 use Rattle.base64ct.specs.Encoding.{EachBelow, unpadded_encoding, byte_count}
 use Rattle.base64ct.proofs.Wrapping.{length-put_mid}
-use Rattle.base64ct.proofs.Fills.{filling_first, filling_more, standing_first, filled, refused}
+use Rattle.base64ct.proofs.Fills.{filling_first, filling_moved, filling_more, standing_first, filled, refused}
 use Rattle.base64ct.proofs.Strides.{filling_blocks, blocks_refused}
 use Rattle.base64ct.proofs.cursor.fill_from.Goals as goal
 use Rattle.base64ct.proofs.cursor.fill_from.Goals.{then-skip-eq0, else-skip-eq0}
@@ -30,16 +30,16 @@ turns-init g c =
 pub returns-in-None-clause-filled : goal.returns-in-None-clause-filled
 returns-in-None-clause-filled g c = λ t s fits.
     let a = g.E.Alphabet.alphabet in
-    let f = c.turns.invariant.2 t s (omega arith) in
-    let here = standing_first a c.args.width c.args.body.now t c.turns.block c.turns.place c.turns.left (c.args.read + c.turns.done) f.stands (f.aligned (omega arith)) (omega arith) in
+    let f = filling_moved g.E.Alphabet.alphabet c.args.width c.args.body.now t c.turns.out c.turns.block c.args.read c.turns.done c.turns.place c.turns.left c.line_start-start.result.0 c.line_start-start.result.1 c.line_start-start.ensures.text c.line_start-start.ensures.within (c.turns.invariant.2 t s (omega arith)) in
+    let here = standing_first a c.args.width c.args.body.now t c.turns.block c.line_start-start.result.0 c.line_start-start.result.1 (c.args.read + c.turns.done) f.stands (f.aligned (omega arith)) (omega arith) in
     let bad = c.in-None.ensures.first _ here.0 here.1 here.2 in
-    refused a c.args.width c.args.body.now t c.turns.out c.turns.block c.args.read c.turns.done (length c.args.out.now) c.turns.place c.turns.left (omega arith) (omega arith) fits f bad.0 bad.1
+    refused a c.args.width c.args.body.now t c.turns.out c.turns.block c.args.read c.turns.done (length c.args.out.now) c.line_start-start.result.0 c.line_start-start.result.1 (omega arith) (omega arith) fits f bad.0 bad.1
 
 pub returns-then-some-eq0-clause-filled : goal.returns-then-some-eq0-clause-filled
 returns-then-some-eq0-clause-filled g c = λ t s fits.
     let a = g.E.Alphabet.alphabet in
-    let f = c.turns.invariant.2 t s (omega arith) in
-    let here = standing_first a c.args.width c.args.body.now t c.turns.block c.turns.place c.turns.left (c.args.read + c.turns.done) f.stands (f.aligned (omega arith)) (omega arith) in
+    let f = filling_moved g.E.Alphabet.alphabet c.args.width c.args.body.now t c.turns.out c.turns.block c.args.read c.turns.done c.turns.place c.turns.left c.line_start-start.result.0 c.line_start-start.result.1 c.line_start-start.ensures.text c.line_start-start.ensures.within (c.turns.invariant.2 t s (omega arith)) in
+    let here = standing_first a c.args.width c.args.body.now t c.turns.block c.line_start-start.result.0 c.line_start-start.result.1 (c.args.read + c.turns.done) f.stands (f.aligned (omega arith)) (omega arith) in
     let first = c.in-Some.ensures.first _ here.0 here.1 here.2 in
     absurd (omega (arith, first.some, c.if-some-eq0.true, c.min-some.ensures))
 
@@ -55,10 +55,10 @@ turns-preserved g c =
       omega (arith, ln, c.min-some.ensures),
       c.in-Some.ensures.bounds.2,
       λ t s fits.
-          let f = c.turns.invariant.2 t s (omega arith) in
-          let here = standing_first a c.args.width c.args.body.now t c.turns.block c.turns.place c.turns.left (c.args.read + c.turns.done) f.stands (f.aligned (omega arith)) (omega (arith, ln)) in
+          let f = filling_moved g.E.Alphabet.alphabet c.args.width c.args.body.now t c.turns.out c.turns.block c.args.read c.turns.done c.turns.place c.turns.left c.line_start-start.result.0 c.line_start-start.result.1 c.line_start-start.ensures.text c.line_start-start.ensures.within (c.turns.invariant.2 t s (omega arith)) in
+          let here = standing_first a c.args.width c.args.body.now t c.turns.block c.line_start-start.result.0 c.line_start-start.result.1 (c.args.read + c.turns.done) f.stands (f.aligned (omega arith)) (omega (arith, ln)) in
           let first = c.in-Some.ensures.first _ here.0 here.1 here.2 in
-          filling_more a c.args.width c.args.body.now t c.turns.out c.turns.block c.in-Some.found.0 ys c.args.read c.turns.done c.turns.place c.turns.left c.in-Some.found.1 c.in-Some.found.2 c.in-Some.found.3 some _ (omega arith) (omega (arith, ln)) f first
+          filling_more a c.args.width c.args.body.now t c.turns.out c.turns.block c.in-Some.found.0 ys c.args.read c.turns.done c.line_start-start.result.0 c.line_start-start.result.1 c.in-Some.found.1 c.in-Some.found.2 c.in-Some.found.3 some _ (omega arith) (omega (arith, ln)) f first
           (omega (arith, c.min-some.ensures)) (omega (arith, c.min-some.ensures)) (λ lt. omega (arith, lt, c.min-some.ensures)) pos width c.copy_from_slice-in-turns.ensures.after,
     )
 
@@ -71,9 +71,9 @@ pub returns-then-not-decode_unpadded-clause-filled : goal.returns-then-not-decod
 returns-then-not-decode_unpadded-clause-filled g c = λ t s fits.
     let a = g.E.Alphabet.alphabet in
     let k : ℕ = c.blocks_at_once-blocks.result in
-    let f = c.turns.invariant.2 t s (omega arith) in
-    let line : take (c.turns.place + 4 * k - c.turns.place) (drop c.turns.place c.args.body.now) ≡ take (4 * k) (drop c.turns.place c.args.body.now) = ap (λ (n : ℕ). take n (drop c.turns.place c.args.body.now)) (omega arith) in
-    blocks_refused a c.args.width c.args.body.now t c.turns.out c.turns.block _ c.args.read c.turns.done c.turns.place c.turns.left k (length c.args.out.now) _ g.met.E.Alphabet.lawful (omega arith) (omega arith) fits f c.blocks_at_once-blocks.ensures.line
+    let f = filling_moved g.E.Alphabet.alphabet c.args.width c.args.body.now t c.turns.out c.turns.block c.args.read c.turns.done c.turns.place c.turns.left c.line_start-start.result.0 c.line_start-start.result.1 c.line_start-start.ensures.text c.line_start-start.ensures.within (c.turns.invariant.2 t s (omega arith)) in
+    let line : take (c.line_start-start.result.0 + 4 * k - c.line_start-start.result.0) (drop c.line_start-start.result.0 c.args.body.now) ≡ take (4 * k) (drop c.line_start-start.result.0 c.args.body.now) = ap (λ (n : ℕ). take n (drop c.line_start-start.result.0 c.args.body.now)) (omega arith) in
+    blocks_refused a c.args.width c.args.body.now t c.turns.out c.turns.block _ c.args.read c.turns.done c.line_start-start.result.0 c.line_start-start.result.1 k (length c.args.out.now) _ g.met.E.Alphabet.lawful (omega arith) (omega arith) fits f c.blocks_at_once-blocks.ensures.line
     (omega (arith, c.blocks_at_once-blocks.ensures.before_last c.if-blocks-gt0.true)) (omega (arith, c.blocks_at_once-blocks.ensures.bytes)) line c.if-not-decode_unpadded.true c.decode_unpadded.ensures.accepted
 
 pub turns-preserved-then-blocks-gt0 : goal.turns-preserved-then-blocks-gt0
@@ -82,12 +82,12 @@ turns-preserved-then-blocks-gt0 g c =
     let k : ℕ = c.blocks_at_once-blocks.result in
     let body : List ℕ = c.args.body.now in
     let ys : List ℕ = c.decode_unpadded.new.dst in
-    let src : List ℕ = take (c.turns.place + 4 * k - c.turns.place) (drop c.turns.place body) in
+    let src : List ℕ = take (c.line_start-start.result.0 + 4 * k - c.line_start-start.result.0) (drop c.line_start-start.result.0 body) in
     let pos : 0 < k = c.if-blocks-gt0.true in
-    let behind : c.turns.place + 4 * k < length body = omega (arith, c.blocks_at_once-blocks.ensures.before_last pos) in
+    let behind : c.line_start-start.result.0 + 4 * k < length body = omega (arith, c.blocks_at_once-blocks.ensures.before_last pos) in
     let within : 3 * k ≤ length c.turns.out - c.turns.done = omega (arith, c.blocks_at_once-blocks.ensures.bytes) in
-    let line : src ≡ take (4 * k) (drop c.turns.place body) = ap (λ (n : ℕ). take n (drop c.turns.place body)) (omega arith) in
-    let ls : length src ≡ 4 * k = ap length line ∙ length-take-le (4 * k) (drop c.turns.place body) (omega (arith, length-drop c.turns.place body)) in
+    let line : src ≡ take (4 * k) (drop c.line_start-start.result.0 body) = ap (λ (n : ℕ). take n (drop c.line_start-start.result.0 body)) (omega arith) in
+    let ls : length src ≡ 4 * k = ap length line ∙ length-take-le (4 * k) (drop c.line_start-start.result.0 body) (omega (arith, length-drop c.line_start-start.result.0 body)) in
     let width : c.turns.done + 3 * k - c.turns.done ≡ 3 * k = omega arith in
     let ly : length ys ≡ 3 * k = c.decode_unpadded.auto.dst ∙ length-take-le (c.turns.done + 3 * k - c.turns.done) (drop c.turns.done c.turns.out) (omega (arith, length-drop c.turns.done c.turns.out, within)) ∙ width in
     let new : List ℕ = put_mid c.turns.done (c.turns.done + 3 * k - c.turns.done) c.turns.out ys in
@@ -99,6 +99,6 @@ turns-preserved-then-blocks-gt0 g c =
       omega (arith, ln, within),
       omega (arith, behind),
       λ t s fits.
-          let f = c.turns.invariant.2 t s (omega (arith, ln)) in
-          filling_blocks a c.args.width body t c.turns.out c.turns.block ys src c.args.read c.turns.done c.turns.place c.turns.left k _ g.met.E.Alphabet.lawful (omega arith) (omega (arith, ln)) f c.blocks_at_once-blocks.ensures.line behind within pos width ly small line read,
+          let f = filling_moved g.E.Alphabet.alphabet c.args.width c.args.body.now t c.turns.out c.turns.block c.args.read c.turns.done c.turns.place c.turns.left c.line_start-start.result.0 c.line_start-start.result.1 c.line_start-start.ensures.text c.line_start-start.ensures.within (c.turns.invariant.2 t s (omega (arith, ln))) in
+          filling_blocks a c.args.width body t c.turns.out c.turns.block ys src c.args.read c.turns.done c.line_start-start.result.0 c.line_start-start.result.1 k _ g.met.E.Alphabet.lawful (omega arith) (omega (arith, ln)) f c.blocks_at_once-blocks.ensures.line behind within pos width ly small line read,
     )

@@ -49,3 +49,31 @@ strides-preserved-then-blocks-gt0 g c =
     let s = striding_step a c.args.width c.args.ending.now input c.args.out.now c.strides.out _ c.args.position c.strides.done c.strides.at _ c.args.room c.strides.left _ m xs
     below c.strides.invariant.1 (omega arith) (omega arith) refl same c.strides.invariant.3 f in
     (omega arith, omega arith, striding_room a c.args.width c.args.ending.now input c.args.out.now _ c.args.position _ _ c.args.room _ below c.requires.whole (omega arith) (omega arith) s, s)
+
+pub put_line-requires-clause-fits : goal.put_line-requires-clause-fits
+put_line-requires-clause-fits g c =
+    let a = g.A.Alphabet.alphabet in
+    let input : List ℕ = c.args.input.now in
+    let m : ℕ = 3 * c.min-line.result in
+    let below : EachBelow 256 input = λ k. omega (arith, c.type_inv.input k) in
+    let len : length (take m (drop c.strides.done input)) ≡ m = length-take-le m (drop c.strides.done input) (omega (arith, length-drop c.strides.done input)) in
+    let width : c.strides.done + m - c.strides.done ≡ m = omega arith in
+    let xs : List ℕ = unpadded_encoding a (take m (drop c.strides.done input)) in
+    let lx : length xs ≡ 4 * c.min-line.result = omega (arith, len, length-unpadded a (take m (drop c.strides.done input)) (below-take 256 m (drop c.strides.done input) (omega arith) (below-drop 256 c.strides.done input below))) in
+    let fit = striding_fits a c.args.width c.args.ending.now input c.args.out.now c.strides.out c.args.position c.strides.done c.strides.at c.args.room 0 m xs
+    below (omega arith) (omega arith) refl (rw c.if-left-eq0.true at c.strides.invariant.3) in
+    rw width (omega (arith, len, lx, fit, length-across c.args.width c.args.ending.now 0 xs (omega arith) (omega arith)))
+
+pub strides-preserved-then-left-eq0 : goal.strides-preserved-then-left-eq0
+strides-preserved-then-left-eq0 g c =
+    let a = g.A.Alphabet.alphabet in
+    let input : List ℕ = c.args.input.now in
+    let m : ℕ = 3 * c.min-line.result in
+    let below : EachBelow 256 input = λ k. omega (arith, c.type_inv.input k) in
+    let width : c.strides.done + m - c.strides.done ≡ m = omega arith in
+    let xs : List ℕ = unpadded_encoding a (take m (drop c.strides.done input)) in
+    let f = rw width at c.put_line.ensures in
+    let s = striding_step a c.args.width c.args.ending.now input c.args.out.now c.strides.out c.put_line.new.out c.args.position c.strides.done c.strides.at c.put_line.result.0 c.args.room 0 c.put_line.result.1 m xs
+    below c.strides.invariant.1 (omega arith) (omega arith) refl (omega arith) (rw c.if-left-eq0.true at c.strides.invariant.3)
+    (record { put = f.put; within = f.within; at = f.at }) in
+    (omega arith, omega arith, striding_room a c.args.width c.args.ending.now input c.args.out.now c.put_line.new.out c.args.position _ c.put_line.result.0 c.args.room c.put_line.result.1 below c.requires.whole (omega arith) (omega arith) s, s)

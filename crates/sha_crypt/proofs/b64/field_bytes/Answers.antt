@@ -7,4 +7,4 @@ use Rattle.sha_crypt.proofs.b64.field_bytes.Goals as goal
 pub returns-then-not-has_field_length : goal.returns-then-not-has_field_length
 returns-then-not-has_field_length g c =
     let other : byte_count (length c.args.text.now) ≢ g.row.N = search rules in
-    wrong_length g.row.N c.args.text.now other
+    record { bytes = wrong_length g.row.N c.args.text.now other }
