@@ -1,13 +1,12 @@
-use Rattle.std.proofs.Common.{refl, rules, arith, sym, ap, ◌∙◌, ◌≡◌, List, ℕ, None, Some, true, false}
+use Rattle.std.proofs.Common.{refl, rules, arith, ◌≡◌, List, ℕ, None, Some, true, false}
 use Rattle.std.specs.Prelude.{codes}
 use Rattle.mcf.specs.Grammar.{fault, parts}
-use Rattle.sha_crypt.specs.Check.{is_verdict}
 use Rattle.sha_crypt.specs.Families.{scheme_256, scheme_512}
 use Rattle.sha_crypt.specs.declared.errors.Family.TheVariants.{Sha256, Sha512}
-use Rattle.stored_check.specs.Counts.{verdict_looks, verdict_comparisons}
-use Rattle.stored_check.specs.Verdict.{same_text, scheme_of, sha_verdict}
-use Rattle.stored_check.proofs.Counted.{comparisons_of_family, comparisons_of_other, looks_256, looks_512, looks_of_other, on_verdict}
-use Rattle.stored_check.proofs.Walk.{check_is, too_long, not_a_text, family_text, other_text, sha_is}
+use Rattle.stored_check.specs.Verdict.{same_text, scheme_of}
+use Rattle.stored_check.proofs.Counted.{comparisons_of_other, looks_of_other}
+use Rattle.stored_check.proofs.FamilyTexts.{comparisons_on_verdict, looks_on_verdict, verdict_of_family}
+use Rattle.stored_check.proofs.Walk.{too_long, not_a_text, other_text}
 use Rattle.stored_check.proofs.check.check_stored_counted.Goals as goal
 
 by_first : (id : List ℕ) → same_text id (codes "5") ≡ true → scheme_of id ≡ Some scheme_256
@@ -32,52 +31,48 @@ returns-then-eq-clause-verdict g c =
     let valid : fault c.args.stored.now ≡ None = search rules in
     let id_is : c.id-id.result.now ≡ (parts c.args.stored.now).id = search rules in
     let same : same_text (parts c.args.stored.now).id (codes "5") ≡ true = search rules in
-    family_text _ _ _ c.args.password.now c.args.stored.now scheme_256 _ c.if-password-gt-PASSWORD_MAX.false valid (by_first (parts c.args.stored.now).id same)
-    (c.sha_verdict.ensures ∙ ap sha_verdict c.sha256_check_counted.ensures.answer ∙ sha_is scheme_256 Sha256 (codes "5") c.args.password.now c.args.stored.now refl valid same)
+    verdict_of_family scheme_256 Sha256 (codes "5") c.args.password.now c.args.stored.now c.sha256_check_counted.result refl c.sha256_check_counted.ensures.answer valid same
+    (by_first (parts c.args.stored.now).id same) _ _ _ _ c.if-password-gt-PASSWORD_MAX.false c.sha_verdict.ensures
 
 pub returns-then-eq-clause-looks : goal.returns-then-eq-clause-looks
 returns-then-eq-clause-looks g c =
     let valid : fault c.args.stored.now ≡ None = search rules in
     let id_is : c.id-id.result.now ≡ (parts c.args.stored.now).id = search rules in
     let same : same_text (parts c.args.stored.now).id (codes "5") ≡ true = search rules in
-    let is = c.sha256_check_counted.ensures.answer ∙ check_is scheme_256 Sha256 (codes "5") c.args.password.now c.args.stored.now refl valid same in
-    rw c.sha_verdict.ensures (on_verdict c.sha256_check_counted.result (λ h.
-    let count : verdict_looks c.args.stored.now ≡ 44 = looks_256 c.args.stored.now valid c.args.password.now (by_first (parts c.args.stored.now).id same) (ap is_verdict (sym is) ∙ h) in
-    omega (arith, count, c.sha256_check_counted.ensures.looks h)))
+    looks_on_verdict scheme_256 Sha256 (codes "5") c.args.password.now c.args.stored.now c.sha256_check_counted.result refl c.sha256_check_counted.ensures.answer valid same
+    (by_first (parts c.args.stored.now).id same) 43 refl (λ k e. omega (arith, e)) _ c.sha_verdict.ensures _ _ c.sha256_check_counted.ensures.looks
 
 pub returns-then-eq-clause-sames : goal.returns-then-eq-clause-sames
 returns-then-eq-clause-sames g c =
     let valid : fault c.args.stored.now ≡ None = search rules in
     let id_is : c.id-id.result.now ≡ (parts c.args.stored.now).id = search rules in
     let same : same_text (parts c.args.stored.now).id (codes "5") ≡ true = search rules in
-    let count : verdict_comparisons c.args.stored.now ≡ 36 = comparisons_of_family c.args.stored.now valid scheme_256 (by_first (parts c.args.stored.now).id same) in
-    rw c.sha_verdict.ensures (on_verdict c.sha256_check_counted.result (λ h. omega (arith, count, c.sha256_check_counted.ensures.sames h)))
+    comparisons_on_verdict scheme_256 Sha256 (codes "5") c.args.password.now c.args.stored.now c.sha256_check_counted.result refl c.sha256_check_counted.ensures.answer valid same
+    (by_first (parts c.args.stored.now).id same) _ c.sha_verdict.ensures _ _ c.sha256_check_counted.ensures.sames
 
 pub returns-then-eq-2-clause-verdict : goal.returns-then-eq-2-clause-verdict
 returns-then-eq-2-clause-verdict g c =
     let valid : fault c.args.stored.now ≡ None = search rules in
     let other : same_text (parts c.args.stored.now).id (codes "5") ≡ false = search rules in
     let same : same_text (parts c.args.stored.now).id (codes "6") ≡ true = search rules in
-    family_text _ _ _ c.args.password.now c.args.stored.now scheme_512 _ c.if-password-gt-PASSWORD_MAX.false valid (by_second (parts c.args.stored.now).id other same)
-    (c.sha_verdict-then-eq-2.ensures ∙ ap sha_verdict c.sha512_check_counted.ensures.answer ∙ sha_is scheme_512 Sha512 (codes "6") c.args.password.now c.args.stored.now refl valid same)
+    verdict_of_family scheme_512 Sha512 (codes "6") c.args.password.now c.args.stored.now c.sha512_check_counted.result refl c.sha512_check_counted.ensures.answer valid same
+    (by_second (parts c.args.stored.now).id other same) _ _ _ _ c.if-password-gt-PASSWORD_MAX.false c.sha_verdict-then-eq-2.ensures
 
 pub returns-then-eq-2-clause-looks : goal.returns-then-eq-2-clause-looks
 returns-then-eq-2-clause-looks g c =
     let valid : fault c.args.stored.now ≡ None = search rules in
     let other : same_text (parts c.args.stored.now).id (codes "5") ≡ false = search rules in
     let same : same_text (parts c.args.stored.now).id (codes "6") ≡ true = search rules in
-    let is = c.sha512_check_counted.ensures.answer ∙ check_is scheme_512 Sha512 (codes "6") c.args.password.now c.args.stored.now refl valid same in
-    rw c.sha_verdict-then-eq-2.ensures (on_verdict c.sha512_check_counted.result (λ h.
-    let count : verdict_looks c.args.stored.now ≡ 88 = looks_512 c.args.stored.now valid c.args.password.now (by_second (parts c.args.stored.now).id other same) (ap is_verdict (sym is) ∙ h) in
-    omega (arith, count, c.sha512_check_counted.ensures.looks h)))
+    looks_on_verdict scheme_512 Sha512 (codes "6") c.args.password.now c.args.stored.now c.sha512_check_counted.result refl c.sha512_check_counted.ensures.answer valid same
+    (by_second (parts c.args.stored.now).id other same) 86 refl (λ k e. omega (arith, e)) _ c.sha_verdict-then-eq-2.ensures _ _ c.sha512_check_counted.ensures.looks
 
 pub returns-then-eq-2-clause-sames : goal.returns-then-eq-2-clause-sames
 returns-then-eq-2-clause-sames g c =
     let valid : fault c.args.stored.now ≡ None = search rules in
     let other : same_text (parts c.args.stored.now).id (codes "5") ≡ false = search rules in
     let same : same_text (parts c.args.stored.now).id (codes "6") ≡ true = search rules in
-    let count : verdict_comparisons c.args.stored.now ≡ 68 = comparisons_of_family c.args.stored.now valid scheme_512 (by_second (parts c.args.stored.now).id other same) in
-    rw c.sha_verdict-then-eq-2.ensures (on_verdict c.sha512_check_counted.result (λ h. omega (arith, count, c.sha512_check_counted.ensures.sames h)))
+    comparisons_on_verdict scheme_512 Sha512 (codes "6") c.args.password.now c.args.stored.now c.sha512_check_counted.result refl c.sha512_check_counted.ensures.answer valid same
+    (by_second (parts c.args.stored.now).id other same) _ c.sha_verdict-then-eq-2.ensures _ _ c.sha512_check_counted.ensures.sames
 
 pub returns-clause-verdict : goal.returns-clause-verdict
 returns-clause-verdict g c =
