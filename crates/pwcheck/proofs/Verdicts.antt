@@ -1,124 +1,41 @@
 -- The verdicts on the lines of `bench`.
-use Rattle.std.proofs.Common.{◌≡◌, ◌≢◌, ℕ, zero, suc, ◌+◌, ◌-◌, ◌/◌, ◌%◌, ◌^◌, ◌<◌, ◌≤◌, Bool, true, false, List, [], ◌∷◌, ◌++◌, length, take, refl, sym, ap, ◌∙◌, append-nil, length-append, arith, inl, inr, Result, Ok, Err}
-use Rattle.std.specs.Prelude.{not, ◌&&◌, ◌||◌, ◌==◌, nat_eq, nat_lt, codes, Some, None, if◌then◌else◌}
-use Rattle.std.specs.Char.{is_ascii_digit}
-use Rattle.std.specs.Fmt.{decimal}
+use Rattle.std.proofs.Common.{◌≡◌, ◌≢◌, ℕ, zero, suc, ◌+◌, ◌-◌, ◌/◌, ◌%◌, ◌≤◌, Bool, true, false, List, ◌++◌, length, take, refl, ap, ◌∙◌, length-append, arith, inl, inr, Result, Ok}
+use Rattle.std.specs.Prelude.{◌==◌, codes, if◌then◌else◌}
 use Rattle.std.specs.Int.{w32, to_le_bytes}
-use Rattle.std.specs.List.{join_with_byte, list_all}
 use Rattle.std.proofs.lemmas.Bool.{cases_Bool, false≢true}
 use Rattle.std.proofs.lemmas.Bool.Decides.{nat_tests}
-use Rattle.base64ct.specs.Alphabets.{base64_sha_crypt}
 use Rattle.base64ct.specs.Encoding.{EachBelow}
-use Rattle.base64ct.proofs.DecodingLaws.{true_same}
 use Rattle.base64ct.proofs.Encodings.{below-take}
-use Rattle.mcf.specs.Grammar.{Parts, fault, field_fault, fields_text, first_field_fault, is_field_byte, is_identifier, mcf, parts, parts_or_fault, parts_text}
-use Rattle.mcf.specs.Grammar as mcf_grammar
-use Rattle.mcf.specs.declared.error.Error as mcf_error
-use Rattle.mcf.proofs.Built.{mcf-parts_text}
-use Rattle.mcf.proofs.ValidTexts.{pieces_of_valid}
-use Rattle.phc.specs.Encoded.{encoding}
-use Rattle.phc.specs.Grammar.{is_value_byte}
-use Rattle.phc.specs.Params.{pairs_text}
-use Rattle.phc.specs.Record.{IsRecord, phc, phc_of_pieces, phc_text, record_text}
-use Rattle.phc.specs.declared.password_hash.PasswordHash.{PasswordHash}
-use Rattle.phc.proofs.Characters.{all_weaker, encoding_value}
-use Rattle.phc.proofs.EncodedBytes.{encoded_length}
-use Rattle.phc.proofs.ParsedBack.{parses_back}
-use Rattle.pieces.specs.Pieces.{pieces_at}
+use Rattle.mcf.specs.Grammar.{is_field_byte}
 use Rattle.rand_chacha.specs.ChaCha.{ChaCha, next_word, of_seed}
-use Rattle.rand_core.specs.Steps.{Steps, steps_u32, stream_of, word_bytes}
+use Rattle.rand_core.specs.Steps.{steps_u32, stream_of, word_bytes}
 use Rattle.rand_core.specs.Stream.{Stream, fill_bytes, next_u32}
 use Rattle.rand_core.proofs.StepsLemmas.{fill_bytes-stream_of, next_u32-stream_of}
-use Rattle.scrypt_plain.specs.Hmac.{hmac}
-use Rattle.scrypt_plain.specs.Lengths.{length-pbkdf2_once}
-use Rattle.scrypt_plain.specs.Pbkdf2.{pbkdf2_blocks, pbkdf2_once}
-use Rattle.scrypt_plain.specs.Profile.{scrypt_accepts, scrypt_key}
-use Rattle.scrypt_plain.specs.Scrypt.{mixed_parts, scrypt}
-use Rattle.scrypt_plain.proofs.KeyBytes.{scrypt_bytes}
-use Rattle.sha2.specs.Sha256.{sha256}
-use Rattle.sha_crypt.specs.Simple.{characters, sha256_text, sha512_text}
+use Rattle.scrypt_plain.proofs.MadeRecord.{IsWritten}
+use Rattle.scrypt_plain.proofs.MadeRecord as made_record
+use Rattle.sha_crypt.specs.Simple.{characters}
 use Rattle.sha_crypt.specs.declared.errors.Family.TheVariants.{Sha256, Sha512}
 use Rattle.sha_crypt.proofs.Digests.{below_append, characters_pass, length-characters}
 use Rattle.sha_crypt.proofs.MadeTexts.{is_salt}
-use Rattle.stored_check.proofs.MadeTexts.{good_field, of_parts, sha_made}
+use Rattle.stored_check.proofs.MadeTexts.{sha_made}
 use Rattle.stored_check.proofs.MadeTexts as made_texts
-use Rattle.stored_check.specs.Verdict.{parts_answer, phc_answer, same_text, scheme_of, sha_answer, text_answer, verdict}
+use Rattle.stored_check.specs.Verdict.{verdict}
 use Rattle.stored_check.specs.declared.error.StoredError.{StoredError}
 use Rattle.scrypt_plain.specs.Profile.{accepted, key}
-use Rattle.pwcheck.specs.Bench.{asked_password, count_lines, drawn, is_match, is_mismatch, is_other, line_seed, line_verdict, made_text, matches, mismatches, others, scrypt_record, scrypt_text, seeded}
+use Rattle.pwcheck.specs.Bench.{asked_password, count_lines, drawn, is_match, is_mismatch, is_other, line_seed, line_verdict, made_text, scrypt_text, seeded}
 use Rattle.pwcheck.specs.BenchOutcome.{IsCounted}
 
 abbrev IsMade : List ℕ → List ℕ → Type 0
 IsMade password text = made_texts.IsMade accepted key password text
 
--- ---- the modular crypt format
-
-value_in_field : (b : ℕ) → is_value_byte b ≡ true → is_field_byte b ≡ true
-value_in_field b value = grind (arith, nat_tests, value)
-
 -- ---- scrypt
 
-key-length : (password salt : List ℕ) → length (scrypt password salt (2 ^ 4) 8 1 32) ≡ 32
-key-length password salt = length-pbkdf2_once password (mixed_parts (2 ^ 4) 8 1 (pbkdf2_once password salt 1024)) 32
-
-record_valid : (salt key : List ℕ) → EachBelow 256 salt → length salt ≡ 16 → EachBelow 256 key → length key ≡ 32 → IsRecord (scrypt_record salt key)
-record_valid salt key salt_below salt_length key_below key_length = record {
-  algorithm = refl;
-  version = tt;
-  pairs = refl;
-  params = omega arith;
-  salt = (salt_below, omega (arith, salt_length), omega (arith, salt_length));
-  hash = (key_below, omega (arith, key_length), omega (arith, key_length));
-}
-
-abbrev scrypt_parts : List ℕ → List ℕ → Parts
-scrypt_parts salt key = record { id = codes "scrypt"; fields = codes "ln=4,r=8,p=1" ∷ encoding salt ∷ encoding key ∷ [] }
-
-scrypt_parts_text : (salt key : List ℕ) → parts_text (scrypt_parts salt key) ≡ record_text (scrypt_record salt key)
-unfolding record_text
-scrypt_parts_text salt key = ap (λ (t : List ℕ). codes "$scrypt$ln=4,r=8,p=1$" ++ (encoding salt ++ t)) (append-nil (36 ∷ encoding key))
-
-encoded_good : (b : List ℕ) → EachBelow 256 b → 1 ≤ length b → field_fault (encoding b) ≡ None
-encoded_good b below some =
-    good_field (encoding b) (omega (arith, encoded_length b below, some)) (all_weaker is_value_byte is_field_byte value_in_field (encoding b) (encoding_value b below))
-
-by_fault : (p q : Parts) (f : _) → parts_or_fault p f ≡ Ok q → (f ≡ None) × (p ≡ q)
-by_fault p q None h = (refl, cc)
-by_fault p q (Some e) h = absurd cc
-
--- a text that both grammars read
-read_phc : (text : List ℕ) (p : Parts) → mcf text ≡ Ok p → phc_text text ≡ phc p.id p.fields
-unfolding mcf phc_text
-read_phc text p h =
-    let is = by_fault (parts text) p (fault text) h in
-    ap phc_of_pieces (pieces_of_valid text is.0) ∙ ap (λ (q : Parts). phc q.id q.fields) is.1
-
-accepts : (salt key : List ℕ) → scrypt_accepts (scrypt_record salt key) 32 ≡ true
-unfolding scrypt_accepts
-accepts salt key = refl
-
-keys : (asked salt key : List ℕ) → scrypt_key asked (scrypt_record salt key) salt 32 ≡ scrypt asked salt (2 ^ 4) 8 1 32
-unfolding scrypt_key
-keys asked salt key = refl
+written : IsWritten (codes "4") (codes "8") (codes "1") 4 8 1
+written = record { pairs = refl; short = omega arith; field = refl; numbers = refl; bounds = refl }
 
 scrypt_made : (password salt : List ℕ) → EachBelow 256 salt → length salt ≡ 16 → IsMade password (scrypt_text password salt)
 scrypt_made password salt below len =
-    let k : List ℕ = scrypt password salt (2 ^ 4) 8 1 32 in
-    let r : PasswordHash = scrypt_record salt k in
-    let p : Parts = scrypt_parts salt k in
-    let k_below : EachBelow 256 k = scrypt_bytes password salt (2 ^ 4) 8 1 32 in
-    let k_length : length k ≡ 32 = key-length password salt in
-    let of_salt : field_fault (encoding salt) ≡ None = encoded_good salt below (omega (arith, len)) in
-    let of_key : field_fault (encoding k) ≡ None = encoded_good k k_below (omega (arith, k_length)) in
-    let good : first_field_fault p.fields ≡ None = rw (of_salt, of_key) refl in
-    let read : mcf (record_text r) ≡ Ok p = ap mcf (sym (scrypt_parts_text salt k)) ∙ mcf-parts_text p refl good in
-    let is_record : phc p.id p.fields ≡ Ok r = sym (read_phc (record_text r) p read) ∙ parses_back r (record_valid salt k below len k_below k_length) refl in (
-      λ (asked : List ℕ). same_text (encoding k) (encoding (scrypt asked salt (2 ^ 4) 8 1 32)),
-      λ (asked : List ℕ) fits.
-          of_parts accepted key asked (record_text r) p fits read ∙ ap (phc_answer accepted key asked) is_record
-          ∙ rw k_length (rw (accepts salt k) (ap (λ (t : List ℕ). Ok (same_text (encoding k) (encoding t))) (keys asked salt k))),
-      true_same (encoding k),
-    )
+    made_record.scrypt_made (codes "4") (codes "8") (codes "1") 4 8 1 written password salt below (omega (arith, len)) (omega (arith, len))
 
 -- ---- the generators
 

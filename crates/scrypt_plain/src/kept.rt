@@ -30,8 +30,12 @@ impl ScryptKept {
         }
     }
 
-    // Writes the key as `scrypt` does, in the table that is kept; where that is in use, in one of its own.
-    fn scrypt_into(
+    /// Writes the key as [`scrypt`] does, in the table that is kept; where that is in use, in one of its own.
+    ///
+    /// # Errors
+    ///
+    /// Only where a table is refused. What `out` holds then isn't said.
+    pub fn scrypt_into(
         &self,
         alloc: Global,
         password: &[u8],
