@@ -10,7 +10,7 @@ use crate::{EitherKdf, Pbkdf2Plain};
 use line_io::{Sink, Source};
 use line_program::{PasswordCheck, PlainLines, run_plain};
 use phc::Ident;
-use scrypt_plain::ScryptPlain;
+use scrypt_plain::ScryptKept;
 use std::alloc::{AllocError, Global};
 use stored_check::{StoredError, check_stored};
 
@@ -18,23 +18,35 @@ use stored_check::{StoredError, check_stored};
 const INPUT_MAX: u64 = 1 << 40;
 
 // scrypt for the identifier `scrypt`, and PBKDF2 for all others.
-fn scrypt_or_pbkdf2() -> EitherKdf<ScryptPlain, Pbkdf2Plain>
+fn scrypt_or_pbkdf2(alloc: Global) -> EitherKdf<ScryptKept, Pbkdf2Plain>
     ensures first { result.first ≡ codes "scrypt" }
 {
-    EitherKdf::new(Ident::new_unwrap("scrypt"), ScryptPlain, Pbkdf2Plain)
+    EitherKdf::new(
+        Ident::new_unwrap("scrypt"),
+        ScryptKept::new(alloc),
+        Pbkdf2Plain,
+    )
 }
 
 // The verdict by both.
-fn check_either(alloc: Global, password: &str, stored: &str) -> Result<bool, StoredError>
+fn check_either(
+    alloc: Global,
+    kdf: &EitherKdf<ScryptKept, Pbkdf2Plain>,
+    password: &str,
+    stored: &str,
+) -> Result<bool, StoredError>
+    requires first { kdf.now.first ≡ codes "scrypt" }
     ensures verdict { IsVerdict (verdict_of_either password.now stored.now) (is_costly password.now stored.now) result }
 {
-    check_stored(alloc, &scrypt_or_pbkdf2(), password, stored)
+    check_stored(alloc, kdf, password, stored)
 }
 
 /// What has the verdict by both.
 #[derive(Drop)]
 struct EitherCheck {
     alloc: Global,
+    kdf: EitherKdf<ScryptKept, Pbkdf2Plain>,
+    ghost first: { kdf.first ≡ codes "scrypt" },
 }
 
 impl PasswordCheck for EitherCheck {
@@ -46,7 +58,7 @@ impl PasswordCheck for EitherCheck {
     ghost may_lack = { λ check password stored. is_costly password stored };
 
     fn check(&self, password: &str, stored: &str) -> Result<Option<bool>, AllocError> {
-        match check_either(self.alloc, password, stored) {
+        match check_either(self.alloc, &self.kdf, password, stored) {
             Ok(matches) => Ok(Some(matches)),
             Err(StoredError::OutOfMemory) => Err(AllocError),
             Err(_) => Ok(None),
@@ -59,7 +71,8 @@ impl PasswordCheck for EitherCheck {
 /// A line is a password, a tab and a stored text; `invalid` is each line that has more than 8,192 bytes, is no UTF-8,
 /// has no tab, or whose text gets no verdict of `check_stored` with scrypt and PBKDF2. Statuses: 0 each line matches, 1
 /// some line does not, 3 a read failed, 4 a write failed, 5 memory was wanting, 6 the source holds more than `max`
-/// bytes. Only the key of a scrypt record takes memory, and gives it back.
+/// bytes. Only the key of a scrypt record takes memory: the table of the largest so far is kept until the
+/// run ends.
 pub fn run_either_limited<S: Source, K: Sink>(
     alloc: Global,
     source: &mut S,
@@ -80,7 +93,10 @@ pub fn run_either_limited<S: Source, K: Sink>(
         (λ held taken added. Outcome either_rules result max held taken added) }
 {
     let mut lines = PlainLines {
-        check: EitherCheck { alloc },
+        check: EitherCheck {
+            alloc,
+            kdf: scrypt_or_pbkdf2(alloc),
+        },
     };
     run_plain(&mut lines, source, sink, max)
 }

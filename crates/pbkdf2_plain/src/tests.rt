@@ -8,7 +8,7 @@ use std::test::Fail;
 use stored_check::{PhcKdf, StoredError, check_stored};
 
 // A password, a salt, the rounds and the key: the inputs of RFC 6070, with SHA-256 as openssl and Python's hashlib give
-// them.
+// them. The one with 16,777,216 rounds is past the bound.
 const KEYS: [(&[u8], &[u8], u32, &[u8]); 5] = [
     (
         b"password",
