@@ -1,0 +1,44 @@
+-- The definition of the verdict never gives want of memory.
+use Rattle.std.proofs.Common.{◌≢◌, ℕ, Bool, true, false, List, length, Option, Some, None, Result, Ok, Err}
+use Rattle.std.specs.Prelude.{nat_lt, if◌then◌else◌}
+use Rattle.mcf.specs.Grammar.{mcf, Parts}
+use Rattle.mcf.specs.declared.error.Error as mcf_error
+use Rattle.phc.specs.declared.password_hash.PasswordHash.{PasswordHash}
+use Rattle.stored_check.specs.Verdict.{verdict}
+use Rattle.stored_check.specs.declared.error.StoredError.{StoredError}
+use Rattle.stored_check.specs.declared.error.StoredError.TheVariants.{OutOfMemory}
+use Rattle.stored_check.proofs.Causes.{never_memory}
+use Rattle.md5_crypt.specs.Verdict.{legacy_verdict, magic_of, md5_answer, md5_fields, Md5Fields, parts_answer, stored_answer, text_answer}
+use Rattle.md5_crypt.specs.declared.error.LegacyError.{LegacyError}
+use Rattle.md5_crypt.specs.declared.error.LegacyError.TheVariants.{Stored}
+use Rattle.md5_crypt.specs.declared.error.Md5Fault.{Md5Fault}
+use Rattle.md5_crypt.specs.declared.magic.Magic.{Magic}
+
+abbrev Other : Result Bool LegacyError → Type 0
+Other r = r ≢ Err (Stored OutOfMemory)
+
+by_test : (t : Bool) (x y : Result Bool LegacyError) → Other x → Other y → Other (if t then x else y)
+by_test true x y hx hy = hx
+by_test false x y hx hy = hy
+
+of_md5 : (magic : Magic) (password : List ℕ) (r : Result Md5Fields Md5Fault) → Other (md5_answer magic password r)
+of_md5 magic password (Err e) = λ h. cc
+of_md5 magic password (Ok f) = λ h. cc
+
+of_stored : (r : Result Bool StoredError) → r ≢ Err OutOfMemory → Other (stored_answer r)
+of_stored (Ok b) other = λ h. cc
+of_stored (Err e) other = λ h. other cc
+
+module _ (accepted : PasswordHash → List ℕ → ℕ → Bool) (tag : List ℕ → PasswordHash → List ℕ → ℕ → List ℕ)
+    (password stored : List ℕ) where
+  of_parts : (o : Option Magic) (p : Parts) → Other (parts_answer accepted tag password stored o p)
+  of_parts (Some magic) p = of_md5 magic password (md5_fields p.fields)
+  of_parts None p = of_stored (verdict accepted tag password stored) (never_memory accepted tag password stored)
+
+  of_text : (r : Result Parts mcf_error.Error) → Other (text_answer accepted tag password stored r)
+  of_text (Err e) = λ h. cc
+  of_text (Ok p) = of_parts (magic_of p.id) p
+
+  pub never_lacks : Other (legacy_verdict accepted tag password stored)
+  unfolding legacy_verdict
+  never_lacks = by_test (nat_lt 4096 (length password)) _ _ (λ h. cc) (of_text (mcf stored))

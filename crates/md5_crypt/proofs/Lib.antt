@@ -1,0 +1,4 @@
+mod Walk
+pub mod Causes
+mod Costly
+mod Vectors

@@ -1,0 +1,99 @@
+//! The top calls.
+
+ghost use Rattle.std.specs.Prelude.{◌≡◌, ◌≢◌, ◌≤◌, ◌^◌};
+ghost use Rattle.line_io.specs.Devices.{HasRisen, WhereTold};
+ghost use Rattle.line_program.specs.Outcome.{Outcome};
+ghost use Rattle.md5_crypt.specs.Run.{is_costly, legacy_rules, verdict_with_scrypt};
+ghost use Rattle.md5_crypt.specs.Verdict.{IsLegacyVerdict};
+
+use crate::{LegacyError, check_legacy};
+use line_io::{Sink, Source};
+use line_program::{PasswordCheck, PlainLines, run_plain};
+use scrypt_plain::ScryptKept;
+use std::alloc::{AllocError, Global};
+use stored_check::StoredError;
+
+/// The most bytes of an input.
+const INPUT_MAX: u64 = 1 << 40;
+
+// The verdict, with scrypt as the derivation of keys.
+fn check_with_scrypt(
+    alloc: Global,
+    kdf: &ScryptKept,
+    password: &str,
+    stored: &str,
+) -> Result<bool, LegacyError>
+    ensures verdict { IsLegacyVerdict (verdict_with_scrypt password.now stored.now)
+        (is_costly password.now stored.now) result }
+{
+    check_legacy(alloc, kdf, password, stored)
+}
+
+/// What has this verdict.
+#[derive(Drop)]
+struct LegacyCheck {
+    alloc: Global,
+    kdf: ScryptKept,
+}
+
+impl PasswordCheck for LegacyCheck {
+    ghost use Rattle.line_program.specs.PlainOutput.{as_option};
+    ghost use Rattle.md5_crypt.specs.Run.{is_costly, verdict_with_scrypt};
+
+    ghost verdict = { λ check password stored. as_option (verdict_with_scrypt password stored) };
+
+    ghost may_lack = { λ check password stored. is_costly password stored };
+
+    fn check(&self, password: &str, stored: &str) -> Result<Option<bool>, AllocError> {
+        match check_with_scrypt(self.alloc, &self.kdf, password, stored) {
+            Ok(matches) => Ok(Some(matches)),
+            Err(LegacyError::Stored(StoredError::OutOfMemory)) => Err(AllocError),
+            Err(_) => Ok(None),
+        }
+    }
+}
+
+/// Answers each line of a source of at most `max` bytes with `match`, `mismatch` or `invalid`, and gives the status.
+///
+/// A line is a password, a tab and a stored text; `invalid` is each line that has more than 8,192 bytes, is no UTF-8,
+/// has no tab, or whose text gets no verdict of `check_legacy` with scrypt. Statuses: 0 each line matches, 1 some line
+/// does not, 3 a read failed, 4 a write failed, 5 memory was wanting, 6 the source holds more than `max` bytes. Only
+/// the key of a scrypt record takes memory: the table of the largest so far is kept until the run ends.
+pub fn run_legacy_limited<S: Source, K: Sink>(
+    alloc: Global,
+    source: &mut S,
+    sink: &mut K,
+    max: u64,
+) -> u8
+    requires bound { max ≤ 2 ^ 40 }
+
+    // No other status comes.
+    ensures statuses { (result ≤ 6) × (result ≢ 2) }
+
+    // A fault is answered only where the count of that device rose in this call.
+    ensures read_fault { result ≡ 3 → HasRisen (S.faults source.old) (S.faults source.new) }
+    ensures write_fault { result ≡ 4 → HasRisen (K.faults sink.old) (K.faults sink.new) }
+
+    // What was taken and written, for each status.
+    ensures outcome { WhereTold (S.left source.old) (S.left source.new) (K.written sink.old) (K.written sink.new)
+        (λ held taken added. Outcome legacy_rules result max held taken added) }
+{
+    let mut lines = PlainLines {
+        check: LegacyCheck {
+            alloc,
+            kdf: ScryptKept::new(alloc),
+        },
+    };
+    run_plain(&mut lines, source, sink, max)
+}
+
+/// The program: `run_legacy_limited` over a source of at most 2^40 bytes.
+pub fn run_legacy<S: Source, K: Sink>(alloc: Global, source: &mut S, sink: &mut K) -> u8
+    ensures statuses { (result ≤ 6) × (result ≢ 2) }
+    ensures read_fault { result ≡ 3 → HasRisen (S.faults source.old) (S.faults source.new) }
+    ensures write_fault { result ≡ 4 → HasRisen (K.faults sink.old) (K.faults sink.new) }
+    ensures outcome { WhereTold (S.left source.old) (S.left source.new) (K.written sink.old) (K.written sink.new)
+        (λ held taken added. Outcome legacy_rules result (2 ^ 40) held taken added) }
+{
+    run_legacy_limited(alloc, source, sink, INPUT_MAX)
+}

@@ -1,0 +1,19 @@
+//! `pwlegacy`: answers each line of a password file with `match`, `mismatch` or `invalid`, where the old texts of
+//! md5-crypt (`$1$salt$hash`, and Apache's `$apr1$salt$hash`) have a verdict beside those of SHA-crypt and scrypt.
+//!
+//! These old texts are read for migration, and are not to be made: MD5 is broken, and its thousand rounds are cheap.
+//!
+//! A line is a password, a tab and a stored text. The lines come from standard input, and each word goes to standard
+//! output with a line feed. The status says how the run ended. Words of the command line are ignored.
+#![tactic(auto)]
+
+use line_io::{StdSink, StdSource};
+use md5_crypt::run_legacy;
+use std::io;
+use std::process::ExitCode;
+
+fn main(rt: HostRuntime) -> ExitCode {
+    let mut source = StdSource::new(rt.reader());
+    let mut sink = StdSink::new(io::writer(&rt));
+    ExitCode::from(run_legacy(rt.alloc(), &mut source, &mut sink))
+}
