@@ -1,0 +1,14 @@
+pub mod Cuts
+pub mod Fresh
+pub mod TextBytes
+pub mod Content
+pub mod Calls
+pub mod Own
+pub mod Distinct
+pub mod Listed
+pub mod Entries
+pub mod LineAnswers
+pub mod TableAnswers
+pub mod Output
+pub mod Seen
+mod Vectors

@@ -1,0 +1,188 @@
+//! Replies to the lines of command files, and the calls of the table.
+
+use crate::{FileError, LineReply, Table, Word, answer_line, laws, run_file, run_file_limited};
+use line_io::{MemorySink, MemorySource};
+use phc::Ident;
+use stored_check::{McfFault, StoredError};
+
+// Lines, and their replies over one table.
+const OVER_A_DIGEST: [(&str, Word); 5] = [
+    (
+        "set\tann\t$5$saltstring$5B8vYYiY.CVt1RlTTf8KbXBH3hsxY/GNooZaBBGWEc5",
+        Word::Done,
+    ),
+    ("check\tann\tHello world!", Word::Match),
+    ("upgrade\tann\tabcdabcdabc\tHello world!", Word::Upgraded),
+    ("check\tann\tHello world!", Word::Match),
+    ("check\tbob\tx", Word::NoUser),
+];
+
+const WITHOUT_A_DIGEST: [(&str, Word); 8] = [
+    ("set\tann\t$", Word::BadText),
+    ("set\tAnn\t$5", Word::BadCommand),
+    ("set\tann\t$5", Word::Done),
+    ("check\tann\tx", Word::Invalid),
+    ("upgrade\tann\tabc\tx", Word::BadSalt),
+    ("upgrade\tann\tabcdabcdabc\tx", Word::Invalid),
+    ("upgrade\tbob\tabc\tx", Word::NoUser),
+    ("list\t", Word::BadCommand),
+];
+
+#[test]
+fn lines_over_a_digest(rt: HostRuntime) {
+    let mut table = Table::new(rt.alloc());
+    for (line, word) in OVER_A_DIGEST {
+        assert!(rt;
+            answer_line(&mut table, line.as_bytes()) == Some(LineReply::Word(word)),
+            "{line:?}"
+        );
+    }
+    let Some(text) = table.get(Ident::new_unwrap("ann")) else {
+        panic!(rt; "ann has a text")
+    };
+    assert!(rt; text.starts_with("$scrypt$ln=14,r=8,p=1$abcdabcdabc$"));
+    assert_eq!(rt; text.len(), 77);
+}
+
+#[test]
+fn lines_without_a_digest(rt: HostRuntime) {
+    let mut table = Table::new(rt.alloc());
+    for (line, word) in WITHOUT_A_DIGEST {
+        assert!(rt;
+            answer_line(&mut table, line.as_bytes()) == Some(LineReply::Word(word)),
+            "{line:?}"
+        );
+    }
+    assert!(rt; answer_line(&mut table, b"list") == Some(LineReply::Listing));
+    assert!(rt; LineReply::Listing.is_good());
+    assert_eq!(rt; table.len(), 1);
+    let Some(line) = table.row_line(0) else {
+        panic!(rt; "there is a user")
+    };
+    assert!(rt; line.as_slice() == b"set\tann\t$5\n".as_slice());
+    assert!(rt; table.row_line(1).is_none());
+    assert!(rt; table.user(0) == Some(Ident::new_unwrap("ann")));
+    assert!(rt; table.user(1).is_none());
+    assert_eq!(rt; Word::Invalid.as_str(), "invalid");
+}
+
+// Commands that leave three users with their texts.
+const KEPT: [&str; 5] = [
+    "set\tbob\t$1$a$b",
+    "set\tann\t$5$saltstring$5B8vYYiY.CVt1RlTTf8KbXBH3hsxY/GNooZaBBGWEc5",
+    "set\tbob\t$6",
+    "set\tcleo\t",
+    "set\tdora\t$scrypt$ln=14,r=8,p=1$abcdabcdabc$A",
+];
+
+#[test]
+fn restart(rt: HostRuntime) {
+    let mut table = Table::new(rt.alloc());
+    for line in KEPT {
+        let _reply = answer_line(&mut table, line.as_bytes());
+    }
+    assert_eq!(rt; table.len(), 3);
+    // Each line of the listing is a command of another table.
+    let mut again = Table::new(rt.alloc());
+    for i in 0..table.len() {
+        let Some(line) = table.row_line(i) else {
+            panic!(rt; "there is a user")
+        };
+        let Some((feed, command)) = line.as_slice().split_last() else {
+            panic!(rt; "a line has bytes")
+        };
+        assert_eq!(rt; *feed, b'\n');
+        assert!(rt; answer_line(&mut again, command) == Some(LineReply::Word(Word::Done)));
+        assert!(rt; again.row(i) == table.row(i));
+    }
+    assert_eq!(rt; again.len(), table.len());
+    let ann = Ident::new_unwrap("ann");
+    assert!(rt; again.check(ann, "Hello world!") == Ok(true));
+    assert!(rt; again.check(ann, "Hello world") == Ok(false));
+    assert!(rt; again.check(Ident::new_unwrap("cleo"), "x") == Err(FileError::NoUser));
+}
+
+#[test]
+fn refusals(rt: HostRuntime) {
+    let mut table = Table::new(rt.alloc());
+    let ann = Ident::new_unwrap("ann");
+    let letters = [b'$'; 1_025];
+    let Ok(long) = str::from_utf8(&letters) else {
+        panic!(rt; "letters are text")
+    };
+    assert!(rt; table.set(ann, long) == Err(FileError::TextTooLong));
+    assert!(rt;
+        table.set(ann, &long[..1_024]) == Err(FileError::BadText(McfFault::DelimiterInvalid))
+    );
+    assert!(rt; table.get(ann).is_none());
+    assert!(rt; table.check(ann, "x") == Err(FileError::NoUser));
+    assert!(rt; table.set(ann, "$x") == Ok(()));
+    assert!(rt; table.check(ann, "x") == Err(FileError::Check(StoredError::NoHash)));
+    assert!(rt;
+        table.upgrade(ann, "x", "abc") == Err(FileError::BadSalt(phc::Error::SaltTooShort))
+    );
+    assert!(rt; answer_line(&mut table, &[b'a'; 8_193]) == Some(LineReply::Word(Word::TooLong)));
+    assert!(rt; answer_line(&mut table, &[0xff]) == Some(LineReply::Word(Word::BadCommand)));
+}
+
+#[test]
+fn laws_are_calls(_rt: HostRuntime) {
+    laws::own_pairs();
+    laws::fresh_matches();
+    laws::listed_again();
+}
+
+// Command files, their output, and the status.
+const FILES: [(&[u8], &[u8], u8); 4] = [
+    (
+        b"set\tann\t$5$saltstring$5B8vYYiY.CVt1RlTTf8KbXBH3hsxY/GNooZaBBGWEc5\ncheck\tann\tHello world!\nupgrade\tann\tabcdabcdabc\tHello world!\ncheck\tann\tHello world!\ncheck\tbob\tx\n",
+        b"ok\nmatch\nupgraded\nmatch\nno-user\n",
+        1,
+    ),
+    (
+        b"set\tann\t$\nset\tAnn\t$5\nset\tann\t$5\ncheck\tann\tx\nlist\n",
+        b"bad-text\nbad-command\nok\ninvalid\nset\tann\t$5\n",
+        1,
+    ),
+    (
+        b"list\nset\tbob\t$1$a$b\nset\tann\t$5\nset\tbob\t$6\nlist",
+        b"ok\nok\nok\nset\tbob\t$6\nset\tann\t$5\n",
+        0,
+    ),
+    (b"", b"", 0),
+];
+
+#[test]
+fn command_files(rt: HostRuntime) {
+    for (input, output, status) in FILES {
+        let mut room = [0; 128];
+        let mut source = MemorySource::new(input, 7, &[]);
+        let mut sink = MemorySink::new(&mut room, 5, &[]);
+        let got = run_file(rt.alloc(), &mut source, &mut sink);
+        assert_eq!(rt; got, status);
+        assert_eq!(rt; sink.bytes(), output);
+    }
+}
+
+#[test]
+fn stopped_early(rt: HostRuntime) {
+    let input = b"set\tann\t$5\nlist\nlist\n".as_slice();
+    // A read fails: the whole lines before it are answered.
+    let mut room = [0; 64];
+    let mut source = MemorySource::new(input, 18, &[1]);
+    let mut sink = MemorySink::new(&mut room, 64, &[]);
+    assert_eq!(rt; run_file(rt.alloc(), &mut source, &mut sink), 3);
+    assert_eq!(rt; sink.bytes(), b"ok\nset\tann\t$5\n".as_slice());
+    // A write fails: what was written is the beginning of the output.
+    let mut room = [0; 64];
+    let mut source = MemorySource::new(input, 64, &[]);
+    let mut sink = MemorySink::new(&mut room, 6, &[1]);
+    assert_eq!(rt; run_file(rt.alloc(), &mut source, &mut sink), 4);
+    assert_eq!(rt; sink.bytes(), b"ok\nset".as_slice());
+    // More than `max` bytes: the lines that end among the first of these are answered.
+    let mut room = [0; 64];
+    let mut source = MemorySource::new(input, 64, &[]);
+    let mut sink = MemorySink::new(&mut room, 64, &[]);
+    assert_eq!(rt; run_file_limited(rt.alloc(), &mut source, &mut sink, 20), 6);
+    assert_eq!(rt; sink.bytes(), b"ok\nset\tann\t$5\n".as_slice());
+}
