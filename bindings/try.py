@@ -1,0 +1,186 @@
+#!/usr/bin/env python3
+"""Builds the C library and one small program in C, Python and Rust over it, and compares their words with pwcheck's.
+
+    bindings/try.py [FOLDER]
+
+What is missing is built by `rt lib` and `rt run`. The library is laid out (bindings/library.py) in a new folder, or in
+the one that is named. Each line of examples/passwords.txt and of the lines below is answered by `pwcheck check`, by the
+C caller (static and shared, by pkg-config), by Python and by Rust, and the words have to be the same. What Python's own
+library knows, scrypt, Base64 and texts by `crypt`, is compared too; what is refused has to be refused; and a scrypt
+line under too little memory has to be answered by want of memory. What this machine lacks is said and left out.
+"""
+import base64
+import hashlib
+import os
+import resource
+import shutil
+import subprocess
+import sys
+import tempfile
+import warnings
+
+from library import HERE, TOP, laid_out, need, program, run
+
+EXAMPLES = os.path.join(TOP, "examples", "passwords.txt")
+SHA = b"$5$saltstring$5B8vYYiY.CVt1RlTTf8KbXBH3hsxY/GNooZaBBGWEc5"
+SCRYPT = b"$scrypt$ln=4,r=8,p=1$aM15713r3Xsvxbi31lqr1Q$nFNh2CVHVjNldFVKDHDlm4CbdRSCdEBsjjJxD+iCs5E"
+LINES = [b"Hello world!\t" + SHA, b"Hello world!\r\t" + SHA, b"Hello world!\t" + SHA + b"\r", b"\t" + SHA,
+         b"Hello world!\t", b"\t", b"", b"Hello world!\x00\t" + SHA, b"\xff\t" + SHA, b"Hello world!\t" + SHA + b"\xc3",
+         "pässwört\t".encode() + SHA, b"a" * 4096 + b"\t" + SHA, b"a" * 4097 + b"\t" + SHA, b"a" * 8192, b"a" * 8193]
+LINES += [b"x\t" + text for text in [
+    b"$", b"$5", b"$5$rounds=1000", b"$5$rounds=1000$salt", b"$5$rounds=x$salt$hash",
+    b"$5$rounds=01000$salt$" + b"." * 43,
+    b"$5$salt$" + b"." * 42, b"$5$salt$" + b"." * 43 + b"$more", b"$5$12345678901234567$" + b"." * 43,
+    b"$6$salt$" + b"." * 86, b"$5$rounds=999$salt$" + b"." * 43, b"$-a$b", b"$a$$b", b"$a$b\x7f",
+    b"$" + b"a" * 33 + b"$b=c",
+    b"$scrypt$a=b=c$" + b"a" * 22, b"$scrypt$v=" + b"1" * 65, b"$scrypt$v=01", b"$scrypt$a=" + b"1" * 126,
+    b"$scrypt$ln=4$short", b"$scrypt$ln=4$" + b"a" * 65, b"$scrypt$ln=4$" + b"a" * 13,
+    b"$scrypt$ln=4$" + b"a" * 11 + b"$" + b"a" * 87, b"$scrypt$ln=4$" + b"a" * 11 + b"$" + b"A" * 8,
+    SCRYPT.replace(b",r=8,p=1", b"") + b"$x", SCRYPT.replace(b",p=1", b""),
+    SCRYPT.replace(b"ln=4,r=8,p=1", b"r=8,p=1,ln=4"), SCRYPT]]
+
+
+def callers(folder, lib):
+    """The commands that answer lines, with the variables that they need."""
+    found = {}
+    if shutil.which("pkg-config"):
+        options = run("pkg-config", "--cflags", "--libs", "pwcheck", capture_output=True, text=True,
+                      env={**os.environ, "PKG_CONFIG_PATH": os.path.join(lib, "pkgconfig")}).stdout.split()
+        for name, more in [("C_static", ["-Wl,-Bstatic", *options, "-Wl,-Bdynamic"]), ("C_shared", options)]:
+            binary = os.path.join(folder, name)
+            source = os.path.join(HERE, "c", "check_lines.c")
+            run("gcc", "-O2", "-Wall", "-Wextra", "-Werror", source, "-o", binary, *more)
+            found[name] = ([binary], {"LD_LIBRARY_PATH": lib})
+    else:
+        print("try: no pkg-config, so no C")
+    found["Python"] = ([sys.executable, os.path.join(HERE, "python", "check_lines.py")],
+                       {"LIBPWCHECK": os.path.join(lib, "libpwcheck.so")})
+    if shutil.which("cargo"):
+        crate, target = os.path.join(HERE, "rust"), os.path.join(folder, "target")
+        for work in (["test", "--quiet"], ["build", "--quiet", "--release"]):
+            run("cargo", *work, "--offline", "--target-dir", target, cwd=crate, stdout=subprocess.DEVNULL,
+                env={**os.environ, "PWCHECK_LIB": os.path.abspath(lib)})
+        found["Rust"] = ([os.path.join(target, "release", "check_lines")], {})
+    else:
+        print("try: no cargo, so no Rust")
+    return found
+
+
+def words(command, source, more=None):
+    done = subprocess.run(command, input=source, capture_output=True, env={**os.environ, **(more or {})}, check=False)
+    need(done.returncode in (0, 1), f"{command[0]} ended with {done.returncode}: {done.stderr.decode()}")
+    return done.stdout.decode().splitlines()
+
+
+def compare_words(found):
+    with open(EXAMPLES, "rb") as source:
+        lines = source.read() + b"\n".join(LINES) + b"\n"
+    wanted = words([program(), "check"], lines)
+    need(len(wanted) == lines.count(b"\n"), "the program didn't answer each line")
+    for name, (command, more) in found.items():
+        got = words(command, lines, more)
+        for line, want, have in zip(lines.split(b"\n"), wanted, got):
+            need(want == have, f"{name}: {have} for {want}: {line[:80]!r}")
+        need(len(got) == len(wanted), f"{name}: {len(got)} answers for {len(wanted)} lines")
+        print(f"{name}: {len(got)} lines, {len(set(got))} words, as the program")
+
+
+def refused(call, *arguments):
+    try:
+        call(*arguments)
+    except ValueError:
+        return
+    sys.exit(f"try: {call.__name__} took {arguments}")
+
+
+def compare_scrypt(pwcheck):
+    for ln, r, p, size in [(4, 8, 1, 64), (10, 8, 16, 64), (14, 8, 1, 32), (1, 1, 1, 1)]:
+        want = hashlib.scrypt(b"password", salt=b"NaCl", n=1 << ln, r=r, p=p, dklen=size, maxmem=1 << 28)
+        need(pwcheck.scrypt(b"password", b"NaCl", ln, r, p, size) == want, "scrypt differs")
+    for cost in [(0, 8, 1, 32), (25, 8, 1, 32), (4, 0, 1, 32), (4, 8, 0, 32), (4, 8, 1, 0), (4, 8, 1, 65),
+                 (22, 8, 1, 32)]:
+        refused(pwcheck.scrypt, b"password", b"NaCl", *cost)
+
+
+def compare_base64(pwcheck):
+    for n in range(100):
+        data = bytes(7 * k % 256 for k in range(n))
+        for alphabet, coder in [(0, base64.b64encode), (2, base64.urlsafe_b64encode)]:
+            text = coder(data)
+            need(pwcheck.b64encode(alphabet, data) == text, "Base64 differs")
+            need(pwcheck.b64encode(alphabet + 1, data) == text.rstrip(b"="), "Base64 differs")
+            need(pwcheck.b64decode(alphabet, text) == data, "Base64 differs")
+            need(pwcheck.b64decode(alphabet + 1, text.rstrip(b"=")) == data, "Base64 differs")
+        for alphabet in range(4, 8):
+            need(pwcheck.b64decode(alphabet, pwcheck.b64encode(alphabet, data)) == data, "Base64 isn't taken back")
+    for alphabet, text in [(0, b"Zg="), (0, b"Zh=="), (1, b"Z"), (3, b"Zg+/"), (8, b"")]:
+        refused(pwcheck.b64decode, alphabet, text)
+
+
+def compare_text(pwcheck, crypt, bits, password, salt, rounds):
+    """A text and its field, against libxcrypt, and its verdicts."""
+    data = password.encode()
+    text = pwcheck.sha_text(bits, data, salt.encode(), rounds)
+    setting = f"${'5' if bits == 256 else '6'}${f'rounds={rounds}$' if rounds != 5000 else ''}{salt}$"
+    need(not crypt or crypt.crypt(password, setting).encode() == text, "a text differs")
+    need(pwcheck.sha_field(bits, data, salt.encode(), rounds) == text.rpartition(b"$")[2], "a field differs")
+    for asked, answer in [(data, pwcheck.MATCH), (data + b"a", pwcheck.MISMATCH)]:
+        need(pwcheck.check(asked, text) == pwcheck.sha_check(bits, asked, text) == answer, "not the verdict on a text")
+    need(pwcheck.sha_check(768 - bits, data, text) == 9, "a text of the other family isn't told")
+
+
+def compare_texts(pwcheck):
+    warnings.filterwarnings("ignore", category=DeprecationWarning)
+    try:
+        import crypt
+    except ImportError:
+        crypt = None
+        print("try: no module crypt, so made texts are only checked by the library itself")
+    for bits in (256, 512):
+        for password in ["", "Hello world!", "pässwört", "a" * 100]:
+            for salt in ["x", "./AZaz09", "1234567890123456"]:
+                for rounds in [1000, 5000, 10_000]:
+                    compare_text(pwcheck, crypt, bits, password, salt, rounds)
+        for salt, rounds in [(b"", 5000), (b"a$b", 5000), (b"=", 5000), (b"a" * 17, 5000), (b"a", 999), (b"a", 10**9)]:
+            refused(pwcheck.sha_text, bits, b"a", salt, rounds)
+        refused(pwcheck.sha_digest, bits, b"a", b"a", 999)
+
+
+def compare_memory(pwcheck):
+    big = SCRYPT.replace(b"ln=4", b"ln=16")
+    soft, hard = resource.getrlimit(resource.RLIMIT_AS)
+    with open("/proc/self/statm", encoding="ascii") as source:
+        now = int(source.read().split()[0]) * resource.getpagesize()
+    resource.setrlimit(resource.RLIMIT_AS, (now + (16 << 20), hard))
+    answer = pwcheck.check(b"password", big)
+    resource.setrlimit(resource.RLIMIT_AS, (soft, hard))
+    need(pwcheck.word(answer) == "no-memory", "want of memory isn't told")
+
+
+def compare_python(lib):
+    os.environ["LIBPWCHECK"] = os.path.join(lib, "libpwcheck.so")
+    sys.path.insert(0, os.path.join(HERE, "python"))
+    import pwcheck
+
+    compare_scrypt(pwcheck)
+    compare_base64(pwcheck)
+    compare_texts(pwcheck)
+    need(pwcheck.same(b"abc", b"abc") and not pwcheck.same(b"abc", b"abd") and not pwcheck.same(b"abc", b"ab"), "same")
+    need([pwcheck.word(n) for n in (-1, 30, 1 << 30)] == [""] * 3, "a word for no answer")
+    need(len({pwcheck.word(n) for n in range(30)} - {""}) == 24, "not the words of the header")
+    print("Python: scrypt, Base64 and SHA-crypt as its own library has them")
+    compare_memory(pwcheck)
+    print("Python: want of memory is told")
+
+
+def main():
+    if not (shutil.which("gcc") and shutil.which("ar")):
+        print("try: no gcc and binutils, so nothing was built")
+        return
+    with tempfile.TemporaryDirectory() as scratch:
+        lib = laid_out(sys.argv[1] if len(sys.argv) > 1 else scratch)
+        compare_words(callers(scratch, lib))
+        compare_python(lib)
+
+
+main()

@@ -1,0 +1,2 @@
+pub mod EncodedLens
+pub mod Salts

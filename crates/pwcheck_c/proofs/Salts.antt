@@ -1,0 +1,56 @@
+-- Salts of crypt(5) have neither `$` nor `=`.
+use Rattle.std.proofs.Common.{◌≡◌, ℕ, ◌≤◌, Bool, true, false, List, length, refl, sym, ap, ◌∙◌, arith}
+use Rattle.std.specs.Prelude.{◌==◌, ◌&&◌, not, nat_le, Result, Ok, Err}
+use Rattle.std.specs.List.{list_all}
+use Rattle.std.proofs.lemmas.Bool.{and_parts, eqb-true, false≢true}
+use Rattle.std.proofs.lemmas.Bool.Decides.{nat_tests}
+use Rattle.mcf.specs.Grammar.{is_field_byte}
+use Rattle.phc.proofs.Characters.{all_weaker}
+use Rattle.sha_crypt.proofs.MadeTexts.{IsSalt, is_not}
+use Rattle.sha_crypt.specs.declared.errors.CryptError.{CryptError}
+use Rattle.stored_check.specs.declared.error.StoredError.{StoredError}
+use Rattle.pwcheck_c.specs.Inputs.{is_salt, is_salt_character, is_short, rounds_taken}
+
+-- what is no character of a salt is another one
+other : (c : ℕ) → is_salt_character c ≡ false → (b : ℕ) → is_salt_character b ≡ true → is_not c b ≡ true
+other c none b one = by_test (b == c) refl
+  where
+    by_test : (t : Bool) → (b == c) ≡ t → not t ≡ true
+    by_test false is = refl
+    by_test true is = absurd (false≢true (sym none ∙ ap is_salt_character (sym (eqb-true b c is)) ∙ one))
+
+-- a character of a salt may stand in a field
+in_field : (b : ℕ) → is_salt_character b ≡ true → is_field_byte b ≡ true
+in_field b one = grind (arith, nat_tests, one)
+
+pub plain_salt : (salt : List ℕ) → is_salt salt ≡ true → (1 ≤ length salt) × (list_all is_field_byte salt ≡ true)
+plain_salt salt is =
+    let parts = and_parts (nat_le 1 (length salt) && nat_le (length salt) 16) (list_all is_salt_character salt) is in
+    let lengths = and_parts (nat_le 1 (length salt)) (nat_le (length salt) 16) parts.0 in
+    (grind (arith, nat_tests, lengths.0), all_weaker is_salt_character is_field_byte in_field salt parts.1)
+
+pub salt_for_text : (salt : List ℕ) → is_salt salt ≡ true → IsSalt salt
+salt_for_text salt is =
+    let parts = and_parts (nat_le 1 (length salt) && nat_le (length salt) 16) (list_all is_salt_character salt) is in
+    let lengths = and_parts (nat_le 1 (length salt)) (nat_le (length salt) 16) parts.0 in
+    record {
+      short = grind (arith, nat_tests, lengths.1);
+      dollar = all_weaker is_salt_character (is_not 36) (other 36 refl) salt parts.1;
+      equals = all_weaker is_salt_character (is_not 61) (other 61 refl) salt parts.1;
+    }
+
+-- the rounds of a text that is made
+pub rounds_in_range : (password : List ℕ) (rounds : ℕ) → rounds_taken password rounds ≡ true
+    → (1000 ≤ rounds) × (rounds ≤ 999999999)
+rounds_in_range password rounds is =
+    let parts = and_parts (is_short password && nat_le 1000 rounds) (nat_le rounds 999999999) is in
+    let first = and_parts (is_short password) (nat_le 1000 rounds) parts.0 in
+    (grind (arith, nat_tests, first.1), grind (arith, nat_tests, parts.1))
+
+-- parameters that are made with these rounds have them
+pub rounds_once : (m n : ℕ) (r : Result ℕ CryptError) → r ≡ Ok m → r ≡ Ok n → m ≡ n
+rounds_once m n r is_m is_n =
+    ap (λ (o : Result ℕ CryptError). elim o as (λ _. ℕ) [ Ok k ↦ k | Err e ↦ 0 ]) (sym is_m ∙ is_n)
+
+abbrev pub as_verdict : Bool → Result Bool StoredError
+as_verdict b = Ok b

@@ -1,0 +1,6 @@
+pub mod Numbers
+pub mod Words
+pub mod Verdicts
+pub mod Coder
+pub mod Inputs
+pub mod Written

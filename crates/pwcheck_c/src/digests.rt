@@ -1,0 +1,116 @@
+//! Digests of SHA-crypt, and their hash fields.
+
+ghost use Rattle.std.specs.Prelude.{◌≡◌, length, true, false};
+ghost use Rattle.sha2.specs.Sha256.{sha256};
+ghost use Rattle.sha2.specs.Sha512.{sha512};
+ghost use Rattle.sha_crypt.specs.Digest.{sha_crypt_digest};
+ghost use Rattle.sha_crypt.specs.HashField.{hash_field};
+ghost use Rattle.sha_crypt.specs.declared.defs.TheConstants.{MAP_SHA256, MAP_SHA512};
+ghost use Rattle.pwcheck_c.specs.Inputs.{sha_takes};
+
+use crate::statuses::{DONE, LONG, OUT_OF_RANGE};
+use sha_crypt::{
+    Sha256Params, Sha512Params, encode_sha256, encode_sha512, sha256_crypt, sha512_crypt,
+};
+
+/// Writes the SHA-256-crypt digest of 32 bytes.
+#[unsafe(no_mangle)]
+pub extern "C" fn pwcheck_sha256_crypt(
+    password: &[u8],
+    salt: &[u8],
+    rounds: u32,
+    out: &mut [u8],
+) -> i32
+    ensures digest { sha_takes 32 password.now rounds (length out.old) ≡ true
+        → (result ≡ DONE) × (out.new ≡ sha_crypt_digest sha256 password.now salt.now rounds) }
+    ensures refused { sha_takes 32 password.now rounds (length out.old) ≡ false
+        → (result ≡ OUT_OF_RANGE) × (out.new ≡ out.old) }
+{
+    if password.len() >= LONG || out.len() != 32 {
+        return OUT_OF_RANGE;
+    }
+    match Sha256Params::new(rounds as usize) {
+        Ok(params) => {
+            out.copy_from_slice(&sha256_crypt(password, salt, &params));
+            DONE
+        }
+        Err(_) => OUT_OF_RANGE,
+    }
+}
+
+/// Writes the SHA-512-crypt digest of 64 bytes.
+#[unsafe(no_mangle)]
+pub extern "C" fn pwcheck_sha512_crypt(
+    password: &[u8],
+    salt: &[u8],
+    rounds: u32,
+    out: &mut [u8],
+) -> i32
+    ensures digest { sha_takes 64 password.now rounds (length out.old) ≡ true
+        → (result ≡ DONE) × (out.new ≡ sha_crypt_digest sha512 password.now salt.now rounds) }
+    ensures refused { sha_takes 64 password.now rounds (length out.old) ≡ false
+        → (result ≡ OUT_OF_RANGE) × (out.new ≡ out.old) }
+{
+    if password.len() >= LONG || out.len() != 64 {
+        return OUT_OF_RANGE;
+    }
+    match Sha512Params::new(rounds as usize) {
+        Ok(params) => {
+            out.copy_from_slice(&sha512_crypt(password, salt, &params));
+            DONE
+        }
+        Err(_) => OUT_OF_RANGE,
+    }
+}
+
+/// Writes the hash field of the SHA-256-crypt digest: 43 characters, without a zero behind them.
+#[unsafe(no_mangle)]
+pub extern "C" fn pwcheck_sha256_crypt_b64(
+    password: &[u8],
+    salt: &[u8],
+    rounds: u32,
+    out: &mut [u8],
+) -> i32
+    ensures field { sha_takes 43 password.now rounds (length out.old) ≡ true
+        → (result ≡ DONE) × (out.new ≡ hash_field MAP_SHA256 (sha_crypt_digest sha256 password.now salt.now rounds)) }
+    ensures refused { sha_takes 43 password.now rounds (length out.old) ≡ false
+        → (result ≡ OUT_OF_RANGE) × (out.new ≡ out.old) }
+{
+    if password.len() >= LONG || out.len() != 43 {
+        return OUT_OF_RANGE;
+    }
+    match Sha256Params::new(rounds as usize) {
+        Ok(params) => {
+            let digest = sha256_crypt(password, salt, &params);
+            out.copy_from_slice(&encode_sha256(&digest));
+            DONE
+        }
+        Err(_) => OUT_OF_RANGE,
+    }
+}
+
+/// Writes the hash field of the SHA-512-crypt digest: 86 characters, without a zero behind them.
+#[unsafe(no_mangle)]
+pub extern "C" fn pwcheck_sha512_crypt_b64(
+    password: &[u8],
+    salt: &[u8],
+    rounds: u32,
+    out: &mut [u8],
+) -> i32
+    ensures field { sha_takes 86 password.now rounds (length out.old) ≡ true
+        → (result ≡ DONE) × (out.new ≡ hash_field MAP_SHA512 (sha_crypt_digest sha512 password.now salt.now rounds)) }
+    ensures refused { sha_takes 86 password.now rounds (length out.old) ≡ false
+        → (result ≡ OUT_OF_RANGE) × (out.new ≡ out.old) }
+{
+    if password.len() >= LONG || out.len() != 86 {
+        return OUT_OF_RANGE;
+    }
+    match Sha512Params::new(rounds as usize) {
+        Ok(params) => {
+            let digest = sha512_crypt(password, salt, &params);
+            out.copy_from_slice(&encode_sha512(&digest));
+            DONE
+        }
+        Err(_) => OUT_OF_RANGE,
+    }
+}

@@ -1,0 +1,22 @@
+//! What C programs call: the verdict on a password and a stored text and its word, the digests and keys, the texts
+//! and hash fields made of them, Base64, and a comparison of secret bytes. `include/pwcheck.h` declares it.
+//!
+//! Each export calls one function of a library and states its clauses again. What the library requires is
+//! tested here, as nothing makes a C program keep it: no export has a `requires`. A slice is a pointer and a length.
+#![tactic(auto)]
+
+mod alphabets;
+mod answer;
+mod base64;
+mod check;
+mod compare;
+mod digests;
+mod keys;
+pub mod laws;
+mod lengths;
+mod sha_check;
+mod sha_text;
+mod statuses;
+#[cfg(test)]
+mod tests;
+mod words;
