@@ -3,9 +3,9 @@
 
     bench/refused_memory.py [CRATE..]
 
-For each crate (base64ct, mcf, phc, sha_crypt, scrypt_plain and pwcheck if none is named) `rt try --test --fail-alloc N`
+For each crate (base64ct, mcf, phc, sha_crypt, scrypt_plain and the programs if none is named) `rt try --test --fail-alloc N`
 runs its tests with request N refused, for N from 1 until a run meets no refusal (at most 40). For pwcheck it also runs
-the program over one line of each kind. A run ends with its want of memory or as usual; anything else is marked.
+the program over one line of each kind, for pwfile the program alone, over commands that need no digest. A run ends with its want of memory or as usual; anything else is marked.
 """
 import os
 import re
@@ -13,12 +13,30 @@ import subprocess
 import sys
 
 TOP = os.path.dirname(os.path.dirname(os.path.abspath(__file__)))
-CRATES = ["base64ct", "mcf", "phc", "sha_crypt", "scrypt_plain", "pwcheck"]
-RUNS = [(["check"], b"Hello world!\t$5$saltstring$5B8vYYiY.CVt1RlTTf8KbXBH3hsxY/GNooZaBBGWEc5\n"),
+CRATES = ["base64ct", "mcf", "phc", "sha_crypt", "scrypt_plain", "pwcheck", "pwfile"]
+RUNS = {
+    "pwcheck": [
+        (["check"], b"Hello world!\t$5$saltstring$5B8vYYiY.CVt1RlTTf8KbXBH3hsxY/GNooZaBBGWEc5\n"),
         (["check"], b"password\t$scrypt$ln=4,r=1,p=1$abcdabcdabc$AAAAAAAAAAAAAA\n"),
         (["bench", "3"], b""), (["normalize"], b"$5$rounds=+05000$s$x\n"),
-        (["wrap", "4"], b"\0" * 6), (["unwrap", "4"], b"AAAA\nAAAA")]
+        (["wrap", "4"], b"\0" * 6), (["unwrap", "4"], b"AAAA\nAAAA"),
+    ],
+    "pwfile": [([], b"set\tann\t$5\nset\tbob\t$6\nset\tann\t$1\nlist\n")],
+}
 MOST = 40
+WANT = re.compile(r"AllocError|OutOfMemory|NoMemory|[Oo]ut of memory|want of memory|refused allocation")
+
+
+def told(text):
+    """What a run of tests or of the program says: how it ended, and why tests didn't pass."""
+    done = re.search(r"test result: \w+\. (\d+) passed; (\d+) failed", text)
+    if not done:
+        ended = re.findall(r"run=ended status=\d+", text)
+        return ended[-1] if ended else text.strip().splitlines()[-1][:100]
+    reasons = re.findall(r"\.\.\. FAILED\n +(.*)", text)
+    others = [reason for reason in reasons if not WANT.search(reason)]
+    answer = f"{done[1]} tests as usual, {len(reasons) - len(others)} by want of memory"
+    return answer + (f", **{len(others)} OTHERS**: " + "; ".join(sorted(set(others))) if others else "")
 
 
 def one(crate, flags, data, words):
@@ -29,15 +47,13 @@ def one(crate, flags, data, words):
     except subprocess.TimeoutExpired:
         return "no answer in 300 s", True
     text = done.stdout.decode("utf-8", "replace")
-    refused = re.search(r"refus|fail-alloc|AllocError|out of memory", text, re.I) is not None
-    ended = re.findall(r"run=ended status=\d+|test result: [^\n]*|\d+ passed; \d+ failed", text)
-    return "; ".join(ended[-2:]) or text.strip().splitlines()[-1][:100], refused
+    return told(text), WANT.search(text) is not None or "status=5" in text
 
 
 def rows(crate, flags, data=b"", words=None):
     for number in range(1, MOST + 1):
         told, refused = one(crate, [*flags, "--fail-alloc", str(number)], data, words)
-        print(f"| {crate} {' '.join(words or ['tests'])} | {number} | {told} |", flush=True)
+        print(f"| {crate} {'tests' if words is None else ' '.join(words) or 'commands'} | {number} | {told} |", flush=True)
         if not refused:
             break
 
@@ -45,10 +61,10 @@ def rows(crate, flags, data=b"", words=None):
 def main():
     print("| run | request refused | answer |\n|---|---|---|")
     for crate in sys.argv[1:] or CRATES:
-        rows(crate, ["--test"])
-        if crate == "pwcheck":
-            for words, data in RUNS:
-                rows(crate, [], data, words)
+        if crate != "pwfile":
+            rows(crate, ["--test"])
+        for words, data in RUNS.get(crate, []):
+            rows(crate, [], data, words)
 
 
 if __name__ == "__main__":

@@ -133,4 +133,5 @@ def main():
                   f"  to OpenSSL {all_times[0] / base:.2f}", flush=True)
 
 
-main()
+if __name__ == "__main__":
+    main()
