@@ -12,49 +12,13 @@ crypt stands in its place. It installs nothing.
 
 usage: bench/base64.py [RUNS]      (15 if left out)
 """
-import glob
-import os
-import shutil
 import subprocess
 import sys
 
-HERE = os.path.dirname(os.path.abspath(__file__))
+from building import built, need, peer
+
 BYTES = 65536 * 200
 PEER_OF = {"standard": "standard", "bcrypt": "bcrypt", "crypt": "crypt", "shacrypt": "crypt"}
-
-
-def need(condition, text):
-    if not condition:
-        sys.exit("bench: " + text)
-
-
-def write(folder, name, text):
-    os.makedirs(os.path.join(folder, "src"), exist_ok=True)
-    with open(os.path.join(folder, name), "w", encoding="utf-8") as file:
-        file.write(text)
-
-
-def ours():
-    """Proves and builds our program, and answers its file. Git and `rt ci` ignore the folder."""
-    folder = os.path.join(HERE, "out", "base64_time")
-    write(folder, "BUILD.bazel", 'load("@rattle//build:rattle.bzl", "rattle_crate")\n\n'
-          'rattle_crate(\n    name = "base64_time",\n    deps = ["//crates/base64ct"],\n)\n')
-    shutil.copy(os.path.join(HERE, "base64_ours.txt"), os.path.join(folder, "src", "main.rt"))
-    made = subprocess.run(["rt", "run"], cwd=folder, capture_output=True, text=True)
-    need(made.returncode == 0, "rt run failed:\n" + made.stdout + made.stderr)
-    return os.path.join(folder, "out", "base64_time")
-
-
-def theirs():
-    found = [os.environ["BASE64CT"]] if "BASE64CT" in os.environ else glob.glob("/usr/share/cargo/registry/base64ct-1*")
-    need(found, "no librust-base64ct-dev; see the head of this file")
-    folder = os.path.join(HERE, "out", "base64_peer")
-    write(folder, "Cargo.toml", '[package]\nname = "base64_peer"\nversion = "0.0.0"\nedition = "2021"\n\n[workspace]\n\n'
-          f'[dependencies]\nbase64ct = {{ path = "{os.path.abspath(found[-1])}", features = ["alloc"] }}\n')
-    shutil.copy(os.path.join(HERE, "base64_peer.rs"), os.path.join(folder, "src", "main.rs"))
-    made = subprocess.run(["cargo", "build", "--release", "--offline"], cwd=folder, capture_output=True, text=True)
-    need(made.returncode == 0, "cargo failed:\n" + made.stderr)
-    return os.path.join(folder, "target", "release", "base64_peer")
 
 
 def take(program, best):
@@ -68,7 +32,7 @@ def take(program, best):
 
 def main():
     runs = int(sys.argv[1]) if len(sys.argv) > 1 else 15
-    programs = ours(), theirs()
+    programs = built("base64_time", "base64_ours.txt", "base64ct"), peer("base64_peer")
     our, their = {}, {}
     for _ in range(runs):
         take(programs[0], our)

@@ -10,13 +10,13 @@ to /dev/null; `pwcheck` is crates/pwcheck/out/pwcheck, or what PWCHECK names. It
 
 usage: bench/base64_streams.py [RUNS]      (15 if left out)
 """
-import glob
 import os
-import shutil
 import subprocess
 import sys
 import tempfile
 import time
+
+from building import built, need, peer
 
 HERE = os.path.dirname(os.path.abspath(__file__))
 PROGRAM = os.environ.get("PWCHECK", os.path.join(HERE, "..", "crates", "pwcheck", "out", "pwcheck"))
@@ -24,39 +24,6 @@ SIZE = 1_000_000
 BYTES = SIZE * 40
 PROGRAM_SIZE = 700_000  # whose text `unwrap` takes: at most 1,048,576 bytes
 NAMES = {"64": "lines of 64", "76": "lines of 76", "0": "one shot"}
-
-
-def need(condition, text):
-    if not condition:
-        sys.exit("bench: " + text)
-
-
-def write(folder, name, text):
-    os.makedirs(os.path.join(folder, "src"), exist_ok=True)
-    with open(os.path.join(folder, name), "w", encoding="utf-8") as file:
-        file.write(text)
-
-
-def ours():
-    folder = os.path.join(HERE, "out", "base64_streams_time")
-    write(folder, "BUILD.bazel", 'load("@rattle//build:rattle.bzl", "rattle_crate")\n\n'
-          'rattle_crate(\n    name = "base64_streams_time",\n    deps = ["//crates/base64ct"],\n)\n')
-    shutil.copy(os.path.join(HERE, "base64_streams_ours.txt"), os.path.join(folder, "src", "main.rt"))
-    made = subprocess.run(["rt", "run"], cwd=folder, capture_output=True, text=True, check=False)
-    need(made.returncode == 0, "rt run failed:\n" + made.stdout + made.stderr)
-    return os.path.join(folder, "out", "base64_streams_time")
-
-
-def theirs():
-    found = [os.environ["BASE64CT"]] if "BASE64CT" in os.environ else glob.glob("/usr/share/cargo/registry/base64ct-1*")
-    need(found, "no librust-base64ct-dev; see the head of this file")
-    folder = os.path.join(HERE, "out", "base64_streams_peer")
-    write(folder, "Cargo.toml", '[package]\nname = "base64_streams_peer"\nversion = "0.0.0"\nedition = "2021"\n\n[workspace]\n\n'
-          f'[dependencies]\nbase64ct = {{ path = "{os.path.abspath(found[-1])}", features = ["alloc"] }}\n')
-    shutil.copy(os.path.join(HERE, "base64_streams_peer.rs"), os.path.join(folder, "src", "main.rs"))
-    made = subprocess.run(["cargo", "build", "--release", "--offline"], cwd=folder, capture_output=True, text=True, check=False)
-    need(made.returncode == 0, "cargo failed:\n" + made.stderr)
-    return os.path.join(folder, "target", "release", "base64_streams_peer")
 
 
 def take(program, best):
@@ -98,7 +65,7 @@ def programs(runs):
 
 def main():
     runs = int(sys.argv[1]) if len(sys.argv) > 1 else 15
-    both = ours(), theirs()
+    both = built("base64_streams_time", "base64_streams_ours.txt", "base64ct"), peer("base64_streams_peer")
     our, their = {}, {}
     for _ in range(runs):
         take(both[0], our)

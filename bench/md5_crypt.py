@@ -15,37 +15,18 @@ usage: bench/md5_crypt.py [ROUNDS]      (8 if left out)
 import ctypes
 import os
 import resource
-import shutil
 import subprocess
 import sys
 import time
 
-HERE = os.path.dirname(os.path.abspath(__file__))
+from building import built, need
+
 SALT = "saltsalt"
 LENGTHS = [1, 8, 12, 16, 32, 64]
 BATCHES = 60
 RUNS = 10
 LINES = 400
 GOALS = {"libxcrypt": 1.0, "openssl": 0.35}
-
-
-def need(condition, text):
-    if not condition:
-        sys.exit("bench: " + text)
-
-
-def built():
-    """Proves and builds the timing program, and answers its file. The folder is ignored by git and by `rt ci`."""
-    folder = os.path.join(HERE, "out", "md5_crypt_time")
-    os.makedirs(os.path.join(folder, "src"), exist_ok=True)
-    shutil.copy(os.path.join(HERE, "md5_crypt_time.txt"), os.path.join(folder, "src", "main.rt"))
-    with open(os.path.join(folder, "BUILD.bazel"), "w", encoding="utf-8") as build:
-        build.write('load("@rattle//build:rattle.bzl", "rattle_crate")\n\n'
-                    'rattle_crate(\n    name = "md5_crypt_time",\n    deps = ["//crates/md5_crypt"],\n)\n')
-    made = subprocess.run(["rt", "run"], cwd=folder, capture_output=True, text=True)
-    program = os.path.join(folder, "out", "md5_crypt_time")
-    need(made.returncode == 0 and os.path.exists(program), "rt run failed:\n" + made.stdout + made.stderr)
-    return program
 
 
 def ours(program):
@@ -83,7 +64,7 @@ def openssl(length, lines):
 
 def main():
     rounds = int(sys.argv[1]) if len(sys.argv) > 1 else 8
-    program, peer = built(), libxcrypt()
+    program, peer = built("md5_crypt_time", "md5_crypt_time.txt", "md5_crypt"), libxcrypt()
     names = ["ours", *GOALS]
     least = {(name, length): float("inf") for name in names for length in LENGTHS}
     for _ in range(rounds):

@@ -13,36 +13,17 @@ usage: bench/pbkdf2.py [ROUNDS]      (8 if left out)
 import ctypes
 import hashlib
 import os
-import shutil
 import subprocess
 import sys
 import time
 
-HERE = os.path.dirname(os.path.abspath(__file__))
+from building import built, need
+
 PASSWORD = b"p" * 8
 SALT = b"saltsalt"
 COUNT = 2000
 BATCHES = 60
 GOAL = 0.92
-
-
-def need(condition, text):
-    if not condition:
-        sys.exit("bench: " + text)
-
-
-def built():
-    """Proves and builds the timing program, and answers its file. The folder is ignored by git and by `rt ci`."""
-    folder = os.path.join(HERE, "out", "pbkdf2_time")
-    os.makedirs(os.path.join(folder, "src"), exist_ok=True)
-    shutil.copy(os.path.join(HERE, "pbkdf2_time.txt"), os.path.join(folder, "src", "main.rt"))
-    with open(os.path.join(folder, "BUILD.bazel"), "w", encoding="utf-8") as build:
-        build.write('load("@rattle//build:rattle.bzl", "rattle_crate")\n\n'
-                    'rattle_crate(\n    name = "pbkdf2_time",\n    deps = ["//crates/pbkdf2_plain"],\n)\n')
-    made = subprocess.run(["rt", "run"], cwd=folder, capture_output=True, text=True)
-    program = os.path.join(folder, "out", "pbkdf2_time")
-    need(made.returncode == 0 and os.path.exists(program), "rt run failed:\n" + made.stdout + made.stderr)
-    return program
 
 
 def openssl():
@@ -78,7 +59,7 @@ def batches(derive):
 
 def main():
     rounds = int(sys.argv[1]) if len(sys.argv) > 1 else 8
-    program = built()
+    program = built("pbkdf2_time", "pbkdf2_time.txt", "pbkdf2_plain")
     peer = openssl()
     calls = {"ours": lambda: ours(program), "OpenSSL": lambda: batches(peer),
              "hashlib": lambda: batches(lambda: hashlib.pbkdf2_hmac("sha256", PASSWORD, SALT, COUNT, 32))}

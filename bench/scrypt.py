@@ -16,38 +16,18 @@ usage: bench/scrypt.py [ROUNDS]      (8 if left out)
 """
 import ctypes
 import hashlib
-import os
-import shutil
 import subprocess
 import sys
 import time
 
-HERE = os.path.dirname(os.path.abspath(__file__))
+from building import built, need
+
 PASSWORD = b"pleaseletmein"
 SALT = b"SodiumChloride"
 LNS = [14, 16]
 RUNS = 8
 RFC = bytes.fromhex("7023bdcb3afd7348461c06cd81fd38ebfda8fbba904f8e3ea9b543f6545da1f2")
 TAB = b"./0123456789ABCDEFGHIJKLMNOPQRSTUVWXYZabcdefghijklmnopqrstuvwxyz"
-
-
-def need(condition, text):
-    if not condition:
-        sys.exit("bench: " + text)
-
-
-def built():
-    """Proves and builds the timing program, and answers its file. The folder is ignored by git and by `rt ci`."""
-    folder = os.path.join(HERE, "out", "scrypt_time")
-    os.makedirs(os.path.join(folder, "src"), exist_ok=True)
-    shutil.copy(os.path.join(HERE, "scrypt_time.txt"), os.path.join(folder, "src", "main.rt"))
-    with open(os.path.join(folder, "BUILD.bazel"), "w", encoding="utf-8") as build:
-        build.write('load("@rattle//build:rattle.bzl", "rattle_crate")\n\n'
-                    'rattle_crate(\n    name = "scrypt_time",\n    deps = ["//crates/scrypt_plain"],\n)\n')
-    made = subprocess.run(["rt", "run"], cwd=folder, capture_output=True, text=True)
-    program = os.path.join(folder, "out", "scrypt_time")
-    need(made.returncode == 0 and os.path.exists(program), "rt run failed:\n" + made.stdout + made.stderr)
-    return program
 
 
 def openssl(ln):
@@ -104,7 +84,7 @@ def timed(derive, ln):
 
 def main():
     rounds = int(sys.argv[1]) if len(sys.argv) > 1 else 8
-    program = built()
+    program = built("scrypt_time", "scrypt_time.txt", "scrypt_plain")
     need(openssl(14) == RFC, "OpenSSL's key isn't that of RFC 7914")
     keys = {ln: openssl(ln).hex() for ln in LNS}
     peers = {"OpenSSL": openssl, "libxcrypt $7$": libxcrypt(),

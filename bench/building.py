@@ -1,0 +1,45 @@
+"""What the timing scripts share: programs of ours and peers of Debian's crate base64ct, built under bench/out/, which git
+and `rt ci` ignore."""
+import glob
+import os
+import shutil
+import subprocess
+import sys
+
+HERE = os.path.dirname(os.path.abspath(__file__))
+
+
+def need(condition, text):
+    if not condition:
+        sys.exit("bench: " + text)
+
+
+def _write(folder, name, text):
+    os.makedirs(os.path.join(folder, "src"), exist_ok=True)
+    with open(os.path.join(folder, name), "w", encoding="utf-8") as file:
+        file.write(text)
+
+
+def built(name, source, crate):
+    """Proves and builds the program of a source in bench/ over a crate of the repository, and answers its file."""
+    folder = os.path.join(HERE, "out", name)
+    _write(folder, "BUILD.bazel", 'load("@rattle//build:rattle.bzl", "rattle_crate")\n\n'
+           f'rattle_crate(\n    name = "{name}",\n    deps = ["//crates/{crate}"],\n)\n')
+    shutil.copy(os.path.join(HERE, source), os.path.join(folder, "src", "main.rt"))
+    made = subprocess.run(["rt", "run"], cwd=folder, capture_output=True, text=True, check=False)
+    program = os.path.join(folder, "out", name)
+    need(made.returncode == 0 and os.path.exists(program), "rt run failed:\n" + made.stdout + made.stderr)
+    return program
+
+
+def peer(name):
+    """Builds bench/NAME.rs by cargo over Debian's crate base64ct, and answers its file."""
+    found = [os.environ["BASE64CT"]] if "BASE64CT" in os.environ else glob.glob("/usr/share/cargo/registry/base64ct-1*")
+    need(found, "no librust-base64ct-dev; see the head of the script")
+    folder = os.path.join(HERE, "out", name)
+    _write(folder, "Cargo.toml", f'[package]\nname = "{name}"\nversion = "0.0.0"\nedition = "2021"\n\n[workspace]\n\n'
+           f'[dependencies]\nbase64ct = {{ path = "{os.path.abspath(found[-1])}", features = ["alloc"] }}\n')
+    shutil.copy(os.path.join(HERE, name + ".rs"), os.path.join(folder, "src", "main.rs"))
+    made = subprocess.run(["cargo", "build", "--release", "--offline"], cwd=folder, capture_output=True, text=True, check=False)
+    need(made.returncode == 0, "cargo failed:\n" + made.stderr)
+    return os.path.join(folder, "target", "release", name)
