@@ -5,13 +5,22 @@
 //! output with a line feed. The status says how the run ended. Words of the command line are ignored.
 #![tactic(auto)]
 
+ghost use Rattle.std.specs.Prelude.{◌≡◌, ◌≢◌, ◌≤◌};
+
 use line_io::{StdSink, StdSource};
 use pbkdf2_plain::run_either;
 use std::io;
 use std::process::ExitCode;
 
-fn main(rt: HostRuntime) -> ExitCode {
+// Answers the lines of standard input on standard output, and gives the status.
+fn answer(rt: HostRuntime) -> u8
+    ensures status { (result ≤ 6) × (result ≢ 2) }
+{
     let mut source = StdSource::new(rt.reader());
     let mut sink = StdSink::new(io::writer(&rt));
-    ExitCode::from(run_either(rt.alloc(), &mut source, &mut sink))
+    run_either(rt.alloc(), &mut source, &mut sink)
+}
+
+fn main(rt: HostRuntime) -> ExitCode {
+    ExitCode::from(answer(rt))
 }
