@@ -7,10 +7,12 @@
 2. Each status once: 0, 1, a directory as input (3), a full device (4), an address space of 12 MB (5: the table of
    scrypt isn't found, and the lines before are answered). Status 6 asks for more than 2^40 bytes of input; a test of
    `pw_file` shows it over a smaller bound.
+3. A full table, 4,096 users of 1,024 bytes each: its listing is the commands that made it, and four listings take no
+   more memory than none.
 
 It needs the program, which
     (cd crates/pwfile && rt run < ../../examples/pwfile-session.txt)
-proves and builds as crates/pwfile/out/pwfile. It installs nothing.
+proves and builds as crates/pwfile/out/pwfile, and gcc. It installs nothing.
 
 usage: bench/pwfile_restart.py
 """
@@ -98,12 +100,29 @@ def statuses(folder):
     holds("5: no memory for the upgrade; the lines before it are answered", (done.returncode, done.stdout) == (5, b"ok\nmatch\n"))
 
 
+def peak_of(folder, data):
+    """The output of a run, and the most memory in KiB that it had, by bench/peak.c."""
+    watcher = os.path.join(folder, "peak")
+    subprocess.run(["gcc", "-O2", "-o", watcher, os.path.join(HERE, "peak.c")], check=True)
+    done = subprocess.run([watcher, PROGRAM], input=data, capture_output=True, check=True)
+    return done.stdout, int(done.stderr.split()[-1])
+
+
+def full_table(folder):
+    rows = [f"set\tu{number:031d}\t$x${'a' * 1021}" for number in range(4096)]
+    none, least = peak_of(folder, lines(rows))
+    told, most = peak_of(folder, lines(rows + ["list"] * 4))
+    holds("a full table of 1,024 bytes a text is listed as it was set", told == none + lines(rows) * 4)
+    holds(f"in fixed memory: {least} KiB without, {most} with four listings", most - least < 128)
+
+
 def main():
     if not os.path.exists(PROGRAM):
         sys.exit("pwfile isn't built")
     with tempfile.TemporaryDirectory() as folder:
         restart(folder)
         statuses(folder)
+        full_table(folder)
     sys.exit(1 if FAILED else 0)
 
 
