@@ -7,6 +7,7 @@ pub mod Fronts
 pub mod Growths
 pub mod Turning
 pub mod Strides
+pub mod Gathered
 pub mod Unwrapped
 pub mod Laying
 pub mod Pieces
