@@ -6,7 +6,7 @@ ghost use Rattle.wrap_stream.specs.Turns.{AreGathered, EndsLine};
 ghost use Rattle.wrap_stream.specs.declared.place.Place.{Place};
 
 /// Characters that were gathered.
-#[derive(Clone, Copy, Debug, PartialEq, Eq)]
+#[derive(Clone, Copy)]
 pub(crate) struct Gathered {
     /// How many they are, with those that waited.
     pub(crate) len: usize,
@@ -32,8 +32,8 @@ fn end_line(width: usize, room: usize, text: &[u8]) -> (usize, usize)
     }
 }
 
-/// Gathers in `chars` the characters that wait and behind them those of `text`, as many as there is room for, from a line
-/// that takes `room` more and the lines behind it.
+/// Gathers in `chars` the characters that wait and behind them those of `text`, as many as there is room for, from a
+/// line that takes `room` more and the lines behind it.
 pub(crate) fn gather(
     width: usize,
     room: usize,
@@ -43,7 +43,8 @@ pub(crate) fn gather(
 ) -> Gathered
     requires width { 4 ≤ width }
     requires fits { length waiting.now ≤ length chars.old }
-    ensures gathered { AreGathered width (at (Place.Within room) waiting.now) (take result.taken text.now) (take result.len chars.new) result.room }
+    ensures gathered { AreGathered width (at (Place.Within room) waiting.now) (take result.taken text.now)
+        (take result.len chars.new) result.room }
     ensures within { (result.taken ≤ length text.now) × (result.len ≤ length chars.new) }
     ensures few { result.len ≤ length waiting.now + result.taken }
 {
