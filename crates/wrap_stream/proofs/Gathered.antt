@@ -1,14 +1,15 @@
 -- Characters gathered from lines: where they are an encoding, the text is read along them.
 use Rattle.std.proofs.Common.{◌≡◌, ℕ, zero, suc, ◌+◌, ◌*◌, ◌/◌, ◌%◌, ◌<◌, ◌≤◌, false, List, [], ◌∷◌, ◌++◌, length, take, drop, slice_index, take-add, Some, refl, sym, subst, ap, ◌∙◌, arith, inl, inr}
-use Rattle.std.proofs.lemmas.List.{append_assoc, length-append, length-drop, length-take-le, append_cancel_right, drop_at, take_at, take-append-drop, take-take}
-use Rattle.base64ct.specs.Encoding.{encoding, unpadded_encoding, EachBelow}
+use Rattle.std.proofs.lemmas.List.{append-nil, append_assoc, length-append, length-drop, length-take-le, append_cancel_right, drop_at, take_at, take-append-drop, take-take}
+use Rattle.base64ct.specs.Encoding.{character, encoding, unpadded_encoding, EachBelow}
 use Rattle.base64ct.specs.Alphabets.{base64, base64_unpadded}
 use Rattle.base64ct.specs.Decoding.{decoding}
 use Rattle.base64ct.specs.Wrapping.{IsEnding}
 use Rattle.base64ct.proofs.DecodingLaws.{decoding-Some, decoding_is, length-decodable}
 use Rattle.base64ct.proofs.Encodings.{below-take, below-three}
 use Rattle.base64ct.proofs.GoodBlocks.{encoding-append}
-use Rattle.base64ct.proofs.Padding.{length-encoding}
+use Rattle.base64ct.proofs.Padding.{encoding-is, length-encoding}
+use Rattle.base64ct.proofs.Sextets.{groups-nil}
 use Rattle.wrap_stream.specs.Front.{is_end}
 use Rattle.wrap_stream.specs.Reading.{State, at, grown, next, output, run}
 use Rattle.wrap_stream.specs.Turns.{AreGathered, EndsLine, ReadsTo, Spells}
@@ -17,12 +18,11 @@ use Rattle.wrap_stream.specs.declared.place.Place.TheVariants.{Within}
 use Rattle.wrap_stream.proofs.Letters.{IsLetter, lawful, letter_no_end, encoding-nil, encoding-three}
 use Rattle.wrap_stream.proofs.Grown.{begins_one, begins_two, begins_three, begins_four, grown_part, grown_whole, letters_whole}
 use Rattle.wrap_stream.proofs.Runs.{after_return, next_within, output-append, output-cons, output-nil, run-append, run-cons, run-nil}
-use Rattle.wrap_stream.proofs.Strides.{whole_unpadded}
 
 -- ---- a character
 
 -- what the next character does
-record Grows (room : ℕ) (block : List ℕ) (c : ℕ) (cs b : List ℕ) : Type 0 where
+record NextCharacter (room : ℕ) (block : List ℕ) (c : ℕ) (cs b : List ℕ) : Type 0 where
   pub bytes : List ℕ
   pub rest : List ℕ
   pub more : List ℕ
@@ -55,18 +55,24 @@ four b x y z h = (
     second = (x % 4 * 16 + y / 16, omega (arith, h 0, h 1), refl);
     third = (y % 16 * 4 + z / 64, omega (arith, h 1, h 2), refl);
     fourth = (z % 64, omega arith, refl);
-    decodes = let three : EachBelow 256 (x ∷ y ∷ z ∷ []) = below-three x y z (h 0) (h 1)
-        (h 2) in decoding_is base64 _ (x ∷ y ∷ z ∷ []) lawful three (sym (encoding-three x y z [] three
-        ∙ rw encoding-nil refl));
+    decodes = decoding_is base64 _ (x ∷ y ∷ z ∷ []) lawful three (sym alone);
     behind = refl;
   },
 )
+  where
+    three : EachBelow 256 (x ∷ y ∷ z ∷ [])
+    three = below-three x y z (h 0) (h 1) (h 2)
+
+    alone : encoding base64 (x ∷ y ∷ z ∷ []) ≡ character base64 (x / 4) ∷ character base64 (x % 4 * 16 + y / 16)
+        ∷ character base64 (y % 16 * 4 + z / 64) ∷ character base64 (z % 64) ∷ []
+    alone = encoding-three x y z [] three ∙ rw encoding-nil refl
 
 module _ (room c : ℕ) (cs : List ℕ) (x y z : ℕ) (b : List ℕ) (below : EachBelow 256 (x ∷ y ∷ z ∷ b))
     (threes : length (x ∷ y ∷ z ∷ b) % 3 ≡ 0) (c₀ d₀ e₀ f₀ : ℕ) (rest : List ℕ)
     (f : Four b x y z c₀ d₀ e₀ f₀ rest) where
   by_four : (block : List ℕ) → block ++ c ∷ cs ≡ c₀ ∷ d₀ ∷ e₀ ∷ f₀ ∷ rest
-      → block ++ c ∷ cs ≡ encoding base64 (x ∷ y ∷ z ∷ b) → length block < 4 → Grows room block c cs (x ∷ y ∷ z ∷ b)
+      → block ++ c ∷ cs ≡ encoding base64 (x ∷ y ∷ z ∷ b) → length block < 4
+      → NextCharacter room block c cs (x ∷ y ∷ z ∷ b)
   by_four [] is text few =
       let lc : IsLetter c = subst IsLetter (sym (ap (λ (l : List ℕ). slice_index l 0) is)) f.first in
       record {
@@ -120,8 +126,8 @@ module _ (room c : ℕ) (cs : List ℕ) (x y z : ℕ) (b : List ℕ) (below : Ea
       let lq : IsLetter q = subst IsLetter (sym (ap (λ (l : List ℕ). slice_index l 1) is)) f.second in
       let lr : IsLetter r = subst IsLetter (sym (ap (λ (l : List ℕ). slice_index l 2) is)) f.third in
       let lc : IsLetter c = subst IsLetter (sym (ap (λ (l : List ℕ). slice_index l 3) is)) f.fourth in
-      let dec : decoding base64 (p ∷ q ∷ r ∷ c ∷ []) ≡ Some (x ∷ y ∷ z ∷ []) = ap (λ (l : List ℕ). decoding base64
-      (take 4 l)) is ∙ f.decodes in
+      let dec : decoding base64 (p ∷ q ∷ r ∷ c ∷ []) ≡ Some (x ∷ y ∷ z ∷ []) =
+      ap (λ (l : List ℕ). decoding base64 (take 4 l)) is ∙ f.decodes in
       record {
         bytes = x ∷ y ∷ z ∷ [];
         rest = [];
@@ -139,16 +145,19 @@ module _ (room c : ℕ) (cs : List ℕ) (x y z : ℕ) (b : List ℕ) (below : Ea
       }
   by_four (p ∷ q ∷ r ∷ u ∷ block) is text few = absurd (omega arith)
 
-grows : (room : ℕ) (block : List ℕ) (c : ℕ) (cs b : List ℕ) → Spells block (c ∷ cs) b → Grows room block c cs b
-grows room block c cs [] s = let n : length (block ++ c ∷ cs) ≡ 0 = ap length (s.text
-    ∙ encoding-nil) in absurd (omega (arith, length-append block (c ∷ cs)))
-grows room block c cs (x ∷ []) s = let h = s.threes in absurd (omega arith)
-grows room block c cs (x ∷ y ∷ []) s = let h = s.threes in absurd (omega arith)
-grows room block c cs (x ∷ y ∷ z ∷ b) s = go (four b x y z s.below)
+next_character : (room : ℕ) (block : List ℕ) (c : ℕ) (cs b : List ℕ) → Spells block (c ∷ cs) b
+    → NextCharacter room block c cs b
+next_character room block c cs [] s =
+    let n : length (block ++ c ∷ cs) ≡ 0 = ap length (s.text ∙ encoding-nil) in
+    absurd (omega (arith, length-append block (c ∷ cs)))
+next_character room block c cs (x ∷ []) s = let h = s.threes in absurd (omega arith)
+next_character room block c cs (x ∷ y ∷ []) s = let h = s.threes in absurd (omega arith)
+next_character room block c cs (x ∷ y ∷ z ∷ b) s = go (four b x y z s.below)
   where
-    go : (c₀ d₀ e₀ f₀ : ℕ) × (rest : List ℕ) × Four b x y z c₀ d₀ e₀ f₀ rest → Grows room block c cs (x ∷ y ∷ z ∷ b)
-    go (c₀, d₀, e₀, f₀, rest, f) = by_four room c cs x y z b s.below s.threes c₀ d₀ e₀ f₀ rest f block (s.text
-        ∙ f.is) s.text s.few
+    go : (c₀ d₀ e₀ f₀ : ℕ) × (rest : List ℕ) × Four b x y z c₀ d₀ e₀ f₀ rest
+        → NextCharacter room block c cs (x ∷ y ∷ z ∷ b)
+    go (c₀, d₀, e₀, f₀, rest, f) =
+        by_four room c cs x y z b s.below s.threes c₀ d₀ e₀ f₀ rest f block (s.text ∙ f.is) s.text s.few
 
 -- ---- a line
 
@@ -166,20 +175,18 @@ reads_line w room left block [] rest b sum s =
     })
 reads_line w zero left block (c ∷ line) rest b sum s = absurd (omega arith)
 reads_line w (suc room) left block (c ∷ line) rest b sum s =
-    let g = grows room block c (line ++ rest) b s in
+    let g = next_character room block c (line ++ rest) b s in
     let r = reads_line w room left g.rest line rest g.more (omega arith) g.waits in
     let step = next_within w room block c g.no_end ∙ g.is in
+    let out : List ℕ = output w (at (Within room) g.rest) line in
+    let all : output w (at (Within (suc room)) block) (c ∷ line) ≡ g.bytes ++ out =
+    output-cons w (at (Within (suc room)) block) c line _ step in
     record {
       block = r.block;
       more = r.more;
-      is = run-cons w (at (Within (suc room)) block) c line (at (Within room) g.rest, g.bytes) step ∙ r.is;
-      cut = g.cut ∙ ap (λ (t : List ℕ). g.bytes ++ t) r.cut ∙ sym (append_assoc g.bytes (output w (at
-          (Within room) g.rest) line) r.more)
-          ∙ ap (λ (t : List ℕ). t ++ r.more) (sym (output-cons w (at (Within (suc room)) block) c line (
-            at
-                (Within room) g.rest,
-            g.bytes,
-          ) step));
+      is = run-cons w (at (Within (suc room)) block) c line _ step ∙ r.is;
+      cut = g.cut ∙ ap (λ (t : List ℕ). g.bytes ++ t) r.cut ∙ sym (append_assoc g.bytes out r.more)
+          ∙ ap (λ (t : List ℕ). t ++ r.more) (sym all);
       waits = r.waits;
     }
 
@@ -201,7 +208,7 @@ reads_next w room next_room left block e (c ∷ line) rest b pos (inl (none, sam
     (reads_line w room left block (c ∷ line) rest b (omega arith) s)
 reads_next w room next_room left block e (c ∷ line) rest b pos (inr (full, ending, same)) sum some s =
     let r = reads_line w w left block (c ∷ line) rest b (omega arith) s in
-    let on = new_line w block e c line pos ending (grows 0 block c (line ++ rest) b s).no_end in
+    let on = new_line w block e c line pos ending (next_character 0 block c (line ++ rest) b s).no_end in
     rw full (record {
       block = r.block;
       more = r.more;
@@ -234,14 +241,15 @@ gather_line w s text chars e line room next_room left pos so_far ends sum some r
       few = omega arith;
     }) in
     let g = reads_next w room next_room left f.block e line rest f.more pos ends sum some f.waits in
+    let out : List ℕ = output w (at (Within room) f.block) (e ++ line) in
+    let all : output w s (text ++ (e ++ line)) ≡ output w s text ++ out =
+    output-append w s text (e ++ line) ∙ ap (λ (x : State). output w s text ++ output w x (e ++ line)) f.is in
     record {
       block = g.block;
       more = g.more;
       is = run-append w s text (e ++ line) ∙ ap (λ (x : State). run w x (e ++ line)) f.is ∙ g.is;
-      cut = f.cut ∙ ap (λ (t : List ℕ). output w s text ++ t) g.cut ∙ sym (append_assoc (output w s text) (output w
-          (at (Within room) f.block) (e ++ line)) g.more)
-          ∙ ap (λ (t : List ℕ). t ++ g.more) (sym (output-append w s text (e ++ line)
-          ∙ ap (λ (x : State). output w s text ++ output w x (e ++ line)) f.is));
+      cut = f.cut ∙ ap (λ (t : List ℕ). output w s text ++ t) g.cut ∙ sym (append_assoc (output w s text) out g.more)
+          ∙ ap (λ (t : List ℕ). t ++ g.more) (sym all);
       waits = g.waits;
     }
 
@@ -256,14 +264,30 @@ gather_more w s text chars new e taken len end n start to all room next_room lef
     fits some sum put is_to =
     let line : List ℕ = take n (drop start text) in
     let line_len : length line ≡ n = length-take-le n (drop start text) (omega (arith, length-drop start text)) in
+    let before : take start text ≡ take taken text ++ e =
+    ap (λ (i : ℕ). take i text) is_start ∙ take-add taken end text
+    ∙ ap (λ (t : List ℕ). take taken text ++ t) (sym is_end) in
     let parts : take to text ≡ take taken text ++ (e ++ line) =
-    ap (λ (i : ℕ). take i text) is_to ∙ take-add start n text ∙ ap (λ (t : List ℕ). t ++ line) (ap (λ
-    (i : ℕ). take i text) is_start ∙ take-add taken end text ∙ ap (λ (t : List ℕ). take taken text ++ t)
-    (sym is_end)) ∙ append_assoc (take taken text) e line in
-    rw (parts, put) (gather_line w s (take taken text) (take len chars) e line room next_room left pos so_far ends
+    ap (λ (i : ℕ). take i text) is_to ∙ take-add start n text ∙ ap (λ (t : List ℕ). t ++ line) before
+    ∙ append_assoc (take taken text) e line in
+    rw (parts, put) (
+    gather_line w s (take taken text) (take len chars) e line room next_room left pos so_far ends
     (omega arith) (omega arith))
 
 -- ---- what they make whole
+
+-- the encoding of whole threes has no padding
+whole_unpadded : (b : List ℕ) → EachBelow 256 b → length b % 3 ≡ 0 → encoding base64 b ≡ encoding base64_unpadded b
+whole_unpadded b h whole =
+    let nothing : encoding base64_unpadded [] ≡ [] = encoding-is base64_unpadded [] ∙ rw (groups-nil false) refl in
+    let padded : encoding base64 (b ++ []) ≡ unpadded_encoding base64 b ++ encoding base64 [] =
+    encoding-append base64 b [] h whole in
+    let unpadded : encoding base64_unpadded (b ++ [])
+    ≡ unpadded_encoding base64_unpadded b ++ encoding base64_unpadded [] =
+    encoding-append base64_unpadded b [] h whole in
+    sym (ap (encoding base64) (append-nil b)) ∙ padded
+    ∙ ap (λ (t : List ℕ). unpadded_encoding base64 b ++ t) (encoding-nil ∙ sym nothing) ∙ sym unpadded
+    ∙ ap (encoding base64_unpadded) (append-nil b)
 
 -- the encoding of threes has fours
 length-threes : (b : List ℕ) → EachBelow 256 b → length b % 3 ≡ 0 → length (encoding base64 b) ≡ 4 * (length b / 3)
@@ -358,9 +382,10 @@ pub lines_read : (w room left len filled k : ℕ) (place : Place) (block buf tex
 lines_read w room left len filled k place block buf text bytes gathered here few fits is_filled within is_k dec =
     let n : length (take len buf) ≡ len = length-take-le len buf fits in
     let fill : List ℕ = drop len (take filled buf) in
-    let whole : take len buf ++ fill ≡ take filled buf = ap (λ (t : List ℕ). t ++ fill) (sym
-    (take-take len filled buf (omega arith))) ∙ take-append-drop len (take filled buf) in
+    let front : take len buf ≡ take len (take filled buf) = sym (take-take len filled buf (omega arith)) in
+    let whole : take len buf ++ fill ≡ take filled buf =
+    ap (λ (t : List ℕ). t ++ fill) front ∙ take-append-drop len (take filled buf) in
     rw (here, is_k, n) (
     gathered_read w left len filled (at (Within room) block) text (take len buf) fill bytes gathered few
-    (sym n) is_filled (ap length whole ∙ length-take-le filled buf within) (ap (decoding base64_unpadded) whole
-    ∙ dec))
+    (sym n) is_filled (ap length whole ∙ length-take-le filled buf within)
+    (ap (decoding base64_unpadded) whole ∙ dec))

@@ -6,7 +6,7 @@ pub mod Laid
 pub mod Fronts
 pub mod Growths
 pub mod Turning
-pub mod Strides
+pub mod SoFar
 pub mod Gathered
 pub mod Unwrapped
 pub mod Laying
