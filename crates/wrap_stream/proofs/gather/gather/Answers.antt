@@ -1,4 +1,4 @@
-use Rattle.std.proofs.Common.{arith, ap, ◌≡◌, ℕ, List, ◌+◌, ◌++◌, ◌∙◌, drop, length-take-le, length, length-drop, refl, take}
+use Rattle.std.proofs.Common.{arith, ap, ◌≡◌, ℕ, List, ◌+◌, ◌-◌, ◌++◌, ◌∙◌, drop, length-take-le, length, length-drop, refl, take}
 use Rattle.std.proofs.lemmas.List.{take_at, take_rest}
 use Rattle.std.proofs.lemmas.Slice.{take-put_mid}
 use Rattle.wrap_stream.proofs.Gathered.{gather_none, gather_more}
@@ -26,8 +26,8 @@ lines-preserved c =
     let line : c.copy_from_slice-in-lines.new.self ≡ take n text =
     c.copy_from_slice-in-lines.ensures.after ∙ ap (λ (i : ℕ). take i text) (omega arith) in
     let len = length-take-le n text (omega (arith, length-drop start c.args.text.now)) in
-    let put = take-put_mid c.lines.len _ c.lines.chars c.copy_from_slice-in-lines.new.self _
-    (omega (arith, ap length line, len)) (omega arith)
+    let put = take-put_mid c.lines.len (c.lines.len + n - c.lines.len) c.lines.chars
+    c.copy_from_slice-in-lines.new.self (c.lines.len + n) (omega (arith, ap length line, len)) (omega arith)
     ∙ ap (λ (t : List ℕ). take c.lines.len c.lines.chars ++ t) line in
     let within = ap length rest ∙ length-drop c.lines.taken c.args.text.now in
     record {
