@@ -2,8 +2,8 @@
 """Times `wrapstream` beside coreutils' `base64` and `openssl enc -base64` over 100 MB, in one interleaved run.
 
 Both directions at width 76, from a file to /dev/null and from a pipe (`cat`) into a pipe (`cat`), with the peak memory of
-ours; then unwrapping at widths that cut blocks (5, 7, 10, 17, 19, 30, 61, 75, 77). Of each the least time counts. The program
-is crates/wrapstream/out/wrapstream, or what WRAPSTREAM names:
+ours; then unwrapping at other widths from 5 to 77, of which most cut blocks. Of each the least time counts. The program is
+crates/wrapstream/out/wrapstream, or what WRAPSTREAM names:
     (cd crates/wrapstream && rt run -- wrap 4 </dev/null)
 It needs gcc, base64 and openssl, and installs nothing. OpenSSL reads lines of 64 characters alone; its texts have those.
 
@@ -16,7 +16,7 @@ import tempfile
 
 HERE = os.path.dirname(os.path.abspath(__file__))
 PROGRAM = os.environ.get("WRAPSTREAM", os.path.join(HERE, "..", "crates", "wrapstream", "out", "wrapstream"))
-ODD_WIDTHS = [5, 7, 10, 16, 17, 19, 30, 61, 75, 77]
+ODD_WIDTHS = [5, 7, 10, *range(16, 24), 30, 31, 33, 61, 63, 65, 75, 77]
 
 
 def need(condition, text):

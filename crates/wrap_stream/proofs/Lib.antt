@@ -6,7 +6,8 @@ pub mod Laid
 pub mod Fronts
 pub mod Growths
 pub mod Turning
-pub mod Strides
+pub mod SoFar
+pub mod Gathered
 pub mod Unwrapped
 pub mod Laying
 pub mod Pieces

@@ -1,6 +1,7 @@
 //! Base64 in lines, wrapped and unwrapped between a source and a sink in fixed memory.
 #![tactic(auto)]
 
+mod gather;
 mod grow;
 pub mod laws;
 mod lines;
