@@ -36,3 +36,4 @@ pub mod Layouts
 pub mod Wholes
 pub mod Runs
 pub mod Strides
+pub mod Gathers

@@ -197,7 +197,7 @@ pub striding_none : (a : Alphabet) (w : ℕ) (e input out : List ℕ) (position 
 striding_none a w e input out position room h = record { wrote = rw (unpadded-nil a) (wrote_none w e out position room (omega arith)); fits = h }
 
 -- the characters from some place on are those of the next bytes and those behind them
-unpadded_apart : (a : Alphabet) (input : List ℕ) (done m : ℕ) → EachBelow 256 input → m % 3 ≡ 0 → done + m ≤ length input → unpadded_encoding a (drop done input) ≡ unpadded_encoding a (take m (drop done input)) ++ unpadded_encoding a (drop (done + m) input)
+pub unpadded_apart : (a : Alphabet) (input : List ℕ) (done m : ℕ) → EachBelow 256 input → m % 3 ≡ 0 → done + m ≤ length input → unpadded_encoding a (drop done input) ≡ unpadded_encoding a (take m (drop done input)) ++ unpadded_encoding a (drop (done + m) input)
 unpadded_apart a input done m below whole h =
     let len : length (take m (drop done input)) ≡ m = length-take-le m (drop done input) (omega (arith, length-drop done input)) in
     let parts : take m (drop done input) ++ drop m (drop done input) ≡ drop done input = take-append-drop m (drop done input) in
