@@ -1,6 +1,6 @@
-use Rattle.std.proofs.Common.{◌≡◌, ◌≤◌, ◌<◌, ◌+◌, ◌-◌, ◌*◌, ◌/◌, ◌%◌, ◌++◌, ℕ, List, length, take, drop, arith, refl, ap, ◌∙◌, sym, subst}
+use Rattle.std.proofs.Common.{◌≡◌, ◌≤◌, ◌+◌, ◌-◌, ◌*◌, ◌/◌, ◌%◌, ◌++◌, ℕ, List, length, take, drop, arith, refl, ap, ◌∙◌, sym}
 use Rattle.std.proofs.lemmas.List.{length-take-le, length-drop, take_at, take_all}
-use Rattle.base64ct.specs.Encoding.{unpadded_encoding, byte_count, EachBelow}
+use Rattle.base64ct.specs.Encoding.{unpadded_encoding, byte_count}
 use Rattle.base64ct.specs.Wrapping.{characters_from, before}
 use Rattle.base64ct.proofs.Wrapping.{length-put_mid}
 use Rattle.base64ct.proofs.Unpadded.{unpadded-nil}

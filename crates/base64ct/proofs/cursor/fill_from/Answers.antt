@@ -1,6 +1,5 @@
-use Rattle.std.proofs.Common.{◌≡◌, ◌<◌, ◌≤◌, ◌+◌, ◌-◌, ◌*◌, ◌/◌, ◌%◌, ◌++◌, ℕ, List, length, take, drop, arith, refl, ap, ◌∙◌, sym, subst}
+use Rattle.std.proofs.Common.{◌≡◌, ◌<◌, ◌+◌, ◌-◌, ◌*◌, ◌/◌, ◌%◌, ◌++◌, ℕ, List, length, take, drop, arith, refl, ap, ◌∙◌, sym}
 use Rattle.std.proofs.lemmas.List.{length-append, length-take-le, length-drop}
-use Rattle.base64ct.specs.Encoding.{EachBelow}
 use Rattle.base64ct.specs.Decoders.{Standing}
 use borrow.Rule.Slice.PartMut.{put_mid}
 use Rattle.base64ct.proofs.Wrapping.{length-put_mid}
