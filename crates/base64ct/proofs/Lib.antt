@@ -37,3 +37,4 @@ pub mod Wholes
 pub mod Runs
 pub mod Strides
 pub mod Gathers
+pub mod LineWrites

@@ -225,7 +225,7 @@ striding_step a w e input old out new position done at next room left last m xs 
       fits = rw f.at (omega (arith, fit, count, len));
     }
 
-length-wrap_le : (w : ℕ) (e : List ℕ) (room : ℕ) (t : List ℕ) → length t ≤ length (wrap_from w e room t)
+pub length-wrap_le : (w : ℕ) (e : List ℕ) (room : ℕ) (t : List ℕ) → length t ≤ length (wrap_from w e room t)
 unfolding wrap_from
 length-wrap_le w e room [] = omega arith
 length-wrap_le w e zero (c ∷ cs) = omega (arith, length-append e (c ∷ wrap_from w e (w - 1) cs), length-wrap_le w e (w - 1) cs)
