@@ -231,12 +231,6 @@ length-wrap_le w e room [] = omega arith
 length-wrap_le w e zero (c ∷ cs) = omega (arith, length-append e (c ∷ wrap_from w e (w - 1) cs), length-wrap_le w e (w - 1) cs)
 length-wrap_le w e (suc room) (c ∷ cs) = omega (arith, length-wrap_le w e room cs)
 
--- the room for the blocks that are left
-pub striding_room : (a : Alphabet) (w : ℕ) (e input old out : List ℕ) (position done at room left : ℕ) → EachBelow 256 input → length input % 3 ≡ 0 → done % 3 ≡ 0 → done ≤ length input
-    → Striding a w e input old out position done at room left → at + 4 * ((length input - done) / 3) ≤ length out
-striding_room a w e input old out position done at room left below whole odd h s =
-    omega (arith, s.fits, length-wrap_le w e left (unpadded_encoding a (drop done input)), length-unpadded a (drop done input) (below-drop 256 done input below), length-drop done input)
-
 -- some characters are written behind the others, in the line
 pub stride_wrote : (w : ℕ) (e out xs more ys : List ℕ) (at k n left : ℕ) → ys ≡ xs ++ more → n ≡ length xs → n ≤ left → at ≤ length out → Wrote w e out (put_mid at k out ys) at (at + n) left (left - n) xs
 stride_wrote w e out xs more ys at k n left is en h fits =
