@@ -36,3 +36,5 @@ pub mod Layouts
 pub mod Wholes
 pub mod Runs
 pub mod Strides
+pub mod Gathers
+pub mod LineWrites

@@ -18,11 +18,11 @@ use Rattle.base64ct.proofs.Fills.{standing_first}
 use Rattle.base64ct.proofs.Layouts.{line_taken}
 
 -- the first k blocks are the characters of these bytes
-record ReadAtOnce (a : Alphabet) (s ys : List ℕ) (k : ℕ) : Type 0 where
+pub record ReadAtOnce (a : Alphabet) (s ys : List ℕ) (k : ℕ) : Type 0 where
   pub bytes : decoded a s ≡ ys ++ decoded a (drop (4 * k) s)
   pub good : (i : ℕ) → i < k → AreCharacters a (take 4 (drop (4 * i) s))
 
-read_at_once : (a : Alphabet) (k : ℕ) (s ys : List ℕ) → is_alphabet a ≡ true → EachBelow 256 ys → length ys ≡ 3 * k → 4 * k < length s → take (4 * k) s ≡ unpadded_encoding a ys → ReadAtOnce a s ys k
+pub read_at_once : (a : Alphabet) (k : ℕ) (s ys : List ℕ) → is_alphabet a ≡ true → EachBelow 256 ys → length ys ≡ 3 * k → 4 * k < length s → take (4 * k) s ≡ unpadded_encoding a ys → ReadAtOnce a s ys k
 read_at_once a zero s ys lawful below len h is =
     let none : ys ≡ [] = nil_from_length ys (omega arith) in
     record { bytes = rw none refl; good = λ i lt. absurd (omega arith) }
@@ -64,7 +64,7 @@ one_block a cs lawful four all = go (values_of a cs lawful all)
         (whole_bytes a.low_first (v ∷ w ∷ x ∷ y ∷ []), block.1, omega (arith, block.0), rw (groups-whole_bytes a.low_first v w x y (h 0) (h 1) (h 2) (h 3)) (sym m))
     go (v ∷ w ∷ x ∷ y ∷ z ∷ vs, h, m) = let n = ap length m in absurd (omega arith)
 
-bytes_at_once : (a : Alphabet) (k : ℕ) (s : List ℕ) → is_alphabet a ≡ true → 4 * k < length s → ((i : ℕ) → i < k → AreCharacters a (take 4 (drop (4 * i) s)))
+pub bytes_at_once : (a : Alphabet) (k : ℕ) (s : List ℕ) → is_alphabet a ≡ true → 4 * k < length s → ((i : ℕ) → i < k → AreCharacters a (take 4 (drop (4 * i) s)))
     → (ys : List ℕ) × EachBelow 256 ys × (unpadded_encoding a ys ≡ take (4 * k) s)
 bytes_at_once a zero s lawful h good = ([], λ i. omega arith, unpadded-nil a)
 bytes_at_once a (suc k) s lawful h good =

@@ -197,7 +197,7 @@ pub striding_none : (a : Alphabet) (w : ℕ) (e input out : List ℕ) (position 
 striding_none a w e input out position room h = record { wrote = rw (unpadded-nil a) (wrote_none w e out position room (omega arith)); fits = h }
 
 -- the characters from some place on are those of the next bytes and those behind them
-unpadded_apart : (a : Alphabet) (input : List ℕ) (done m : ℕ) → EachBelow 256 input → m % 3 ≡ 0 → done + m ≤ length input → unpadded_encoding a (drop done input) ≡ unpadded_encoding a (take m (drop done input)) ++ unpadded_encoding a (drop (done + m) input)
+pub unpadded_apart : (a : Alphabet) (input : List ℕ) (done m : ℕ) → EachBelow 256 input → m % 3 ≡ 0 → done + m ≤ length input → unpadded_encoding a (drop done input) ≡ unpadded_encoding a (take m (drop done input)) ++ unpadded_encoding a (drop (done + m) input)
 unpadded_apart a input done m below whole h =
     let len : length (take m (drop done input)) ≡ m = length-take-le m (drop done input) (omega (arith, length-drop done input)) in
     let parts : take m (drop done input) ++ drop m (drop done input) ≡ drop done input = take-append-drop m (drop done input) in
@@ -225,17 +225,11 @@ striding_step a w e input old out new position done at next room left last m xs 
       fits = rw f.at (omega (arith, fit, count, len));
     }
 
-length-wrap_le : (w : ℕ) (e : List ℕ) (room : ℕ) (t : List ℕ) → length t ≤ length (wrap_from w e room t)
+pub length-wrap_le : (w : ℕ) (e : List ℕ) (room : ℕ) (t : List ℕ) → length t ≤ length (wrap_from w e room t)
 unfolding wrap_from
 length-wrap_le w e room [] = omega arith
 length-wrap_le w e zero (c ∷ cs) = omega (arith, length-append e (c ∷ wrap_from w e (w - 1) cs), length-wrap_le w e (w - 1) cs)
 length-wrap_le w e (suc room) (c ∷ cs) = omega (arith, length-wrap_le w e room cs)
-
--- the room for the blocks that are left
-pub striding_room : (a : Alphabet) (w : ℕ) (e input old out : List ℕ) (position done at room left : ℕ) → EachBelow 256 input → length input % 3 ≡ 0 → done % 3 ≡ 0 → done ≤ length input
-    → Striding a w e input old out position done at room left → at + 4 * ((length input - done) / 3) ≤ length out
-striding_room a w e input old out position done at room left below whole odd h s =
-    omega (arith, s.fits, length-wrap_le w e left (unpadded_encoding a (drop done input)), length-unpadded a (drop done input) (below-drop 256 done input below), length-drop done input)
 
 -- some characters are written behind the others, in the line
 pub stride_wrote : (w : ℕ) (e out xs more ys : List ℕ) (at k n left : ℕ) → ys ≡ xs ++ more → n ≡ length xs → n ≤ left → at ≤ length out → Wrote w e out (put_mid at k out ys) at (at + n) left (left - n) xs

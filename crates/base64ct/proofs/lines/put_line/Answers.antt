@@ -1,13 +1,8 @@
-use Rattle.std.proofs.Common.{◌≡◌, ℕ, List, length, arith}
-use Rattle.base64ct.specs.Encoding.{unpadded_encoding, EachBelow}
-use Rattle.base64ct.proofs.Unpadded.{length-unpadded}
+use Rattle.std.proofs.Common.{◌+◌, ◌-◌, [], length, arith, refl, ◌∙◌, sym}
+use Rattle.std.proofs.lemmas.List.{append-nil}
 use Rattle.base64ct.proofs.Wrapping.{line_wrote}
 use Rattle.base64ct.proofs.lines.put_line.Goals as goal
 
 pub returns : goal.returns
-returns g c =
-    let below : EachBelow 256 c.args.input.now = λ k. omega (arith, c.type_inv.input k) in
-    let xs : List ℕ = unpadded_encoding g.A.Alphabet.alphabet c.args.input.now in
-    let lx : c.encode_unpadded-n.result ≡ length xs = omega (arith, c.encode_unpadded-n.ensures.len, length-unpadded g.A.Alphabet.alphabet c.args.input.now below) in
-    line_wrote c.args.width c.args.ending.now c.args.out.now c.copy_from_slice.new.self xs _ c.encode_unpadded-n.new.dst c.args.position _ _ c.encode_unpadded-n.result c.copy_from_slice.ensures.after (omega arith)
-    c.encode_unpadded-n.ensures.written lx (omega (arith, c.encode_unpadded-n.ensures.len)) (omega (arith, c.encode_unpadded-n.ensures.len)) (omega arith)
+returns c = rw (c.put_ending-start.ensures.at, c.put_ending-start.ensures.written) (line_wrote c.args.width c.args.ending.now c.args.out.now c.args.ending.now c.args.chars.now [] c.copy_from_slice.new.self c.args.position (length c.args.ending.now) _ (length c.args.chars.now)
+    refl refl (c.copy_from_slice.ensures.after ∙ sym (append-nil c.args.chars.now)) refl c.requires.some c.requires.line (omega (arith, c.requires.fits)))

@@ -1,7 +1,7 @@
 use Rattle.std.proofs.Common.{length, ◌-◌, ◌+◌, ◌≤◌, ℕ, List}
 use Rattle.base64ct.specs.Blocks.{decoded}
 use Rattle.base64ct.specs.Decoders.{Standing, Filling}
-use Rattle.base64ct.proofs.cursor.fill_from.Given as goal
+use Rattle.base64ct.proofs.cursor.fill_short.Given as goal
 
 abbrev pub invariant-turns : goal.invariant-turns
 invariant-turns g l = (l.done ≤ length l.out) × (l.place ≤ length l.body)
