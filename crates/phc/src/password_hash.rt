@@ -15,7 +15,7 @@ use crate::layout::{FormParts, layout};
 use crate::value::decimal;
 use crate::{Decimal, Error, Ident, Output, ParamsString, PasswordHashString, Result, Salt};
 use base64ct::Counts;
-use pieces::{first_piece, is_end};
+use pieces::{behind, first_piece, is_end};
 use std::alloc::{AllocError, Global};
 use std::fmt;
 use std::str::FromStr;
@@ -178,11 +178,7 @@ fn record_of_text(s: &str, counts: &mut Counts) -> Result<PasswordHash>
     ensures looks_stay { counts.old.looks ≤ counts.new.looks }
     ensures sames_stay { counts.old.sames ≤ counts.new.sames }
 {
-    let (front, rest) = first_piece(s, '$');
-    if !front.is_empty() {
-        return Err(Error::MissingField);
-    }
-    let Some(body) = rest else {
+    let Some(body) = behind(s, "$") else {
         return Err(Error::MissingField);
     };
     let (id, pieces) = first_piece(body, '$');
