@@ -1,6 +1,6 @@
 //! Bytes on their way to a sink.
 
-ghost use Rattle.std.specs.Prelude.{◌≡◌, ◌≤◌, ◌<◌, ◌+◌, ◌++◌, [], false, true, length};
+ghost use Rattle.std.specs.Prelude.{◌≡◌, ◌≤◌, ◌<◌, ◌+◌, ◌++◌, ◌∷◌, [], false, true, length};
 
 use crate::write::write_all;
 use crate::{Failed, Sink};
@@ -128,5 +128,27 @@ impl OutputBuffer {
         } else {
             self.write(sink, piece);
         }
+    }
+
+    // Keeps a line behind what waits.
+    fn keep_line(&mut self, line: &[u8])
+        requires room { length (waiting self.old) + length line.now < 16384 }
+        ensures kept { waiting self.new ≡ waiting self.old ++ line.now ++ 10 ∷ [] }
+        ensures same { has_failed self.new ≡ has_failed self.old }
+    {
+        self.keep(line);
+        self.keep(b"\n");
+    }
+
+    /// Puts a line and its line feed behind what waits.
+    pub fn put_line<K: Sink>(&mut self, sink: &mut K, line: &[u8])
+        ensures puts { Puts (K.written sink.old) (K.written sink.new) (K.faults sink.old) (K.faults sink.new) self.old self.new (line.now ++ 10 ∷ []) }
+    {
+        if !self.failed && line.len() < CAPACITY - self.waiting().len() {
+            self.keep_line(line);
+            return;
+        }
+        self.put(sink, line);
+        self.put(sink, b"\n");
     }
 }

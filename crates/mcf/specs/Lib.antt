@@ -1,4 +1,5 @@
 pub mod Alphabets
+pub mod Clean
 pub mod Grammar
 pub mod Owned
 pub mod Texts

@@ -6,6 +6,7 @@ ghost use Rattle.std.specs.List.{list_all};
 ghost use Rattle.pieces.specs.Pieces.{pieces_left};
 ghost use Rattle.mcf.specs.Grammar.{dollar, field_fault, first_field_fault, is_field_byte};
 
+use crate::clean::are_fields;
 use crate::{Base64, Error, Result};
 use base64ct::DecodeVecError;
 use pieces::first_piece;
@@ -155,6 +156,16 @@ impl fmt::Display for Field<'_> {
 pub(crate) fn fault_of_fields(fields: Option<&str>) -> Option<Error>
     ensures { result ≡ first_field_fault (pieces_left dollar fields.entry) }
 {
+    match fields {
+        Some(text) if are_fields(text.as_bytes()) => None,
+        _ => first_fault(fields),
+    }
+}
+
+// The fault of the first field that has one, field by field.
+fn first_fault(fields: Option<&str>) -> Option<Error>
+    ensures { result ≡ first_field_fault (pieces_left dollar fields.entry) }
+{
     let mut rest = fields;
     'fields: while let Some(text) = rest {
         let (field, others) = first_piece(text, DELIMITER);
@@ -198,7 +209,7 @@ fn has_field_bytes(bytes: &[u8]) -> bool
 // By arithmetic, with no look-up and no branch by the byte.
 #[inline(always)]
 #[tactic(auto, using(crate::proofs::FieldBytes::ranges_tell))]
-fn is_field_byte(b: u8) -> bool
+pub(crate) fn is_field_byte(b: u8) -> bool
     ensures { result ≡ is_field_byte b }
 {
     // `+,-./` and the digits follow each other.

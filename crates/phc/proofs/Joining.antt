@@ -17,6 +17,13 @@ value_err : {A : Type 0} (a : A) (e : Error) (f : Option Error) → Err e ≡ va
 value_err a e None h = cc
 value_err a e (Some e') h = cc
 
+-- a fault that was told, or none
+pub told : {A : Type 0} (a : A) (e : Error) (f : Option Error) → f ≡ Some e → Err e ≡ value_or_fault a f
+told a e f is = rw is refl
+
+pub told_none : {A : Type 0} (a : A) (f : Option Error) → f ≡ None → Ok a ≡ value_or_fault a f
+told_none a f is = rw is refl
+
 pub version_refused : (id : List ℕ) (l : Layout) (e : Error) (name : List ℕ)
     → Ok name ≡ value_or_fault id (name_fault id)
     → Err e ≡ value_or_fault (option_and_then decimal_value l.version) (fault_of version_fault l.version)

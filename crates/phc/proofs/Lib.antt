@@ -9,6 +9,7 @@ pub mod ParsedBack
 pub mod Readable
 mod Vectors
 pub mod EncodedBytes
+pub mod TextParts
 pub mod ValueBytes
 pub mod PairLemmas
 pub mod ParamsLemmas

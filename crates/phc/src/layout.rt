@@ -1,9 +1,9 @@
 //! Which piece of a text is what part of a record.
 
 ghost use Rattle.std.specs.Prelude.{◌≡◌, ◌==◌};
-ghost use Rattle.pieces.specs.Pieces.{first, lent, pieces_left};
-ghost use Rattle.phc.specs.Grammar.{behind_taken, first_as, has, layout, params_text, version_digits};
-ghost use Rattle.phc.specs.Views.{parts_of};
+ghost use Rattle.pieces.specs.Pieces.{lent, pieces_left};
+ghost use Rattle.phc.specs.Grammar.{behind_taken, first_as, has, layout, params_text, salt_and_more, version_digits};
+ghost use Rattle.phc.specs.Views.{parts_of, pieces_of};
 
 use pieces::{behind, first_piece, next_piece};
 
@@ -28,10 +28,14 @@ fn has(c: u8, bytes: &[u8]) -> bool
 fn version_digits<'a>(piece: &'a str) -> Option<&'a str>
     ensures { lent result ≡ version_digits piece.now }
 {
+    // Few pieces begin with `v=`, so that most aren't searched for a comma.
+    let Some(digits) = behind(piece, "v=") else {
+        return None;
+    };
     if has(b',', piece.as_bytes()) {
         None
     } else {
-        behind(piece, "v=")
+        Some(digits)
     }
 }
 
@@ -46,33 +50,76 @@ fn params_text<'a>(piece: &'a str) -> Option<&'a str>
     }
 }
 
-// The digits of a version, and the pieces behind it.
-fn take_version<'a>(pieces: Option<&'a str>) -> (Option<&'a str>, Option<&'a str>)
-    ensures taken { lent result.0 ≡ first_as version_digits (pieces_left 36 pieces.entry) }
-    ensures others { pieces_left 36 result.1 ≡ behind_taken (lent result.0) (pieces_left 36 pieces.entry) }
+/// A piece, and the pieces behind it.
+#[derive(Clone, Copy, Debug)]
+pub(crate) struct Cut<'a> {
+    pub piece: &'a str,
+    pub others: Option<&'a str>,
+}
+
+// The next piece cut off, where there is one.
+fn cut_off<'a>(pieces: Option<&'a str>) -> Option<Cut<'a>>
+    ensures { pieces_of result ≡ pieces_left 36 pieces.entry }
 {
     let Some(text) = pieces else {
-        return (None, None);
+        return None;
     };
     let (piece, others) = first_piece(text, '$');
-    match version_digits(piece) {
-        Some(digits) => (Some(digits), others),
+    Some(Cut { piece, others })
+}
+
+// The digits of a version, and the pieces behind it.
+fn take_version<'a>(pieces: Option<Cut<'a>>) -> (Option<&'a str>, Option<Cut<'a>>)
+    ensures taken { lent result.0 ≡ first_as version_digits (pieces_of pieces.entry) }
+    ensures others { pieces_of result.1 ≡ behind_taken (lent result.0) (pieces_of pieces.entry) }
+{
+    let Some(next) = pieces else {
+        return (None, None);
+    };
+    match version_digits(next.piece) {
+        Some(digits) => (Some(digits), cut_off(next.others)),
         None => (None, pieces),
     }
 }
 
 // The parameters, and the pieces behind them.
-fn take_params<'a>(pieces: Option<&'a str>) -> (Option<&'a str>, Option<&'a str>)
-    ensures taken { lent result.0 ≡ first_as params_text (pieces_left 36 pieces.entry) }
-    ensures others { pieces_left 36 result.1 ≡ behind_taken (lent result.0) (pieces_left 36 pieces.entry) }
+fn take_params<'a>(pieces: Option<Cut<'a>>) -> (Option<&'a str>, Option<Cut<'a>>)
+    ensures taken { lent result.0 ≡ first_as params_text (pieces_of pieces.entry) }
+    ensures others { pieces_of result.1 ≡ behind_taken (lent result.0) (pieces_of pieces.entry) }
 {
-    let Some(text) = pieces else {
+    let Some(next) = pieces else {
         return (None, None);
     };
-    let (piece, others) = first_piece(text, '$');
-    match params_text(piece) {
-        Some(params) => (Some(params), others),
+    match params_text(next.piece) {
+        Some(params) => (Some(params), cut_off(next.others)),
         None => (None, pieces),
+    }
+}
+
+// The parts from the salt on, behind these.
+fn salt_and_more<'a>(
+    version: Option<&'a str>,
+    params: Option<&'a str>,
+    pieces: Option<Cut<'a>>,
+) -> FormParts<'a>
+    ensures { parts_of result ≡ salt_and_more (lent version.entry) (lent params.entry) (pieces_of pieces.entry) }
+{
+    let Some(salt) = pieces else {
+        return FormParts {
+            version,
+            params,
+            salt: None,
+            hash: None,
+            rest: None,
+        };
+    };
+    let (hash, rest) = next_piece(salt.others, '$');
+    FormParts {
+        version,
+        params,
+        salt: Some(salt.piece),
+        hash,
+        rest,
     }
 }
 
@@ -80,15 +127,7 @@ fn take_params<'a>(pieces: Option<&'a str>) -> (Option<&'a str>, Option<&'a str>
 pub(crate) fn layout<'a>(pieces: Option<&'a str>) -> FormParts<'a>
     ensures { parts_of result ≡ layout (pieces_left 36 pieces.entry) }
 {
-    let (version, pieces) = take_version(pieces);
+    let (version, pieces) = take_version(cut_off(pieces));
     let (params, pieces) = take_params(pieces);
-    let (salt, pieces) = next_piece(pieces, '$');
-    let (hash, rest) = next_piece(pieces, '$');
-    FormParts {
-        version,
-        params,
-        salt,
-        hash,
-        rest,
-    }
+    salt_and_more(version, params, pieces)
 }

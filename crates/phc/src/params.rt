@@ -133,15 +133,30 @@ impl ParamsString {
         }
     }
 
+    /// The fault of a text.
+    pub(crate) fn fault_of_text(s: &str) -> Option<Error>
+        ensures { result ≡ text_fault s.now }
+    {
+        fault_of_text(s)
+    }
+
+    /// The parameters that a text is, which must have no fault.
+    pub(crate) fn new_unwrap(s: &str) -> ParamsString
+        requires { text_fault s.now ≡ None }
+        ensures { result ≡ text_pairs s.now }
+    {
+        ParamsString {
+            text: ShortBytes::from_slice(s.as_bytes()),
+        }
+    }
+
     /// The parameters that a text is.
     pub(crate) fn from_text(s: &str) -> Result<ParamsString>
         ensures { result ≡ params_or_fault s.now }
     {
         match fault_of_text(s) {
             Some(e) => Err(e),
-            None => Ok(ParamsString {
-                text: ShortBytes::from_slice(s.as_bytes()),
-            }),
+            None => Ok(ParamsString::new_unwrap(s)),
         }
     }
 

@@ -1,6 +1,6 @@
 //! Records: what a PHC text says.
 
-ghost use Rattle.std.specs.Prelude.{◌≡◌, ◌+◌, ◌++◌, ◌^◌, ◌<◌, ◌≤◌, length, IfOk, IfSome, IsTrue, Ok, OnOk, Some, true};
+ghost use Rattle.std.specs.Prelude.{◌≡◌, ◌+◌, ◌++◌, ◌^◌, ◌<◌, ◌≤◌, length, IfOk, IfSome, IsTrue, None, Ok, OnOk, Some, true};
 ghost use Rattle.std.specs.Fmt.{HasWritten, IsPlainFormatter};
 ghost use Rattle.std.specs.Option.{option_and_then};
 ghost use Rattle.base64ct.specs.Encoding.{EachBelow};
@@ -15,7 +15,7 @@ use crate::layout::{FormParts, layout};
 use crate::value::decimal;
 use crate::{Decimal, Error, Ident, Output, ParamsString, PasswordHashString, Result, Salt};
 use base64ct::Counts;
-use pieces::{first_piece, is_end};
+use pieces::{behind, first_piece, is_end};
 use std::alloc::{AllocError, Global};
 use std::fmt;
 use std::str::FromStr;
@@ -53,13 +53,24 @@ fn version_of(digits: Option<&str>) -> Result<Option<Decimal>>
     }
 }
 
-// The parameters of a piece; no piece has none.
-fn params_of(text: Option<&str>) -> Result<ParamsString>
-    ensures { result ≡ value_or_fault (pairs_of (lent text.entry)) (fault_of text_fault (lent text.entry)) }
+// The fault of the parameters of a piece; no piece has none.
+fn fault_of_params(text: Option<&str>) -> Option<Error>
+    ensures { result ≡ fault_of text_fault (lent text.entry) }
 {
     match text {
-        Some(text) => ParamsString::from_text(text),
-        None => Ok(ParamsString::new()),
+        Some(text) => ParamsString::fault_of_text(text),
+        None => None,
+    }
+}
+
+// The parameters of a piece without a fault; no piece has none.
+fn params_of(text: Option<&str>) -> ParamsString
+    requires { fault_of text_fault (lent text) ≡ None }
+    ensures { result ≡ pairs_of (lent text.entry) }
+{
+    match text {
+        Some(text) => ParamsString::new_unwrap(text),
+        None => ParamsString::new(),
     }
 }
 
@@ -125,10 +136,10 @@ fn record_of(id: &str, parts: FormParts<'_>, counts: &mut Counts) -> Result<Pass
         Ok(version) => version,
         Err(e) => return Err(e),
     };
-    let params = match params_of(parts.params) {
-        Ok(params) => params,
-        Err(e) => return Err(e),
-    };
+    // The parameters are copied once all is known to be good.
+    if let Some(e) = fault_of_params(parts.params) {
+        return Err(e);
+    }
     let salt = match salt_of(parts.salt, counts) {
         Ok(salt) => salt,
         Err(e) => return Err(e),
@@ -143,7 +154,7 @@ fn record_of(id: &str, parts: FormParts<'_>, counts: &mut Counts) -> Result<Pass
     Ok(PasswordHash {
         algorithm,
         version,
-        params,
+        params: params_of(parts.params),
         salt,
         hash,
     })
@@ -178,11 +189,7 @@ fn record_of_text(s: &str, counts: &mut Counts) -> Result<PasswordHash>
     ensures looks_stay { counts.old.looks ≤ counts.new.looks }
     ensures sames_stay { counts.old.sames ≤ counts.new.sames }
 {
-    let (front, rest) = first_piece(s, '$');
-    if !front.is_empty() {
-        return Err(Error::MissingField);
-    }
-    let Some(body) = rest else {
+    let Some(body) = behind(s, "$") else {
         return Err(Error::MissingField);
     };
     let (id, pieces) = first_piece(body, '$');

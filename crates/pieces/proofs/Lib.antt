@@ -1,6 +1,8 @@
 pub mod Cuts
 pub mod Fronts
 mod Vectors
+mod Ascii
+mod LastPlaces
 mod MarkLaws
 mod PlaceLaws
 mod ZeroedCells

@@ -13,12 +13,14 @@ pub mod places;
 pub mod short_bytes;
 #[cfg(test)]
 mod tests;
+pub mod text;
 
 use places::first_place;
 
 /// The first piece of a text, and the text behind the first `cut`, where there is one.
 ///
 /// A text without `cut` is one piece, and so is the empty text.
+#[inline(always)]
 pub fn first_piece<'a>(text: &'a str, cut: char) -> (&'a str, Option<&'a str>)
     requires ascii { cut < 128 }
     ensures pieces { pieces_at cut text.now ≡ result.0.now ∷ pieces_left cut result.1 }

@@ -1,8 +1,8 @@
 //! The first place of a byte, sixteen bytes a step.
 
-ghost use Rattle.std.specs.Prelude.{◌≡◌, ◌≢◌, ◌+◌, ◌≤◌, ◌<◌, ℕ, length};
+ghost use Rattle.std.specs.Prelude.{◌≡◌, ◌≢◌, ◌+◌, ◌≤◌, ◌<◌, ℕ, MatchOption, length, slice_index};
 ghost use Rattle.std.specs.Int.{bit_at};
-ghost use Rattle.pieces.specs.Places.{IsFirstPlace, Marks};
+ghost use Rattle.pieces.specs.Places.{IsFirstPlace, IsLastPlace, LacksBetween, Marks};
 
 use std::simd::prelude::*;
 
@@ -69,4 +69,32 @@ pub fn first_place(bytes: &[u8], wanted: u8) -> Option<usize>
         return None;
     }
     Some(last + lowest(here))
+}
+
+// The first place of `wanted` from `from` on.
+#[inline(always)]
+fn place_from(bytes: &[u8], from: usize, wanted: u8) -> Option<usize>
+    requires within { from ≤ length bytes.now }
+    ensures place { MatchOption result (LacksBetween wanted bytes.now from (length bytes.now)) (λ at. (from ≤ at) × (at < length bytes.now)
+        × LacksBetween wanted bytes.now from at × (slice_index bytes.now at ≡ wanted)) }
+{
+    match first_place(&bytes[from..], wanted) {
+        Some(at) => Some(from + at),
+        None => None,
+    }
+}
+
+/// The last place of `wanted`, counted from 0, or none where it doesn't stand among these bytes.
+///
+/// As [`first_place`] it isn't for secret bytes.
+pub fn last_place(bytes: &[u8], wanted: u8) -> Option<usize>
+    ensures place { IsLastPlace wanted bytes.now result }
+{
+    let mut last = None;
+    let mut from = 0;
+    'places: while let Some(at) = place_from(bytes, from, wanted) {
+        last = Some(at);
+        from = at + 1;
+    }
+    last
 }

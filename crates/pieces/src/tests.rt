@@ -1,7 +1,8 @@
 //! Texts and their pieces.
 
-use crate::places::first_place;
+use crate::places::{first_place, last_place};
 use crate::short_bytes::ShortBytes;
+use crate::text::text_of;
 use crate::{begins_with, behind, ends_in, first_piece, is_end, next_piece};
 use std::test::Fail;
 
@@ -88,5 +89,32 @@ const PLACES: [(&str, Option<usize>); 10] = [
 fn places_in_short_and_long_texts(rt: HostRuntime) {
     for (text, place) in PLACES {
         assert_eq!(rt; first_place(text.as_bytes(), b'$'), place);
+    }
+}
+
+// Bytes and the last place of `$`.
+const LAST_PLACES: [(&str, Option<usize>); 6] = [
+    ("", None),
+    ("$", Some(0)),
+    ("a$$", Some(2)),
+    ("abcdefghijklmnopq", None),
+    ("$bcdefghijklmnopqrstuvwxyzabcdefghijk", Some(0)),
+    ("abcdefghijklmno$abcdefghijklmno$abc", Some(31)),
+];
+
+#[test]
+fn last_places(rt: HostRuntime) {
+    for (text, place) in LAST_PLACES {
+        assert_eq!(rt; last_place(text.as_bytes(), b'$'), place);
+    }
+}
+
+#[test]
+fn texts_of_bytes(rt: HostRuntime) {
+    for text in ["", "salt", "abcdefghijklmnopq", "abcdefghijklmn\u{e9}opq"] {
+        assert_eq!(rt; text_of(text.as_bytes()), Some(text));
+    }
+    for bytes in [b"salt\xff".as_slice(), b"abcdefghijklmnop\xff".as_slice()] {
+        assert_eq!(rt; text_of(bytes), None);
     }
 }

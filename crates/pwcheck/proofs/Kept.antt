@@ -1,17 +1,15 @@
 -- Runs that keep their input whole.
-use Rattle.std.proofs.Common.{◌≡◌, ◌≢◌, ℕ, zero, suc, ◌+◌, ◌-◌, ◌<◌, ◌≤◌, Bool, true, false, List, [], ◌∷◌, ◌++◌, length, drop, refl, sym, ap, ◌∙◌, subst, arith, inl, inr, Option, None, Some}
-use Rattle.std.specs.Prelude.{◌⊎◌}
+use Rattle.std.proofs.Common.{◌≡◌, ◌≢◌, ℕ, ◌<◌, ◌≤◌, List, [], ◌∷◌, ◌++◌, length, drop, refl, sym, ap, ◌∙◌, subst, arith, Option, None, Some}
 use Rattle.std.specs.Io.KnownBytes.{Consumes, Appends, IsAtEnd}
 use Rattle.std.proofs.lemmas.List.{append-nil, length-append, nil_from_length}
 use Rattle.line_io.specs.Devices.{WhereTold, AppendsPrefix}
-use Rattle.line_io.specs.Runs.{IsPrefix}
 use Rattle.line_io.proofs.Moved.{where_told, appends_none}
 use Rattle.base64ct.specs.Encoding.{encoding, EachBelow}
 use Rattle.base64ct.specs.Alphabets.{base64}
-use Rattle.base64ct.specs.Blocks.{blocks, decoded, AskedAreGood, IsEncoding}
+use Rattle.base64ct.specs.Blocks.{decoded, AskedAreGood, IsEncoding}
 use Rattle.base64ct.specs.Wrapping.{wrap, Wrapped, layout, HoldsOnlyEnds}
 use Rattle.base64ct.specs.Decoders.{Decoded, IsOpened, left}
-use Rattle.base64ct.proofs.Padding.{length-encoding, padding_count}
+use Rattle.base64ct.proofs.Padding.{length-encoding}
 use Rattle.base64ct.proofs.Firsts.{Some-once}
 use Rattle.base64ct.proofs.GoodBlocks.{encoding_by_blocks}
 use Rattle.base64ct.proofs.Encoders.{wrap_is}
@@ -19,7 +17,7 @@ use Rattle.base64ct.proofs.Wrapping.{wrap-nil}
 use Rattle.base64ct.proofs.Layouts.{laid_stands}
 use Rattle.base64ct.proofs.Wholes.{whole_is, all_asked, all_read}
 use Rattle.base64ct.proofs.Runs.{opened, wide_pos}
-use Rattle.pwcheck.specs.Streams.{longest_kept, Wraps, Unwraps, KeptOutcome}
+use Rattle.pwcheck.specs.Streams.{Wraps, Unwraps, KeptOutcome}
 
 -- ---- outcomes
 

@@ -1,5 +1,5 @@
 -- What an answer says of its line.
-use Rattle.std.proofs.Common.{◌≡◌, ◌≢◌, ℕ, Bool, true, false, List, length, refl, sym, ◌∙◌, inl, inr, Ok, Err}
+use Rattle.std.proofs.Common.{◌≡◌, ◌≢◌, ℕ, Bool, true, false, List, [], ◌∷◌, ◌++◌, length, refl, sym, ap, append_assoc, ◌∙◌, inl, inr, Ok, Err}
 use Rattle.std.specs.Prelude.{nat_lt, if◌then◌else◌}
 use Rattle.std.specs.List.{list_any, before_last, after_last}
 use Rattle.std.specs.Str.{is_utf8}
@@ -8,7 +8,7 @@ use Rattle.stored_check.specs.declared.error.StoredError.TheVariants.{OutOfMemor
 use Rattle.stored_check.proofs.Causes.{never_memory}
 use Rattle.scrypt_plain.specs.Profile.{accepted, key}
 use Rattle.line_program.specs.PlainOutput.{is_tab}
-use Rattle.pwcheck.specs.Answer.{IsAnswer, IsTextAnswer, answer, answer_text, has_verdict, line_may_lack, text_answer}
+use Rattle.pwcheck.specs.Answer.{IsAnswer, IsTextAnswer, answer, answer_text, answer_word, counts_text, has_verdict, line_may_lack, text_answer}
 use Rattle.pwcheck.specs.declared.answer.Answer.{Answer}
 use Rattle.pwcheck.specs.declared.answer.Answer.TheVariants.{TooLong, BadLine, Checked}
 use Rattle.pwcheck.specs.declared.form.Form.{Form}
@@ -60,3 +60,10 @@ same_text Counted (Checked (Ok b)) looks looks' sames sames' hl hs = rw (hl refl
 same_text Counted (Checked (Err e)) looks looks' sames sames' hl hs = refl
 same_text Counted TooLong looks looks' sames sames' hl hs = refl
 same_text Counted BadLine looks looks' sames sames' hl hs = refl
+
+-- ---- what is put
+
+pub with_counts : (form : Form) (a : Answer) (looks sames : ℕ) → form ≡ Counted → has_verdict a ≡ true
+    → answer_text form a looks sames ≡ answer_word a ++ (counts_text looks sames ++ 10 ∷ [])
+with_counts Plain a looks sames is told = absurd (cc)
+with_counts Counted a looks sames is told = ap (λ (t : Bool). answer_word a ++ (if t then counts_text looks sames else []) ++ 10 ∷ []) told ∙ append_assoc (answer_word a) (counts_text looks sames) (10 ∷ [])

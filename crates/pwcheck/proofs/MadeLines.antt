@@ -1,5 +1,5 @@
 -- A line of `bench`, by what its makers say; and the counts.
-use Rattle.std.proofs.Common.{◌≡◌, ℕ, suc, ◌+◌, ◌%◌, Bool, List, [], ◌∷◌, ◌++◌, refl, ap, ◌∙◌, add-one, inl, inr, Result, Err, arith, zero, true, false}
+use Rattle.std.proofs.Common.{◌≡◌, ℕ, suc, ◌+◌, ◌%◌, Bool, List, ◌++◌, refl, ap, ◌∙◌, add-one, inl, inr, Result, Err, arith, zero, true, false}
 use Rattle.std.specs.Prelude.{◌⊎◌, ◌≤◌, ◌==◌, Ok, codes, if◌then◌else◌, IsAscii, is_err}
 use mir.Val.{bool_byte}
 use Rattle.rand_core.specs.Stream.{Stream}

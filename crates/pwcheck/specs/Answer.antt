@@ -1,5 +1,5 @@
 -- What a line of a password file is answered with.
-use Rattle.std.specs.Prelude.{◌≡◌, ◌⊎◌, ℕ, Bool, true, false, List, [], ◌∷◌, ◌++◌, length, nat_lt, ◌&&◌, codes, if◌then◌else◌, Result, Ok, Err}
+use Rattle.std.specs.Prelude.{◌≡◌, ◌⊎◌, ℕ, Bool, true, false, List, [], ◌∷◌, ◌++◌, length, nat_lt, ◌&&◌, codes, if◌then◌else◌, Ok, Err}
 use Rattle.std.specs.Fmt.{decimal}
 use Rattle.std.specs.List.{list_any, before_last, after_last}
 use Rattle.std.specs.Str.{is_utf8}
@@ -7,7 +7,6 @@ use Rattle.scrypt_plain.specs.Profile.{accepted, key, needs_memory}
 use Rattle.stored_check.specs.Counts.{verdict_comparisons, verdict_looks}
 use Rattle.stored_check.specs.Verdict.{may_lack_memory, verdict}
 use Rattle.stored_check.specs.Words.{word}
-use Rattle.stored_check.specs.declared.error.StoredError.{StoredError}
 use Rattle.stored_check.specs.declared.error.StoredError.TheVariants as of_stored
 use Rattle.pwcheck.specs.declared.answer.Answer.{Answer}
 use Rattle.pwcheck.specs.declared.answer.Answer.TheVariants.{TooLong, BadLine, Checked}

@@ -1,7 +1,7 @@
 //! What answers the lines of a password file.
 
 use crate::form::Form;
-use crate::line_answer::answer_line;
+use crate::line_answer::{answer_line, put_answer};
 use line_io::{OutputBuffer, Sink};
 use line_program::Responder;
 use scrypt_plain::ScryptKept;
@@ -28,15 +28,16 @@ impl Responder for Checker {
         out: &mut OutputBuffer,
         sink: &mut K,
     ) -> Result<bool, AllocError> {
-        match answer_line(self.alloc, &self.kdf, self.form, line) {
-            Some(answer) => {
-                out.put(sink, answer.text.as_slice());
+        match answer_line(self.alloc, &self.kdf, line) {
+            Some(line) => {
+                put_answer(out, sink, self.form, &line);
+                let good = line.answer.is_match();
                 // A digest took longer than a write. Which line takes one isn't known before its answer, so answers
                 // that wait are written after it.
-                if answer.has_verdict {
+                if line.answer.has_verdict() {
                     out.flush(sink);
                 }
-                Ok(answer.is_match)
+                Ok(good)
             }
             None => Err(AllocError),
         }

@@ -1,4 +1,3 @@
-use Rattle.std.proofs.Common.{arith, rules, ◌≡◌, List, ℕ}
 use Rattle.line_io.proofs.Moved.{consumes_more}
 use Rattle.pwcheck.proofs.input.read_all.Goals as goal
 

@@ -1,5 +1,4 @@
-use Rattle.std.proofs.Common.{◌≡◌, ℕ, List, ◌++◌, length, drop, sym, ap, ◌∙◌}
-use Rattle.stored_check.specs.Normal.{normal}
+use Rattle.std.proofs.Common.{ℕ, List, ◌++◌, length, drop, sym, ap, ◌∙◌}
 use Rattle.stored_check.proofs.Records.{normal_of_other_bytes}
 use Rattle.line_program.proofs.LastTab.{not_text}
 use Rattle.pwcheck.proofs.normalizer.write_line.Goals as goal

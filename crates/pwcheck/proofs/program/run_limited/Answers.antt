@@ -1,4 +1,4 @@
-use Rattle.std.proofs.Common.{◌≡◌, ◌<◌, ◌^◌, arith, sym}
+use Rattle.std.proofs.Common.{◌≡◌, arith}
 use Rattle.std.specs.Prelude.{codes}
 use Rattle.pwcheck.proofs.BenchWords.{bench_outcome, one_number}
 use Rattle.pwcheck.proofs.program.run_limited.Goals as goal

@@ -1,4 +1,4 @@
-use Rattle.std.proofs.Common.{◌≡◌, ◌<◌, ◌≤◌, ℕ, List, length, min, arith, refl}
+use Rattle.std.proofs.Common.{min, arith, refl}
 use Rattle.pwcheck.specs.Streams.{longest_kept, Unwraps}
 use Rattle.pwcheck.proofs.Kept.{kept_stopped}
 use Rattle.pwcheck.proofs.streams.unwrap_input.Goals as goal

@@ -1,4 +1,4 @@
-use Rattle.std.proofs.Common.{◌≡◌, ◌<◌, ◌≤◌, ℕ, List, [], ◌++◌, length, arith, refl, inl}
+use Rattle.std.proofs.Common.{◌<◌, length, arith, inl}
 use Rattle.base64ct.specs.Wrapping.{HoldsOnlyEnds}
 use Rattle.pwcheck.proofs.Kept.{unwraps_opened, unwraps_all, unwraps_bad}
 use Rattle.pwcheck.proofs.streams.unwrapped.Goals as goal

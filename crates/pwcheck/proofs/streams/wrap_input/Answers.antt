@@ -1,4 +1,4 @@
-use Rattle.std.proofs.Common.{◌≡◌, ◌<◌, ◌≤◌, ℕ, List, [], length, min, arith, refl}
+use Rattle.std.proofs.Common.{◌≡◌, [], length, min, arith, refl}
 use Rattle.pwcheck.specs.Streams.{longest_kept, Wraps}
 use Rattle.line_io.proofs.Moved.{appends_none}
 use Rattle.pwcheck.proofs.Kept.{kept_stopped, kept_done, wraps_none}

@@ -1,8 +1,5 @@
-use Rattle.std.proofs.Common.{rules, ◌≡◌, ◌≤◌, ◌<◌, ◌++◌, ℕ, List, [], ◌∷◌, length, arith, ap, sym, false, true}
-use Rattle.base64ct.specs.Encoding.{EachBelow, encoding, unpadded_encoding}
-use Rattle.base64ct.specs.Encoders.{whole_blocks}
-use Rattle.base64ct.specs.Wrapping.{in_lines}
-use Rattle.base64ct.specs.Alphabets.{base64}
+use Rattle.std.proofs.Common.{◌≡◌, arith, false, true}
+use Rattle.base64ct.specs.Encoding.{EachBelow}
 use Rattle.pwcheck.proofs.Rooms.{blocks_fit, room_some}
 use Rattle.pwcheck.proofs.streams.wrapped.Goals as goal
 
