@@ -30,21 +30,21 @@ pub record Md5Fields : Type 0 where
   pub hash : List ℕ
 
 -- the fields by their form: the first three faults
-abbrev pub by_form : List (List ℕ) → Result Md5Fields Md5Fault
-by_form [] = Err NoSalt
-by_form (salt ∷ []) = Err NoHash
-by_form (salt ∷ (hash ∷ more)) = if is_nil more then Ok (record { salt = salt; hash = hash }) else Err Trailing
+abbrev pub split_fields : List (List ℕ) → Result Md5Fields Md5Fault
+split_fields [] = Err NoSalt
+split_fields (salt ∷ []) = Err NoHash
+split_fields (salt ∷ (hash ∷ more)) = if is_nil more then Ok (record { salt = salt; hash = hash }) else Err Trailing
 
 -- the last two faults: the salt has more than 8 bytes; the text of the hash is the hash field of no digest
-abbrev pub tested : Result Md5Fields Md5Fault → Result Md5Fields Md5Fault
-tested (Err e) = Err e
-tested (Ok f) =
+abbrev pub checked_fields : Result Md5Fields Md5Fault → Result Md5Fields Md5Fault
+checked_fields (Err e) = Err e
+checked_fields (Ok f) =
     if nat_lt 8 (length f.salt) then Err SaltTooLong
     else (if is_hash_field 16 f.hash then Ok f else Err Base64)
 
 -- the fields behind the identifier, `salt$hash`, or their first fault
 unfoldable pub md5_fields : List (List ℕ) → Result Md5Fields Md5Fault
-md5_fields fields = tested (by_form fields)
+md5_fields fields = checked_fields (split_fields fields)
 
 -- the fault of the fields; or whether the text of the hash is the hash field of the password's digest
 abbrev pub md5_answer : Magic → List ℕ → Result Md5Fields Md5Fault → Result Bool LegacyError

@@ -3,8 +3,8 @@
 ghost use Rattle.std.specs.Prelude.{◌≡◌, ◌≤◌, Ok, length};
 ghost use Rattle.mcf.specs.Views.{fields_left};
 ghost use Rattle.stored_check.specs.Verdict.{may_lack_memory, verdict};
-ghost use Rattle.md5_crypt.specs.Verdict.{IsLegacyVerdict, by_form, legacy_may_lack, legacy_verdict};
-ghost use Rattle.md5_crypt.specs.Verdict.{md5_answer, md5_fields, stored_answer, tested};
+ghost use Rattle.md5_crypt.specs.Verdict.{IsLegacyVerdict, split_fields, legacy_may_lack, legacy_verdict};
+ghost use Rattle.md5_crypt.specs.Verdict.{md5_answer, md5_fields, stored_answer, checked_fields};
 ghost use Rattle.md5_crypt.specs.Views.{as_form, fields_of};
 
 use crate::magic::magic_of;
@@ -29,8 +29,8 @@ pub(crate) struct Md5Text<'a> {
 }
 
 // A salt, a hash and nothing else.
-fn by_form(mut fields: Fields<'_>) -> Result<Md5Text<'_>, Md5Fault>
-    ensures { as_form result ≡ by_form (fields_left fields.entry) }
+fn split_fields(mut fields: Fields<'_>) -> Result<Md5Text<'_>, Md5Fault>
+    ensures { as_form result ≡ split_fields (fields_left fields.entry) }
 {
     let Some(salt) = fields.next() else {
         return Err(Md5Fault::NoSalt);
@@ -51,7 +51,7 @@ fn by_form(mut fields: Fields<'_>) -> Result<Md5Text<'_>, Md5Fault>
 // end.
 fn check_parts(magic: Magic, password: &[u8], parts: Md5Text<'_>) -> Result<bool, LegacyError>
     requires short { length password.now ≤ 4096 }
-    ensures answer { result ≡ md5_answer magic password.now (tested (Ok (fields_of parts.entry))) }
+    ensures answer { result ≡ md5_answer magic password.now (checked_fields (Ok (fields_of parts.entry))) }
 {
     if parts.salt.len() > SALT_MAX {
         return Err(LegacyError::Md5(Md5Fault::SaltTooLong));
@@ -70,7 +70,7 @@ fn check_fields(magic: Magic, password: &[u8], fields: Fields<'_>) -> Result<boo
     requires short { length password.now ≤ 4096 }
     ensures answer { result ≡ md5_answer magic password.now (md5_fields (fields_left fields.entry)) }
 {
-    match by_form(fields) {
+    match split_fields(fields) {
         Err(e) => Err(LegacyError::Md5(e)),
         Ok(parts) => check_parts(magic, password, parts),
     }

@@ -16,7 +16,7 @@ use Rattle.base64ct.specs.Alphabets.{base64_unpadded}
 use Rattle.base64ct.specs.Encoding.{EachBelow}
 use Rattle.base64ct.proofs.DecodingLaws.{decoding-encoding, length-decodable}
 use Rattle.phc.specs.Encoded.{decoding, encoding}
-use Rattle.phc.specs.Grammar.{Layout, behind_taken, decimal_value, fault_of, fault_of_layout, first_as, has, has_leading_zero, hash_fault, is_name, is_name_byte, is_value_byte, layout, number_after, pairs_of, params_text, salt_fault, text_fault, value_or_fault, version_digits, version_fault}
+use Rattle.phc.specs.Grammar.{Layout, pieces_behind, decimal_value, fault_of, fault_of_layout, read_first, has, has_leading_zero, hash_fault, is_name, is_name_byte, is_value_byte, layout, number_after, pairs_of, params_text, salt_fault, text_fault, value_or_fault, version_digits, version_fault}
 use Rattle.phc.specs.Params.{Pairs, pair_text, pairs_text}
 use Rattle.phc.specs.Record.{IsRecord, bytes_part, hash_part, is_lone_v, is_pair, is_printable, params_part, phc, phc_of_pieces, phc_text, record_of_layout, record_text, version_part}
 use Rattle.phc.specs.declared.password_hash.PasswordHash.{PasswordHash}
@@ -179,17 +179,17 @@ value_no_version : (s : List ℕ) → list_all is_value_byte s ≡ true → vers
 value_no_version s h = rw (has_none is_value_byte 44 refl s h, value_start s h) refl
 
 no_version : (ps : Pairs) (salt hash : Option (List ℕ)) → list_all is_pair ps ≡ true → is_lone_v ps ≡ false → IfSome salt (λ b. EachBelow 256 b)
-    → first_as version_digits (params_pieces ps ++ (bytes_pieces salt ++ hash_pieces salt hash)) ≡ None
+    → read_first version_digits (params_pieces ps ++ (bytes_pieces salt ++ hash_pieces salt hash)) ≡ None
 no_version [] None hash h lone below = refl
 no_version [] (Some b) hash h lone below = value_no_version (encoding b) (encoding_value b below)
 no_version (p ∷ ps) salt hash h lone below = params_no_version p ps h lone
 
-version_first : (version : Option ℕ) (more : List (List ℕ)) → IfSome version (λ n. n < 2 ^ 32) → (version ≡ None → first_as version_digits more ≡ None)
-    → first_as version_digits (version_pieces version ++ more) ≡ option_map decimal version
+version_first : (version : Option ℕ) (more : List (List ℕ)) → IfSome version (λ n. n < 2 ^ 32) → (version ≡ None → read_first version_digits more ≡ None)
+    → read_first version_digits (version_pieces version ++ more) ≡ option_map decimal version
 version_first None more h none = none refl
 version_first (Some n) more h none = rw (has_none is_version_byte 44 refl (codes "v=" ++ decimal n) (version_bytes n h)) refl
 
-version_behind : (version : Option ℕ) (more : List (List ℕ)) → behind_taken (option_map decimal version) (version_pieces version ++ more) ≡ more
+version_behind : (version : Option ℕ) (more : List (List ℕ)) → pieces_behind (option_map decimal version) (version_pieces version ++ more) ≡ more
 version_behind None more = refl
 version_behind (Some n) more = refl
 
@@ -212,12 +212,12 @@ has_equals p [] = has_cut 61 p.0 p.1
 has_equals p (q ∷ ps) = has_more 61 (pair_text p) (44 ∷ pairs_text (q ∷ ps)) (has_cut 61 p.0 p.1)
 
 params_first : (ps : Pairs) (salt hash : Option (List ℕ)) → IfSome salt (λ b. EachBelow 256 b)
-    → first_as params_text (params_pieces ps ++ (bytes_pieces salt ++ hash_pieces salt hash)) ≡ params_piece ps
+    → read_first params_text (params_pieces ps ++ (bytes_pieces salt ++ hash_pieces salt hash)) ≡ params_piece ps
 params_first [] None hash below = refl
 params_first [] (Some b) hash below = rw (has_none is_value_byte 61 refl (encoding b) (encoding_value b below)) refl
 params_first (p ∷ ps) salt hash below = rw (has_equals p ps) refl
 
-params_behind : (ps : Pairs) (more : List (List ℕ)) → behind_taken (params_piece ps) (params_pieces ps ++ more) ≡ more
+params_behind : (ps : Pairs) (more : List (List ℕ)) → pieces_behind (params_piece ps) (params_pieces ps ++ more) ≡ more
 params_behind [] more = refl
 params_behind (p ∷ ps) more = refl
 
@@ -241,8 +241,8 @@ nothing_behind (Some b) (Some x) = refl
 -- ---- the layout
 
 layout_is : (pieces after_version after_params : List (List ℕ)) (version params salt hash : Option (List ℕ))
-    → first_as version_digits pieces ≡ version → behind_taken version pieces ≡ after_version
-    → first_as params_text after_version ≡ params → behind_taken params after_version ≡ after_params
+    → read_first version_digits pieces ≡ version → pieces_behind version pieces ≡ after_version
+    → read_first params_text after_version ≡ params → pieces_behind params after_version ≡ after_params
     → first after_params ≡ salt → first (drop 1 after_params) ≡ hash → drop 1 (drop 1 after_params) ≡ []
     → layout pieces ≡ record { version = version; params = params; salt = salt; hash = hash; rest = [] }
 layout_is pieces after_version after_params version params salt hash e1 e2 e3 e4 e5 e6 e7 = rw (e1, e2, e3, e4, e5, e6, e7) refl

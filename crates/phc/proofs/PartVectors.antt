@@ -3,7 +3,7 @@ use Rattle.std.specs.Prelude.{◌≡◌, [], ◌∷◌, replicate, length, codes
 use Rattle.std.specs.declared.cmp.Ordering.TheVariants.{Less, Greater}
 use Rattle.pieces.specs.Pieces.{pieces_at}
 use Rattle.phc.specs.Grammar.{decimal_value}
-use Rattle.phc.specs.Params.{Pairs, add, add_bytes, add_each, add_named, change, get, pairs_text, params_or_fault}
+use Rattle.phc.specs.Params.{Pairs, add, add_bytes, add_each, add_named, added_or_kept, get, pairs_text, params_or_fault}
 use Rattle.phc.specs.Parts.{output_of_bytes, salt_of_bytes}
 use Rattle.phc.specs.declared.error.Error.TheVariants.{OutputSize, ParamNameDuplicated, ParamNameInvalid, ParamValueInvalid, ParamValueTooLong, ParamsMaxExceeded, SaltTooLong, SaltTooShort}
 
@@ -49,7 +49,7 @@ no_value = refl
 added : add_each (Ok []) three ≡ Ok three
 added = refl
 
-duplicated : change (add three (codes "a") (codes "1")) three ≡ (Err ParamNameDuplicated, three)
+duplicated : added_or_kept (add three (codes "a") (codes "1")) three ≡ (Err ParamNameDuplicated, three)
 duplicated = refl
 
 -- 127 characters and one pair more

@@ -14,7 +14,7 @@ use Rattle.pieces.proofs.Cuts.{cut_of, join_pieces}
 use Rattle.base64ct.specs.Alphabets.{base64_unpadded}
 use Rattle.base64ct.proofs.DecodingLaws.{decoding-Some, same_true}
 use Rattle.phc.specs.Encoded.{decoding}
-use Rattle.phc.specs.Grammar.{first_fault, unless, name_fault, fault_of, version_fault, text_fault, salt_fault, hash_fault, pairs_of, pair_of, text_pairs, decimal_value, fault_of_layout, layout, value_or_fault, version_digits, params_text, first_as, behind_taken, has, is_plain, has_leading_zero, number_after}
+use Rattle.phc.specs.Grammar.{first_fault, unless, name_fault, fault_of, version_fault, text_fault, salt_fault, hash_fault, pairs_of, pair_of, text_pairs, decimal_value, fault_of_layout, layout, value_or_fault, version_digits, params_text, read_first, pieces_behind, has, is_plain, has_leading_zero, number_after}
 use Rattle.phc.specs.Params.{Pairs, pairs_text}
 use Rattle.phc.specs.PairsOfText.{pairs_text-text_pairs}
 use Rattle.phc.specs.Record.{record_of_layout, phc, phc_of_pieces, phc_text, version_part, params_part, bytes_part, hash_part, record_text}
@@ -86,7 +86,7 @@ decimal_back digits n h = by_test (is_plain digits && nat_le 1 (length digits) &
         ∙ decimal-digits_value own digits plain.0 some (lone_zero digits plain.1) (omega (arith, small))
 
 version_case : (q : List ℕ) (qs : List (List ℕ)) (r : Option (List ℕ)) → version_digits q ≡ r → fault_of version_fault r ≡ None
-    → shown (q ∷ qs) ≡ version_part (option_and_then decimal_value r) ++ shown (behind_taken r (q ∷ qs))
+    → shown (q ∷ qs) ≡ version_part (option_and_then decimal_value r) ++ shown (pieces_behind r (q ∷ qs))
 version_case q qs None is h = refl
 version_case q qs (Some digits) is h = by_value (decimal_value digits) refl
   where
@@ -97,8 +97,8 @@ version_case q qs (Some digits) is h = by_value (decimal_value digits) refl
         absurd (false_true (ap is_some (sym e) ∙ some))
     by_value (Some n) e = rw (version_text q digits is, decimal_back digits n e) refl
 
-version_shown : (pieces : List (List ℕ)) → fault_of version_fault (first_as version_digits pieces) ≡ None
-    → shown pieces ≡ version_part (option_and_then decimal_value (first_as version_digits pieces)) ++ shown (behind_taken (first_as version_digits pieces) pieces)
+version_shown : (pieces : List (List ℕ)) → fault_of version_fault (read_first version_digits pieces) ≡ None
+    → shown pieces ≡ version_part (option_and_then decimal_value (read_first version_digits pieces)) ++ shown (pieces_behind (read_first version_digits pieces) pieces)
 version_shown [] h = refl
 version_shown (q ∷ qs) h = version_case q qs (version_digits q) refl h
 
@@ -114,13 +114,13 @@ pairs_shown b s h =
     ∙ ap (λ (t : List ℕ). 36 ∷ t) (pairs_text-text_pairs (b ∷ s) h)
 
 params_case : (q : List ℕ) (qs : List (List ℕ)) (test : Bool) → has 61 q ≡ test → fault_of text_fault (if test then Some q else None) ≡ None
-    → shown (q ∷ qs) ≡ params_part (pairs_of (if test then Some q else None)) ++ shown (behind_taken (if test then Some q else None) (q ∷ qs))
+    → shown (q ∷ qs) ≡ params_part (pairs_of (if test then Some q else None)) ++ shown (pieces_behind (if test then Some q else None) (q ∷ qs))
 params_case q qs false is h = refl
 params_case [] qs true is h = absurd (false_true is)
 params_case (b ∷ q) qs true is h = ap (λ (t : List ℕ). t ++ shown qs) (sym (pairs_shown b q h))
 
-params_shown : (pieces : List (List ℕ)) → fault_of text_fault (first_as params_text pieces) ≡ None
-    → shown pieces ≡ params_part (pairs_of (first_as params_text pieces)) ++ shown (behind_taken (first_as params_text pieces) pieces)
+params_shown : (pieces : List (List ℕ)) → fault_of text_fault (read_first params_text pieces) ≡ None
+    → shown pieces ≡ params_part (pairs_of (read_first params_text pieces)) ++ shown (pieces_behind (read_first params_text pieces) pieces)
 params_shown [] h = refl
 params_shown (q ∷ qs) h = params_case q qs (has 61 q) refl h
 
@@ -176,10 +176,10 @@ layout_printed : (id : List ℕ) (pieces : List (List ℕ)) → fault_of_layout 
 unfolding record_text
 layout_printed id pieces h =
     let l = layout pieces in
-    let version = first_as version_digits pieces in
-    let after_version = behind_taken version pieces in
-    let params = first_as params_text after_version in
-    let after_params = behind_taken params after_version in
+    let version = read_first version_digits pieces in
+    let after_version = pieces_behind version pieces in
+    let params = read_first params_text after_version in
+    let after_params = pieces_behind params after_version in
     let one = both (name_fault id) _ h in
     let two = both (fault_of version_fault version) _ one.1 in
     let three = both (fault_of text_fault params) _ two.1 in

@@ -13,7 +13,7 @@ use Rattle.base64ct.proofs.DecodingLaws.{decoding-Some, length-decodable, same_t
 use Rattle.base64ct.specs.declared.errors.Error.TheVariants.{InvalidEncoding, InvalidLength}
 use Rattle.std.specs.declared.cmp.Ordering.TheVariants.{Less}
 use Rattle.phc.specs.Encoded.{decoding}
-use Rattle.phc.specs.Grammar.{behind_taken, cut_pairs, decimal_value, fault_of, fault_of_layout, first_as, has, hash_fault, is_name, is_plain, layout, name_fault, number_after, pair_fault, pairs_of, params_text, salt_fault, text_fault, text_pairs, unless, value_or_fault, version_digits, version_fault}
+use Rattle.phc.specs.Grammar.{pieces_behind, cut_pairs, decimal_value, fault_of, fault_of_layout, read_first, has, hash_fault, is_name, is_plain, layout, name_fault, number_after, pair_fault, pairs_of, params_text, salt_fault, text_fault, text_pairs, unless, value_or_fault, version_digits, version_fault}
 use Rattle.phc.specs.Params.{Pairs, pair_text, pairs_text}
 use Rattle.phc.specs.PairsOfText.{pairs_text-text_pairs}
 use Rattle.phc.specs.Record.{IsRecord, is_lone_v, is_pair, is_printable, phc, phc_of_pieces, phc_text, record_of_layout}
@@ -83,14 +83,14 @@ params_case q false none h = refl
 params_case q true none h = lone_pairs q (text_pairs q) refl h none
 
 version_case : (q : List ℕ) (qs : List (List ℕ)) (version : Option (List ℕ)) → version_digits q ≡ version
-    → fault_of version_fault version ≡ None → fault_of text_fault (first_as params_text (behind_taken version (q ∷ qs))) ≡ None
-    → (is_none (option_and_then decimal_value version) && is_lone_v (pairs_of (first_as params_text (behind_taken version (q ∷ qs))))) ≡ false
+    → fault_of version_fault version ≡ None → fault_of text_fault (read_first params_text (pieces_behind version (q ∷ qs))) ≡ None
+    → (is_none (option_and_then decimal_value version) && is_lone_v (pairs_of (read_first params_text (pieces_behind version (q ∷ qs))))) ≡ false
 version_case q qs (Some digits) is v h = rw (some_not_none (decimal_value digits) (decimal_found digits v)) refl
 version_case q qs None is v h = params_case q (has 61 q) is h
 
-no_lone_v : (pieces : List (List ℕ)) → fault_of version_fault (first_as version_digits pieces) ≡ None
-    → fault_of text_fault (first_as params_text (behind_taken (first_as version_digits pieces) pieces)) ≡ None
-    → (is_none (option_and_then decimal_value (first_as version_digits pieces)) && is_lone_v (pairs_of (first_as params_text (behind_taken (first_as version_digits pieces) pieces)))) ≡ false
+no_lone_v : (pieces : List (List ℕ)) → fault_of version_fault (read_first version_digits pieces) ≡ None
+    → fault_of text_fault (read_first params_text (pieces_behind (read_first version_digits pieces) pieces)) ≡ None
+    → (is_none (option_and_then decimal_value (read_first version_digits pieces)) && is_lone_v (pairs_of (read_first params_text (pieces_behind (read_first version_digits pieces) pieces)))) ≡ false
 no_lone_v [] v h = refl
 no_lone_v (q ∷ qs) v h = version_case q qs (version_digits q) refl v h
 
@@ -173,10 +173,10 @@ two_tests a b ea eb = rw (ea, eb) refl
 
 read_layout : (id : List ℕ) (pieces : List (List ℕ)) → fault_of_layout id (layout pieces) ≡ None → IsRead (record_of_layout id (layout pieces))
 read_layout id pieces h =
-    let version = first_as version_digits pieces in
-    let after_version = behind_taken version pieces in
-    let params = first_as params_text after_version in
-    let after_params = behind_taken params after_version in
+    let version = read_first version_digits pieces in
+    let after_version = pieces_behind version pieces in
+    let params = read_first params_text after_version in
+    let after_params = pieces_behind params after_version in
     let one = both (name_fault id) _ h in
     let two = both (fault_of version_fault version) _ one.1 in
     let three = both (fault_of text_fault params) _ two.1 in

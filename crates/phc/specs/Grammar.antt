@@ -99,27 +99,27 @@ abbrev pub params_text : List ℕ → Option (List ℕ)
 params_text s = if has 61 s then Some s else None
 
 -- what the first piece is read as
-abbrev pub first_as : (List ℕ → Option (List ℕ)) → List (List ℕ) → Option (List ℕ)
-first_as read [] = None
-first_as read (piece ∷ pieces) = read piece
+abbrev pub read_first : (List ℕ → Option (List ℕ)) → List (List ℕ) → Option (List ℕ)
+read_first read [] = None
+read_first read (piece ∷ pieces) = read piece
 
 -- the pieces behind the first, where that one was taken
-abbrev pub behind_taken : Option (List ℕ) → List (List ℕ) → List (List ℕ)
-behind_taken None pieces = pieces
-behind_taken (Some piece) pieces = drop 1 pieces
+abbrev pub pieces_behind : Option (List ℕ) → List (List ℕ) → List (List ℕ)
+pieces_behind None pieces = pieces
+pieces_behind (Some piece) pieces = drop 1 pieces
 
 -- the pieces from the salt on
-abbrev pub salt_and_more : Option (List ℕ) → Option (List ℕ) → List (List ℕ) → Layout
-salt_and_more version params pieces =
+abbrev pub layout_from_salt : Option (List ℕ) → Option (List ℕ) → List (List ℕ) → Layout
+layout_from_salt version params pieces =
     record { version = version; params = params; salt = first pieces; hash = first (drop 1 pieces); rest = drop 1 (drop 1 pieces) }
 
 -- the pieces from the parameters on
-abbrev pub params_and_more : Option (List ℕ) → List (List ℕ) → Layout
-params_and_more version pieces = salt_and_more version (first_as params_text pieces) (behind_taken (first_as params_text pieces) pieces)
+abbrev pub layout_from_params : Option (List ℕ) → List (List ℕ) → Layout
+layout_from_params version pieces = layout_from_salt version (read_first params_text pieces) (pieces_behind (read_first params_text pieces) pieces)
 
 -- the pieces behind the identifier
 abbrev pub layout : List (List ℕ) → Layout
-layout pieces = params_and_more (first_as version_digits pieces) (behind_taken (first_as version_digits pieces) pieces)
+layout pieces = layout_from_params (read_first version_digits pieces) (pieces_behind (read_first version_digits pieces) pieces)
 
 -- ---- the parts
 

@@ -58,9 +58,9 @@ add_bytes ps name bytes =
     else (if nat_lt 48 (length bytes) then Err ParamValueTooLong else add ps name (encoding bytes))
 
 -- a call that changes the pairs: its answer, and the pairs after it
-abbrev pub change : Result Pairs Error → Pairs → Result (Unit {0}) Error × Pairs
-change (Ok after) before = (Ok tt, after)
-change (Err e) before = (Err e, before)
+abbrev pub added_or_kept : Result Pairs Error → Pairs → Result (Unit {0}) Error × Pairs
+added_or_kept (Ok after) before = (Ok tt, after)
+added_or_kept (Err e) before = (Err e, before)
 
 -- the pairs added one after another, or the first refusal
 abbrev pub add_each : Result Pairs Error → Pairs → Result Pairs Error

@@ -51,7 +51,7 @@ fn has_name_bytes(bytes: &[u8]) -> bool
 }
 
 /// Whether a text is a name.
-pub(crate) fn name_check(s: &str) -> bool
+pub(crate) fn is_name(s: &str) -> bool
     ensures { result ≡ is_name s.now }
 {
     1 <= s.len() && s.len() <= 32 && has_name_bytes(s.as_bytes())
@@ -62,7 +62,7 @@ impl Ident {
     pub fn new(s: &str) -> Result<Ident>
         ensures name { result ≡ value_or_fault s.now (name_fault s.now) }
     {
-        if !name_check(s) {
+        if !is_name(s) {
             return Err(Error::ParamNameInvalid);
         }
         Ok(Ident {

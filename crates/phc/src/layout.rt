@@ -2,7 +2,7 @@
 
 ghost use Rattle.std.specs.Prelude.{◌≡◌, ◌==◌};
 ghost use Rattle.pieces.specs.Pieces.{lent, pieces_left};
-ghost use Rattle.phc.specs.Grammar.{behind_taken, first_as, has, layout, params_text, salt_and_more, version_digits};
+ghost use Rattle.phc.specs.Grammar.{pieces_behind, read_first, has, layout, params_text, layout_from_salt, version_digits};
 ghost use Rattle.phc.specs.Views.{parts_of, pieces_of};
 
 use pieces::{behind, first_piece, next_piece};
@@ -70,8 +70,8 @@ fn cut_off<'a>(pieces: Option<&'a str>) -> Option<Cut<'a>>
 
 // The digits of a version, and the pieces behind it.
 fn take_version<'a>(pieces: Option<Cut<'a>>) -> (Option<&'a str>, Option<Cut<'a>>)
-    ensures taken { lent result.0 ≡ first_as version_digits (pieces_of pieces.entry) }
-    ensures others { pieces_of result.1 ≡ behind_taken (lent result.0) (pieces_of pieces.entry) }
+    ensures taken { lent result.0 ≡ read_first version_digits (pieces_of pieces.entry) }
+    ensures others { pieces_of result.1 ≡ pieces_behind (lent result.0) (pieces_of pieces.entry) }
 {
     let Some(next) = pieces else {
         return (None, None);
@@ -84,8 +84,8 @@ fn take_version<'a>(pieces: Option<Cut<'a>>) -> (Option<&'a str>, Option<Cut<'a>
 
 // The parameters, and the pieces behind them.
 fn take_params<'a>(pieces: Option<Cut<'a>>) -> (Option<&'a str>, Option<Cut<'a>>)
-    ensures taken { lent result.0 ≡ first_as params_text (pieces_of pieces.entry) }
-    ensures others { pieces_of result.1 ≡ behind_taken (lent result.0) (pieces_of pieces.entry) }
+    ensures taken { lent result.0 ≡ read_first params_text (pieces_of pieces.entry) }
+    ensures others { pieces_of result.1 ≡ pieces_behind (lent result.0) (pieces_of pieces.entry) }
 {
     let Some(next) = pieces else {
         return (None, None);
@@ -97,12 +97,12 @@ fn take_params<'a>(pieces: Option<Cut<'a>>) -> (Option<&'a str>, Option<Cut<'a>>
 }
 
 // The parts from the salt on, behind these.
-fn salt_and_more<'a>(
+fn layout_from_salt<'a>(
     version: Option<&'a str>,
     params: Option<&'a str>,
     pieces: Option<Cut<'a>>,
 ) -> FormParts<'a>
-    ensures { parts_of result ≡ salt_and_more (lent version.entry) (lent params.entry) (pieces_of pieces.entry) }
+    ensures { parts_of result ≡ layout_from_salt (lent version.entry) (lent params.entry) (pieces_of pieces.entry) }
 {
     let Some(salt) = pieces else {
         return FormParts {
@@ -129,5 +129,5 @@ pub(crate) fn layout<'a>(pieces: Option<&'a str>) -> FormParts<'a>
 {
     let (version, pieces) = take_version(cut_off(pieces));
     let (params, pieces) = take_params(pieces);
-    salt_and_more(version, params, pieces)
+    layout_from_salt(version, params, pieces)
 }

@@ -8,9 +8,9 @@ ghost use Rattle.std.specs.Iterator.{IsFinite, DrainsIf};
 ghost use Rattle.std.specs.Option.{option_and_then, option_map};
 ghost use Rattle.pieces.specs.Pieces.{pieces_at, pieces_left};
 ghost use Rattle.phc.specs.Grammar.{cut_pairs, decimal_value, first_fault, is_empty, pair_fault, pair_of, text_fault, text_pairs};
-ghost use Rattle.phc.specs.Params.{add, add_bytes, add_each, add_named, appended, change, get, pairs_fault, pairs_text, params_or_fault, with_name};
+ghost use Rattle.phc.specs.Params.{add, add_bytes, add_each, add_named, appended, added_or_kept, get, pairs_fault, pairs_text, params_or_fault, with_name};
 
-use crate::ident::name_check;
+use crate::ident::is_name;
 use crate::value::has_value_bytes;
 use crate::{Decimal, Error, Ident, Result, Value};
 use base64ct::{Base64Unpadded, Encoding};
@@ -54,7 +54,7 @@ fn fault_of_pair(pair: &str) -> Option<Error>
     ensures { result ≡ pair_fault (pieces_at 61 pair.now) }
 {
     let (name, others) = first_piece(pair, '=');
-    if !name_check(name) {
+    if !is_name(name) {
         return Some(Error::ParamNameInvalid);
     }
     let Some(text) = others else {
@@ -163,7 +163,7 @@ impl ParamsString {
     /// Appends a pair. It refuses by `ParamNameDuplicated` where the name stands already, then by
     /// `ParamsMaxExceeded` where the longer text has more than 127 characters.
     pub fn add_str(&mut self, name: Ident, value: Value<'_>) -> Result<()>
-        ensures added { (result, self.new) ≡ change (add self.old name (value_text value.entry)) self.old }
+        ensures added { (result, self.new) ≡ added_or_kept (add self.old name (value_text value.entry)) self.old }
     {
         if self.get(name).is_some() {
             return Err(Error::ParamNameDuplicated);
@@ -180,7 +180,7 @@ impl ParamsString {
     /// Appends a pair whose value is the decimal of a number. It refuses as
     /// [`add_str`](ParamsString::add_str) does.
     pub fn add_decimal(&mut self, name: Ident, value: Decimal) -> Result<()>
-        ensures added { (result, self.new) ≡ change (add self.old name (decimal value)) self.old }
+        ensures added { (result, self.new) ≡ added_or_kept (add self.old name (decimal value)) self.old }
     {
         let mut digits = ShortBytes::new();
         digits.push_decimal(u64::from(value));
@@ -191,7 +191,7 @@ impl ParamsString {
     /// name stands already, then by `ParamValueTooLong` for more than 48 bytes, then by
     /// `ParamsMaxExceeded` where the longer text has more than 127 characters.
     pub fn add_b64_bytes(&mut self, name: Ident, bytes: &[u8]) -> Result<()>
-        ensures added { (result, self.new) ≡ change (add_bytes self.old name bytes.now) self.old }
+        ensures added { (result, self.new) ≡ added_or_kept (add_bytes self.old name bytes.now) self.old }
     {
         if self.get(name).is_some() {
             return Err(Error::ParamNameDuplicated);
@@ -209,7 +209,7 @@ impl ParamsString {
     /// Appends a pair. It refuses by `ParamNameInvalid` where `name` is no name, then by
     /// `ParamValueInvalid` where `value` is no value, then as [`add_str`](ParamsString::add_str) does.
     pub fn add_str_named(&mut self, name: &str, value: &str) -> Result<()>
-        ensures added { (result, self.new) ≡ change (add_named self.old name.now value.now) self.old }
+        ensures added { (result, self.new) ≡ added_or_kept (add_named self.old name.now value.now) self.old }
     {
         let name = match Ident::new(name) {
             Ok(name) => name,
@@ -225,7 +225,7 @@ impl ParamsString {
     /// `name` is no name, then as [`add_decimal`](ParamsString::add_decimal) does.
     pub fn add_decimal_named(&mut self, name: &str, value: Decimal) -> Result<()>
         ensures added { (result, self.new)
-            ≡ change (with_name name.now (add self.old name.now (decimal value))) self.old }
+            ≡ added_or_kept (with_name name.now (add self.old name.now (decimal value))) self.old }
     {
         match Ident::new(name) {
             Ok(name) => self.add_decimal(name, value),
@@ -237,7 +237,7 @@ impl ParamsString {
     /// is no name, then as [`add_b64_bytes`](ParamsString::add_b64_bytes) does.
     pub fn add_b64_bytes_named(&mut self, name: &str, bytes: &[u8]) -> Result<()>
         ensures added { (result, self.new)
-            ≡ change (with_name name.now (add_bytes self.old name.now bytes.now)) self.old }
+            ≡ added_or_kept (with_name name.now (add_bytes self.old name.now bytes.now)) self.old }
     {
         match Ident::new(name) {
             Ok(name) => self.add_b64_bytes(name, bytes),

@@ -240,7 +240,7 @@ impl PasswordHash {
         ensures printable { result ≡ is_printable self.now }
         ensures parses_back { IsTrue result → phc_text (record_text self.now) ≡ Ok self.now }
     {
-        tell_parts(self);
+        promised_by_parts(self);
         has_printable_parts(self)
     }
 
@@ -275,46 +275,46 @@ pub(crate) fn copy_of(parsed: &PasswordHash) -> PasswordHash
 }
 
 // What the type of a version promises.
-fn tell_version(version: Option<Decimal>)
+fn promised_by_version(version: Option<Decimal>)
     ensures { IfSome version (λ n. n < 2 ^ 32) }
 {
     let _ = version;
 }
 
 // What the type of bytes promises.
-fn tell_bytes(bytes: &[u8])
+fn promised_by_bytes(bytes: &[u8])
     ensures { EachBelow 256 bytes.now }
 {
     let _ = bytes;
 }
 
 // What the type of a salt promises.
-fn tell_salt(salt: Option<Salt>)
+fn promised_by_salt(salt: Option<Salt>)
     ensures { IfSome salt (λ b. EachBelow 256 b × (8 ≤ length b) × (length b ≤ 48)) }
 {
     if let Some(salt) = &salt {
-        tell_bytes(salt.as_bytes());
+        promised_by_bytes(salt.as_bytes());
     }
 }
 
 // What the type of a hash promises.
-fn tell_hash(hash: Option<Output>)
+fn promised_by_hash(hash: Option<Output>)
     ensures { IfSome hash (λ b. EachBelow 256 b × (10 ≤ length b) × (length b ≤ 64)) }
 {
     if let Some(hash) = &hash {
-        tell_bytes(hash.as_bytes());
+        promised_by_bytes(hash.as_bytes());
     }
 }
 
 // What the types of the parts of a record promise: the proofs of its callers need it, and nothing is done.
-pub(crate) fn tell_parts(parsed: &PasswordHash)
+pub(crate) fn promised_by_parts(parsed: &PasswordHash)
     ensures { IsRecord parsed.now }
 {
     let _ = parsed.algorithm.as_str();
     let _ = parsed.params.as_str();
-    tell_version(parsed.version);
-    tell_salt(parsed.salt);
-    tell_hash(parsed.hash);
+    promised_by_version(parsed.version);
+    promised_by_salt(parsed.salt);
+    promised_by_hash(parsed.hash);
 }
 
 // Whether the parameters are one single pair with the name `v`.

@@ -6,7 +6,7 @@ ghost use Rattle.std.specs.Cmp.Lexicographic.{pointwise, nat_list_eq_equiv};
 ghost use Rattle.phc.specs.Kept.{IsKept};
 ghost use Rattle.phc.specs.Record.{is_printable, phc_text, record_text};
 
-use crate::password_hash::{copy_of, tell_parts};
+use crate::password_hash::{copy_of, promised_by_parts};
 use crate::{Decimal, Ident, Output, ParamsString, PasswordHash, PhcStringError, Salt};
 use std::alloc::{AllocError, Global};
 use std::fmt;
@@ -52,7 +52,7 @@ impl PasswordHashString {
         requires printable { is_printable hash.now ≡ true }
         ensures same { IfOk result (λ h. h ≡ hash.now) }
     {
-        tell_parts(hash);
+        promised_by_parts(hash);
         let text = format!(in alloc; "{hash}")?;
         Ok(PasswordHashString {
             text,

@@ -15,7 +15,7 @@ use Rattle.pw_file.specs.Answers.{IsAnswer, bad_text, check_answer, check_may_la
 use Rattle.pw_file.specs.Calls.{is_want, rows_after_set, rows_after_upgrade}
 use Rattle.pw_file.specs.Commands as of
 use Rattle.pw_file.specs.History.{Lists, Reply, Rows, Says, change_of, is_done, is_upgraded, text_in}
-use Rattle.pw_file.specs.Lines.{AnswersOver, Asks, line_reply}
+use Rattle.pw_file.specs.Lines.{AnswersLineOver, Asks, line_reply}
 use Rattle.pw_file.specs.Replies.{check_word, error_word, is_costly_by, reply_by, set_word, upgrade_word}
 use Rattle.pw_file.specs.Rules.{changed, table_after, table_is_costly, table_reply}
 use Rattle.pw_file.specs.declared.error.FileError.{FileError}
@@ -86,7 +86,7 @@ module _ (old : Rows) (line : List ℕ) where
   after_is r is = ap (λ (reply : Reply). changed old (change_of (of.command line) reply)) is
 
   says : {A : Type 0} (answer : Result A FileError) (word : Word) (new : Rows) → is_want answer ≡ false → table_reply old line ≡ Says word
-      → new ≡ changed old (change_of (of.command line) (Says word)) → AnswersOver old line new (line_reply answer word)
+      → new ≡ changed old (change_of (of.command line) (Says word)) → AnswersLineOver old line new (line_reply answer word)
   says answer word new known is next = rw known (sym is, next ∙ sym (after_is (Says word) is))
 
   -- a reply that says of no change
@@ -105,7 +105,7 @@ module _ (old : Rows) (line : List ℕ) where
 
   pub set_answered : (user new : List ℕ) (after : Rows) (answer : Result (Unit {0}) FileError) → Asks line (of.Set user new)
       → IsAnswer (set_answer (text_in old user) (length old) new) (is_ok (set_answer (text_in old user) (length old) new)) answer
-      → after ≡ rows_after_set old user new answer → AnswersOver old line after (line_reply answer (set_word answer))
+      → after ≡ rows_after_set old user new answer → AnswersLineOver old line after (line_reply answer (set_word answer))
   set_answered user new after answer asks (inl is) rows =
       let known : is_want answer ≡ false = ap is_want is ∙ set_known (text_in old user) (length old) new in
       let word : table_reply old line ≡ Says (set_word answer) = reply_is old line _ asks.0 asks.1 ∙ ap (λ (a : Result (Unit {0}) FileError). Says (set_word a)) (sym is) in
@@ -123,7 +123,7 @@ module _ (old : Rows) (line : List ℕ) where
   check_next (Err e) = refusal e
 
   pub check_answered : (user password : List ℕ) (answer : Result Bool FileError) → Asks line (of.Check user password)
-      → IsAnswer (check_answer (text_in old user) password) (check_may_lack (text_in old user) password) answer → AnswersOver old line old (line_reply answer (check_word answer))
+      → IsAnswer (check_answer (text_in old user) password) (check_may_lack (text_in old user) password) answer → AnswersLineOver old line old (line_reply answer (check_word answer))
   check_answered user password answer asks (inl is) =
       let known : is_want answer ≡ false = ap is_want is ∙ check_known (text_in old user) password in
       let word : table_reply old line ≡ Says (check_word answer) = reply_is old line _ asks.0 asks.1 ∙ ap (λ (a : Result Bool FileError). Says (check_word a)) (sym is) in
@@ -142,7 +142,7 @@ module _ (old : Rows) (line : List ℕ) where
 
   pub upgrade_answered : (user salt password : List ℕ) (after : Rows) (answer : Result Bool FileError) → Asks line (of.Upgrade user salt password)
       → IsAnswer (upgrade_answer (text_in old user) password salt) (upgrade_may_lack (text_in old user) password salt) answer
-      → after ≡ rows_after_upgrade old user password salt answer → AnswersOver old line after (line_reply answer (upgrade_word answer))
+      → after ≡ rows_after_upgrade old user password salt answer → AnswersLineOver old line after (line_reply answer (upgrade_word answer))
   upgrade_answered user salt password after answer asks (inl is) rows =
       let known : is_want answer ≡ false = ap is_want is ∙ upgrade_known (text_in old user) password salt in
       let word : table_reply old line ≡ Says (upgrade_word answer) = reply_is old line _ asks.0 asks.1 ∙ ap (λ (a : Result Bool FileError). Says (upgrade_word a)) (sym is) in
@@ -154,19 +154,19 @@ module _ (old : Rows) (line : List ℕ) where
 
   -- ---- list, and lines that are no command
 
-  pub list_answered : Asks line of.Listing → AnswersOver old line old (Some replies.Listing)
+  pub list_answered : Asks line of.Listing → AnswersLineOver old line old (Some replies.Listing)
   list_answered asks =
       let is : table_reply old line ≡ Lists old = reply_is old line _ asks.0 asks.1 in
       let none : change_of (of.command line) (Lists old) ≡ None = rw asks.1 refl in
       (sym is, sym (after_is (Lists old) is ∙ ap (changed old) none))
 
-  word_answered : (word : Word) → table_reply old line ≡ Says word → is_done (Says word) ≡ false → is_upgraded (Says word) ≡ false → AnswersOver old line old (Some (replies.Word word))
+  word_answered : (word : Word) → table_reply old line ≡ Says word → is_done (Says word) ≡ false → is_upgraded (Says word) ≡ false → AnswersLineOver old line old (Some (replies.Word word))
   word_answered word is a b = (sym is, stays word a b ∙ sym (after_is (Says word) is))
 
-  pub bad_answered : length line ≤ 8192 → of.command line ≡ None → AnswersOver old line old (Some (replies.Word BadCommand))
+  pub bad_answered : length line ≤ 8192 → of.command line ≡ None → AnswersLineOver old line old (Some (replies.Word BadCommand))
   bad_answered short none = word_answered BadCommand (reply_is old line None short none) refl refl
 
-  pub long_answered : 8192 < length line → AnswersOver old line old (Some (replies.Word TooLong))
+  pub long_answered : 8192 < length line → AnswersLineOver old line old (Some (replies.Word TooLong))
   long_answered long = word_answered TooLong (long_reply old line long) refl refl
 
   pub long_after : 8192 < length line → old ≡ table_after old line

@@ -12,7 +12,7 @@ use Rattle.std.proofs.Common.{◌≤◌, rules}
 use Rattle.std.proofs.lemmas.List.{ext_get_or, length-map, get_or-map}
 use Rattle.std.proofs.lemmas.Bool.{and_parts}
 use Rattle.sha_crypt.specs.Digest.{sha_crypt_digest}
-use Rattle.sha_crypt.specs.Fields.{ShaFields, tested}
+use Rattle.sha_crypt.specs.Fields.{ShaFields, checked_hash}
 use Rattle.sha_crypt.specs.Check.{fields_answer}
 use Rattle.sha_crypt.specs.HashField.{is_hash_field, are_places, undoes, IsHashField, IsHashFieldOf}
 use Rattle.std.specs.Prelude.{is_some, IsErr, IfOk, ◌↔◌, ◌⊎◌, ◌++◌, drop}
@@ -68,7 +68,7 @@ decoded_of n bytes (Some b) h = kept n b bytes (length b == n) refl h
 -- what the bytes of the password's digest and of the hash field tell
 pub answer_same : (H : List ℕ → List ℕ) (places password : List ℕ) (n : ℕ) (f : ShaFields) (bytes digest m : List ℕ) (r : Bool)
     → field_bytes n f.hash ≡ Some bytes → digest ≡ sha_crypt_digest H password f.salt f.rounds → m ≡ in_order places digest → EachBelow 256 m → r ≡ pointwise nat_eq m bytes
-    → (if r then Ok tt else Err HashMismatch) ≡ fields_answer H places password (tested (is_hash_field n) (Ok f))
+    → (if r then Ok tt else Err HashMismatch) ≡ fields_answer H places password (checked_hash (is_hash_field n) (Ok f))
 answer_same H places password n f bytes digest m r found digest_is m_is small r_is =
     let same : pointwise nat_eq (in_order places digest) bytes ≡ pointwise nat_eq (hash_field places digest) f.hash =
     same_hash places digest bytes f.hash (rw m_is at small) (decoded_of n bytes (decoding base64_sha_crypt f.hash) found) in

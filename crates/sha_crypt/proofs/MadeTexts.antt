@@ -14,7 +14,7 @@ use Rattle.pieces.proofs.Cuts.{cut_joined}
 use Rattle.rand_core.specs.Stream.{Stream}
 use Rattle.sha_crypt.specs.Check.{check_answer, fields_answer, text_fields}
 use Rattle.sha_crypt.specs.Families.{Scheme, scheme_fields, sha256_answer, sha512_answer}
-use Rattle.sha_crypt.specs.Fields.{plain_number, sha_fields, short_salt, tested}
+use Rattle.sha_crypt.specs.Fields.{plain_number, sha_fields, short_salt, checked_hash}
 use Rattle.sha_crypt.specs.HashField.{is_hash_field}
 use Rattle.sha_crypt.specs.Records.{family_id, family_scheme, field_pieces, record_of, rounds_pieces}
 use Rattle.sha_crypt.specs.Simple.{characters, made_fields, made_text, sha256_text, sha512_text}
@@ -79,8 +79,8 @@ module _ (s : Scheme) (is : IsScheme s) (password salt : List ℕ) (n : ℕ) (le
   pub made_read : scheme_fields s (field_pieces (made_fields s password salt n)) ≡ Ok (made_fields s password salt n)
   unfolding sha_fields
   made_read =
-      ap (λ r. tested (is_hash_field s.size) (short_salt r)) (of_form plain_number (field_pieces (made_fields s password salt n)) (made_fields s password salt n) form)
-      ∙ ap (tested (is_hash_field s.size)) (ok_short (made_fields s password salt n) good.short)
+      ap (λ r. checked_hash (is_hash_field s.size) (short_salt r)) (of_form plain_number (field_pieces (made_fields s password salt n)) (made_fields s password salt n) form)
+      ∙ ap (checked_hash (is_hash_field s.size)) (ok_short (made_fields s password salt n) good.short)
       ∙ ok_tested s.size (made_fields s password salt n) (hash_is_field s is password salt n (omega (arith, least)))
 
 -- ---- the pieces

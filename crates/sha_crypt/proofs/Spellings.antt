@@ -14,7 +14,7 @@ use Rattle.pieces.proofs.Cuts.{cut_joined, join_pieces, pieces_lack}
 use Rattle.sha_crypt.specs.Check.{text_fields, from_front, from_identifier}
 use Rattle.sha_crypt.specs.Digest.{sha_crypt_digest}
 use Rattle.sha_crypt.specs.Families.{Scheme, scheme_fields, old_scheme_fields, scheme_hash_field}
-use Rattle.sha_crypt.specs.Fields.{ShaFields, by_form, cut_salt, old_fields, old_number, plain_number, sha_fields, short_salt, tested}
+use Rattle.sha_crypt.specs.Fields.{ShaFields, split_fields, cut_salt, old_fields, old_number, plain_number, sha_fields, short_salt, checked_hash}
 use Rattle.sha_crypt.specs.HashField.{is_hash_field, hash_field}
 use Rattle.sha_crypt.specs.Records.{family_id, family_scheme, field_pieces, old_record_of, record_of, record_text, rounds_part, rounds_pieces}
 use Rattle.sha_crypt.specs.declared.errors.CheckError.{CheckError}
@@ -47,13 +47,13 @@ record IsTested (n : ℕ) (r : Result ShaFields CheckError) (f : ShaFields) : Ty
   is : r ≡ Ok f
   field : is_hash_field n f.hash ≡ true
 
-tested_ok : (n : ℕ) (r : Result ShaFields CheckError) (f : ShaFields) → tested (is_hash_field n) r ≡ Ok f → IsTested n r f
+tested_ok : (n : ℕ) (r : Result ShaFields CheckError) (f : ShaFields) → checked_hash (is_hash_field n) r ≡ Ok f → IsTested n r f
 tested_ok n (Err e) f h = absurd cc
 tested_ok n (Ok g) f h =
     let both = where_so (is_hash_field n g.hash) _ (Ok g) f h in
     record { is = both.1; field = ap (λ (k : ShaFields). is_hash_field n k.hash) (sym (ok_same g f both.1)) ∙ both.0 }
 
-pub ok_tested : (n : ℕ) (f : ShaFields) → is_hash_field n f.hash ≡ true → tested (is_hash_field n) (Ok f) ≡ Ok f
+pub ok_tested : (n : ℕ) (f : ShaFields) → is_hash_field n f.hash ≡ true → checked_hash (is_hash_field n) (Ok f) ≡ Ok f
 ok_tested n f h = rw h refl
 
 not_above : (n : ℕ) → nat_lt 16 n ≡ false → n ≤ 16
@@ -89,10 +89,10 @@ pub record IsToday (s : Scheme) (pieces : List (List ℕ)) (f : ShaFields) : Typ
 pub today : (s : Scheme) (pieces : List (List ℕ)) (f : ShaFields) → scheme_fields s pieces ≡ Ok f → IsToday s pieces f
 unfolding sha_fields old_fields
 today s pieces f h =
-    let t = tested_ok s.size (short_salt (by_form plain_number pieces)) f h in
-    let short = short_ok (by_form plain_number pieces) f t.is in
+    let t = tested_ok s.size (short_salt (split_fields plain_number pieces)) f h in
+    let short = short_ok (split_fields plain_number pieces) f t.is in
     let form = form_of plain_number pieces f short.0 in
-    let old : by_form old_number pieces ≡ Ok f = of_form old_number pieces f (record { least = form.least; most = form.most; stands = today_by f.written pieces f form.stands }) in
+    let old : split_fields old_number pieces ≡ Ok f = of_form old_number pieces f (record { least = form.least; most = form.most; stands = today_by f.written pieces f form.stands }) in
     record { are = pieces_by f.written pieces f refl form.stands; short = short.1; old = rw old (ok_tested s.size f t.field) }
 
 -- where the salt doesn't name the rounds, its first bytes don't
@@ -113,16 +113,16 @@ cut_by false pieces f is least most h = (rw is refl, no_front f.salt h.1, h.2)
 -- the form of earlier pieces
 pub old_form : (s : Scheme) (pieces : List (List ℕ)) (f : ShaFields) → old_scheme_fields s pieces ≡ Ok f → HasForm old_number pieces f
 unfolding old_fields
-old_form s pieces f h = form_of old_number pieces f (tested_ok s.size (by_form old_number pieces) f h).is
+old_form s pieces f h = form_of old_number pieces f (tested_ok s.size (split_fields old_number pieces) f h).is
 
 -- the fields of earlier pieces, written anew
 pub written_anew : (s : Scheme) (pieces : List (List ℕ)) (f : ShaFields) → old_scheme_fields s pieces ≡ Ok f
     → scheme_fields s (field_pieces (cut_salt f)) ≡ Ok (cut_salt f)
 unfolding sha_fields old_fields
 written_anew s pieces f h =
-    let t = tested_ok s.size (by_form old_number pieces) f h in
+    let t = tested_ok s.size (split_fields old_number pieces) f h in
     let form = form_of old_number pieces f t.is in
-    let again : by_form plain_number (field_pieces (cut_salt f)) ≡ Ok (cut_salt f) = of_form plain_number (field_pieces (cut_salt f)) (cut_salt f)
+    let again : split_fields plain_number (field_pieces (cut_salt f)) ≡ Ok (cut_salt f) = of_form plain_number (field_pieces (cut_salt f)) (cut_salt f)
     (record { least = form.least; most = form.most; stands = cut_by f.written pieces f refl form.least form.most form.stands }) in
     rw (again, ok_short (cut_salt f) (length-cut f.salt)) (ok_tested s.size (cut_salt f) t.field)
 
@@ -176,7 +176,7 @@ fields_lack false pieces f is most h each =
 old_lack : (s : Scheme) (pieces : List (List ℕ)) (f : ShaFields) → old_scheme_fields s pieces ≡ Ok f → EachLacks 36 pieces → EachLacks 36 (field_pieces (cut_salt f))
 unfolding old_fields
 old_lack s pieces f h each =
-    let t = tested_ok s.size (by_form old_number pieces) f h in
+    let t = tested_ok s.size (split_fields old_number pieces) f h in
     let form = form_of old_number pieces f t.is in
     fields_lack f.written pieces f refl form.most form.stands each
 

@@ -48,8 +48,8 @@ pub record ShaFields : Type 0 where
   pub hash : List ℕ
 
 -- the rounds are in range
-abbrev pub within : ℕ → Bool → List ℕ → List ℕ → Result ShaFields CheckError
-within rounds written salt hash =
+abbrev pub fields_in_range : ℕ → Bool → List ℕ → List ℕ → Result ShaFields CheckError
+fields_in_range rounds written salt hash =
     if nat_lt rounds 1000 || nat_lt 999999999 rounds then Err (Crypt RoundsError)
     else Ok (record { rounds = rounds; written = written; salt = salt; hash = hash })
 
@@ -57,7 +57,7 @@ within rounds written salt hash =
 abbrev pub from_salt : ℕ → Bool → List (List ℕ) → Result ShaFields CheckError
 from_salt rounds written [] = Err (InvalidFormat NoSalt)
 from_salt rounds written (salt ∷ []) = Err (InvalidFormat NoHash)
-from_salt rounds written (salt ∷ (hash ∷ more)) = if is_nil more then within rounds written salt hash else Err (InvalidFormat Trailing)
+from_salt rounds written (salt ∷ (hash ∷ more)) = if is_nil more then fields_in_range rounds written salt hash else Err (InvalidFormat Trailing)
 
 -- behind a piece that gives the rounds
 abbrev pub with_rounds : Option ℕ → List (List ℕ) → Result ShaFields CheckError
@@ -70,9 +70,9 @@ by_rounds number None first pieces = from_salt 5000 false (first ∷ pieces)
 by_rounds number (Some digits) first pieces = if is_nil pieces then Err (InvalidFormat NoSalt) else with_rounds (number digits) pieces
 
 -- the fields by their form: all faults but those of the salt's length and of the hash
-abbrev pub by_form : (List ℕ → Option ℕ) → List (List ℕ) → Result ShaFields CheckError
-by_form number [] = Err (InvalidFormat NoFields)
-by_form number (first ∷ pieces) = by_rounds number (behind first (codes "rounds=")) first pieces
+abbrev pub split_fields : (List ℕ → Option ℕ) → List (List ℕ) → Result ShaFields CheckError
+split_fields number [] = Err (InvalidFormat NoFields)
+split_fields number (first ∷ pieces) = by_rounds number (behind first (codes "rounds=")) first pieces
 
 -- ---- the last faults
 
@@ -82,23 +82,23 @@ short_salt (Err e) = Err e
 short_salt (Ok f) = if nat_lt 16 (length f.salt) then Err (InvalidFormat SaltTooLong) else Ok f
 
 -- the text of the hash is a hash field
-abbrev pub tested : (List ℕ → Bool) → Result ShaFields CheckError → Result ShaFields CheckError
-tested is_hash_field (Err e) = Err e
-tested is_hash_field (Ok f) = if is_hash_field f.hash then Ok f else Err (InvalidFormat Base64)
+abbrev pub checked_hash : (List ℕ → Bool) → Result ShaFields CheckError → Result ShaFields CheckError
+checked_hash is_hash_field (Err e) = Err e
+checked_hash is_hash_field (Ok f) = if is_hash_field f.hash then Ok f else Err (InvalidFormat Base64)
 
 -- all faults but the last
 abbrev pub formed : List (List ℕ) → Result ShaFields CheckError
-formed pieces = short_salt (by_form plain_number pieces)
+formed pieces = short_salt (split_fields plain_number pieces)
 
 -- the fields behind the identifier, or their first fault; `is_hash_field` tells the hash fields
 unfoldable pub sha_fields : (List ℕ → Bool) → List (List ℕ) → Result ShaFields CheckError
-sha_fields is_hash_field pieces = tested is_hash_field (formed pieces)
+sha_fields is_hash_field pieces = checked_hash is_hash_field (formed pieces)
 
 -- ---- earlier texts
 
 -- the same with the rounds as they once could be written, and a salt of any length
 unfoldable pub old_fields : (List ℕ → Bool) → List (List ℕ) → Result ShaFields CheckError
-old_fields is_hash_field pieces = tested is_hash_field (by_form old_number pieces)
+old_fields is_hash_field pieces = checked_hash is_hash_field (split_fields old_number pieces)
 
 -- the fields with the bytes of the salt that count
 abbrev pub cut_salt : ShaFields → ShaFields

@@ -3,7 +3,7 @@
 ghost use Rattle.std.specs.Prelude.{◌≡◌, ◌≤◌, ◌+◌, ◌*◌, ◌/◌, ◌^◌, Ok, false, true};
 ghost use Rattle.base64ct.specs.Encoding.{unpadded_len};
 ghost use Rattle.sha_crypt.specs.Check.{check_answer, fields_answer, is_verdict};
-ghost use Rattle.sha_crypt.specs.Fields.{tested};
+ghost use Rattle.sha_crypt.specs.Fields.{checked_hash};
 ghost use Rattle.sha_crypt.specs.HashField.{are_places, is_hash_field};
 ghost use Rattle.sha_crypt.specs.Views.{fields_of};
 
@@ -26,7 +26,7 @@ fn check_parts<const N: usize, H: Hasher<N>>(
     requires places { are_places N places.now ≡ true }
     requires looks { counts.old.looks ≤ 2 ^ 62 }
     requires sames { counts.old.sames ≤ 2 ^ 62 }
-    ensures answer { result ≡ fields_answer H.hash places.now password.now (tested (is_hash_field N) (Ok (fields_of parts.entry))) }
+    ensures answer { result ≡ fields_answer H.hash places.now password.now (checked_hash (is_hash_field N) (Ok (fields_of parts.entry))) }
     ensures looks { is_verdict result ≡ true → counts.new.looks ≡ counts.old.looks + (4 * (unpadded_len N / 4) + 4) }
     ensures sames { is_verdict result ≡ true → counts.new.sames ≡ counts.old.sames + (4 + N) }
     ensures looks_stay { counts.old.looks ≤ counts.new.looks }

@@ -16,7 +16,7 @@ use Rattle.phc.specs.declared.error.Error as phc_error
 use Rattle.phc.specs.declared.error.Error.TheVariants as phc_fault
 use Rattle.phc.specs.declared.password_hash.PasswordHash.{PasswordHash}
 use Rattle.sha_crypt.specs.Families.{Scheme, scheme_fields}
-use Rattle.sha_crypt.specs.Fields.{ShaFields, by_form, by_rounds, formed, from_salt, plain_number, sha_fields, short_salt, tested, with_rounds, within}
+use Rattle.sha_crypt.specs.Fields.{ShaFields, split_fields, by_rounds, formed, from_salt, plain_number, sha_fields, short_salt, checked_hash, with_rounds, fields_in_range}
 use Rattle.sha_crypt.specs.HashField.{is_hash_field}
 use Rattle.sha_crypt.specs.declared.errors.CheckError.{CheckError}
 use Rattle.stored_check.specs.Names.{mcf_named, phc_named, sha_named}
@@ -74,7 +74,7 @@ sha_if false x y hx hy = hy
 sha_salt : (n : ℕ) (w : Bool) (pieces : List (List ℕ)) → Sha (from_salt n w pieces)
 sha_salt n w [] = refl
 sha_salt n w (s ∷ []) = refl
-sha_salt n w (s ∷ (h ∷ more)) = sha_if (is_nil more) (within n w s h) _ (sha_if (nat_lt n 1000 || nat_lt 999999999 n) _ _ refl tt) refl
+sha_salt n w (s ∷ (h ∷ more)) = sha_if (is_nil more) (fields_in_range n w s h) _ (sha_if (nat_lt n 1000 || nat_lt 999999999 n) _ _ refl tt) refl
 
 sha_with : (o : Option ℕ) (pieces : List (List ℕ)) → Sha (with_rounds o pieces)
 sha_with None pieces = refl
@@ -84,7 +84,7 @@ sha_rounds : (o : Option (List ℕ)) (first : List ℕ) (pieces : List (List ℕ
 sha_rounds None first pieces = sha_salt 5000 false (first ∷ pieces)
 sha_rounds (Some digits) first pieces = sha_if (is_nil pieces) _ (with_rounds (plain_number digits) pieces) refl (sha_with (plain_number digits) pieces)
 
-sha_form : (pieces : List (List ℕ)) → Sha (by_form plain_number pieces)
+sha_form : (pieces : List (List ℕ)) → Sha (split_fields plain_number pieces)
 sha_form [] = refl
 sha_form (first ∷ pieces) = sha_rounds (behind first (codes "rounds=")) first pieces
 
@@ -92,13 +92,13 @@ sha_short : (r : Result ShaFields CheckError) → Sha r → Sha (short_salt r)
 sha_short (Err e) h = h
 sha_short (Ok f) h = sha_if (nat_lt 16 (length f.salt)) _ (Ok f) refl tt
 
-sha_tested : (t : List ℕ → Bool) (r : Result ShaFields CheckError) → Sha r → Sha (tested t r)
-sha_tested t (Err e) h = h
-sha_tested t (Ok f) h = sha_if (t f.hash) (Ok f) _ tt refl
+sha_checked : (t : List ℕ → Bool) (r : Result ShaFields CheckError) → Sha r → Sha (checked_hash t r)
+sha_checked t (Err e) h = h
+sha_checked t (Ok f) h = sha_if (t f.hash) (Ok f) _ tt refl
 
 of_sha : (s : Scheme) (pieces : List (List ℕ)) → Sha (scheme_fields s pieces)
 unfolding sha_fields
-of_sha s pieces = sha_tested (is_hash_field s.size) (formed pieces) (sha_short (by_form plain_number pieces) (sha_form pieces))
+of_sha s pieces = sha_checked (is_hash_field s.size) (formed pieces) (sha_short (split_fields plain_number pieces) (sha_form pieces))
 
 sha_by : (r : Result ShaFields CheckError) (e : CheckError) → Sha r → r ≡ Err e → sha_named (sha_name e) ≡ e
 sha_by (Ok f) e h is = absurd cc
