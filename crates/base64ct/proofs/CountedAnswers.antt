@@ -1,11 +1,14 @@
 -- What decoding by a table and a test answers, over plain lists.
-use Rattle.std.proofs.Common.{◌≡◌, ◌≢◌, ℕ, ◌+◌, ◌-◌, ◌*◌, ◌/◌, ◌%◌, ◌==◌, ◌<◌, ◌≤◌, Bool, true, false, cond, not, ◌&&◌, ◌||◌, List, [], ◌∷◌, length, map, take, drop, refl, sym, ap, ◌∙◌, subst, arith, inl, inr}
+use Rattle.std.proofs.Common.{◌≡◌, ◌≢◌, ℕ, ◌+◌, ◌-◌, ◌*◌, ◌/◌, ◌%◌, ◌==◌, ◌<◌, ◌≤◌, Bool, true, false, cond, not, ◌&&◌}
+use Rattle.std.proofs.Common.{◌||◌, List, [], ◌∷◌, length, map, take, drop, refl, sym, ap, ◌∙◌, subst, arith, inl, inr}
 use Rattle.std.specs.Cmp.Lexicographic.{pointwise, same_text}
 use Rattle.std.specs.Prelude.{nat_lt}
 use Rattle.std.proofs.lemmas.Bool.{cases_eq, ne_eqb, eq-eqb, false≢true, le-ltb}
 use Rattle.std.proofs.lemmas.List.{length-map, length-take-le, length-drop, take_at, nil_from_length}
 use Rattle.std.proofs.lemmas.List.Sums.{count_by-le-length}
-use Rattle.base64ct.specs.Encoding.{Alphabet, is_alphabet, character, unpadded_encoding, encoding, byte_count, padding_len, equals_sign, decoded_len, EachBelow, AreCharacters, IsMisaligned, Reads, IsLenient}
+use Rattle.base64ct.specs.Encoding.{Alphabet, is_alphabet, character, unpadded_encoding, encoding, byte_count}
+use Rattle.base64ct.specs.Encoding.{padding_len, equals_sign, decoded_len, EachBelow, AreCharacters, IsMisaligned}
+use Rattle.base64ct.specs.Encoding.{Reads, IsLenient}
 use Rattle.base64ct.specs.Tables.{stem, filled, last_four, compared, reencoded, Passes}
 use Rattle.base64ct.specs.Counts.{is_refused, look_count, comparison_count}
 use Rattle.base64ct.proofs.Values.{value_at, map-value-character}
@@ -35,20 +38,24 @@ empty_text a t ok none = go a.padded refl
     go false e = omega (arith, padding_len_none a t e)
     go true e = omega (arith, padding_len_small a t, aligned_from a t ok e)
 
-refused_of : (p : Bool) (n d room : ℕ) → (p ≡ true → n % 4 ≡ 0) → d ≤ room → ((p && not (n % 4 == 0)) || nat_lt room d) ≡ false
+refused_of : (p : Bool) (n d room : ℕ) → (p ≡ true → n % 4 ≡ 0) → d ≤ room
+    → ((p && not (n % 4 == 0)) || nat_lt room d) ≡ false
 refused_of false n d room ok fits = le-ltb room d fits
 refused_of true n d room ok fits = rw (ok refl) (le-ltb room d fits)
 
-pub not_refused : (a : Alphabet) (t : List ℕ) (room : ℕ) → (IsMisaligned a t → ⊥) → decoded_len a t ≤ room → is_refused a t room ≡ false
+pub not_refused : (a : Alphabet) (t : List ℕ) (room : ℕ) → (IsMisaligned a t → ⊥) → decoded_len a t ≤ room
+    → is_refused a t room ≡ false
 not_refused a t room ok fits = refused_of a.padded (length t) (decoded_len a t) room (aligned_from a t ok) fits
 
 abbrev four_unless : Bool → ℕ
 four_unless b = cond b 0 4
 
-pub comparisons : (a : Alphabet) (t s : List ℕ) (count room : ℕ) → count ≡ padding_len a t → s ≡ take (length t - count) t → (IsMisaligned a t → ⊥) → decoded_len a t ≤ room
+pub comparisons : (a : Alphabet) (t s : List ℕ) (count room : ℕ) → count ≡ padding_len a t
+    → s ≡ take (length t - count) t → (IsMisaligned a t → ⊥) → decoded_len a t ≤ room
     → comparison_count a t room ≡ four_unless (length s == 0)
 comparisons a t s count room e es ok fits =
-    let len : length s ≡ length t - padding_len a t = ap length es ∙ length-take-le (length t - count) t (omega arith) ∙ rw e refl in
+    let len : length s ≡ length t - padding_len a t =
+    ap length es ∙ length-take-le (length t - count) t (omega arith) ∙ rw e refl in
     let same : (length t == 0) ≡ (length s == 0) = elim (cases_eq (length s) 0) [
       | inl none ↦ eq-eqb (length t) 0 (empty_text a t ok (omega arith)) ∙ sym (eq-eqb (length s) 0 none)
       | inr some ↦ ne_eqb (length t) 0 (λ none. some (omega arith)) ∙ sym (ne_eqb (length s) 0 some)
@@ -61,14 +68,16 @@ pub lenient_once : (a : Alphabet) (t b c : List ℕ) → is_alphabet a ≡ true 
 lenient_once a t b c lawful (vs, hv, oddv, isv, eb) (ws, hw, oddw, isw, ec) =
     let sv : stem a t ≡ map (character a) vs = ap (λ (x : List ℕ). stem a x) isv ∙ stem-text a vs lawful hv oddv in
     let sw : stem a t ≡ map (character a) ws = ap (λ (x : List ℕ). stem a x) isw ∙ stem-text a ws lawful hw oddw in
-    let same : vs ≡ ws = sym (map-value-character a vs lawful hv) ∙ ap (λ (x : List ℕ). map (value_at a.characters) x) (sym sv ∙ sw) ∙ map-value-character a ws lawful hw in
+    let same : vs ≡ ws = sym (map-value-character a vs lawful hv)
+    ∙ ap (λ (x : List ℕ). map (value_at a.characters) x) (sym sv ∙ sw) ∙ map-value-character a ws lawful hw in
     eb ∙ rw same (sym ec)
 
 stem_short : (a : Alphabet) (t : List ℕ) → length (stem a t) ≡ length t - padding_len a t
 stem_short a t = length-take-le (length t - padding_len a t) t (omega arith)
 
 -- the compared block begins behind whole fours
-compared-at : (a : Alphabet) (t : List ℕ) (u : ℕ) → u ≡ length t - padding_len a t → u ≢ 0 → compared a t ≡ filled a (drop (4 * ((u - 1) / 4)) (stem a t))
+compared-at : (a : Alphabet) (t : List ℕ) (u : ℕ) → u ≡ length t - padding_len a t → u ≢ 0
+    → compared a t ≡ filled a (drop (4 * ((u - 1) / 4)) (stem a t))
 compared-at a t u e some =
     let ls = stem_short a t in
     let at : length (stem a t) - last_four (length (stem a t)) ≡ 4 * ((u - 1) / 4) = omega (arith, ls, e) in
@@ -84,34 +93,47 @@ reencoded-at a t b u e some len =
 -- the comparison of the characters of s from a whole four on with those of its bytes
 abbrev pub Compares : (ℕ → ℕ → Bool) → Alphabet → List ℕ → List ℕ → Bool → Type 0
 Compares r a s bytes passed = length s ≢ 0 → length s % 4 ≢ 1
-    → passed ≡ pointwise r (filled a (drop (4 * ((length s - 1) / 4)) s)) (filled a (unpadded_encoding a (drop (3 * ((length s - 1) / 4)) bytes)))
+    → passed ≡ pointwise r (filled a (drop (4 * ((length s - 1) / 4)) s))
+    (filled a (unpadded_encoding a (drop (3 * ((length s - 1) / 4)) bytes)))
 
 -- it tells of the compared block
-compared_is : (r : ℕ → ℕ → Bool) (a : Alphabet) (t dst s : List ℕ) (count n : ℕ) (passed : Bool) → count ≡ padding_len a t → s ≡ take (length t - count) t → (IsMisaligned a t → ⊥)
-    → n ≡ byte_count (length s) → n ≤ length dst → (values : List ℕ) × Reads a s values (take n dst) → Compares r a s (take n dst) passed
+compared_is : (r : ℕ → ℕ → Bool) (a : Alphabet) (t dst s : List ℕ) (count n : ℕ) (passed : Bool)
+    → count ≡ padding_len a t → s ≡ take (length t - count) t → (IsMisaligned a t → ⊥)
+    → n ≡ byte_count (length s) → n ≤ length dst → (values : List ℕ) × Reads a s values (take n dst)
+    → Compares r a s (take n dst) passed
     → length t ≢ 0 → passed ≡ pointwise r (compared a t) (reencoded a t (take n dst))
 compared_is r a t dst s count n passed e es ok en room (values, reads) tell some =
-    let len : length s ≡ length t - padding_len a t = ap length es ∙ length-take-le (length t - count) t (omega arith) ∙ rw e refl in
+    let len : length s ≡ length t - padding_len a t =
+    ap length es ∙ length-take-le (length t - count) t (omega arith) ∙ rw e refl in
     let ne : length s ≢ 0 = λ none. some (empty_text a t ok (omega arith)) in
     let lv : length s ≡ length values = ap length reads.2 ∙ length-map values (character a) in
     let odd : length s % 4 ≢ 1 = λ one. reads.1 (omega arith) in
     let held : s ≡ stem a t = es ∙ rw e refl in
-    let blocks : filled a (drop (4 * ((length s - 1) / 4)) s) ≡ compared a t = ap (λ (x : List ℕ). filled a (drop (4 * ((length s - 1) / 4)) x)) held ∙ sym (compared-at a t (length s) len ne) in
-    let own : filled a (unpadded_encoding a (drop (3 * ((length s - 1) / 4)) (take n dst))) ≡ reencoded a t (take n dst) = sym (reencoded-at a t (take n dst) (length s) len ne (length-take-le n dst room ∙ en)) in
+    let blocks : filled a (drop (4 * ((length s - 1) / 4)) s) ≡ compared a t =
+    ap (λ (x : List ℕ). filled a (drop (4 * ((length s - 1) / 4)) x)) held
+    ∙ sym (compared-at a t (length s) len ne) in
+    let own : filled a (unpadded_encoding a (drop (3 * ((length s - 1) / 4)) (take n dst)))
+    ≡ reencoded a t (take n dst) =
+    sym (reencoded-at a t (take n dst) (length s) len ne (length-take-le n dst room ∙ en)) in
     tell ne odd ∙ rw (blocks, own) refl
 
-pub found : (r : ℕ → ℕ → Bool) (a : Alphabet) (t dst s : List ℕ) (count n : ℕ) (passed : Bool) → is_alphabet a ≡ true → count ≡ padding_len a t → s ≡ take (length t - count) t → (IsMisaligned a t → ⊥)
-    → n ≡ byte_count (length s) → n ≤ length dst → (values : List ℕ) × Reads a s values (take n dst) → Compares r a s (take n dst) passed → passed ≡ true
+pub found : (r : ℕ → ℕ → Bool) (a : Alphabet) (t dst s : List ℕ) (count n : ℕ) (passed : Bool) → is_alphabet a ≡ true
+    → count ≡ padding_len a t → s ≡ take (length t - count) t → (IsMisaligned a t → ⊥)
+    → n ≡ byte_count (length s) → n ≤ length dst → (values : List ℕ) × Reads a s values (take n dst)
+    → Compares r a s (take n dst) passed → passed ≡ true
     → (n ≡ decoded_len a t) × IsLenient a t (take n dst) × Passes r a t (take n dst)
 unfolding Passes
 found r a t dst s count n passed lawful e es ok en room reads tell yes_passed =
-    let len : length s ≡ length t - padding_len a t = ap length es ∙ length-take-le (length t - count) t (omega arith) ∙ rw e refl in (
+    let len : length s ≡ length t - padding_len a t =
+    ap length es ∙ length-take-le (length t - count) t (omega arith) ∙ rw e refl in (
       en ∙ rw len refl,
-      lenient_found a t dst count n lawful e ok (subst (λ (x : List ℕ). (values : List ℕ) × Reads a x values (take n dst)) es reads),
+      lenient_found a t dst count n lawful e ok
+          (subst (λ (x : List ℕ). (values : List ℕ) × Reads a x values (take n dst)) es reads),
       λ some. sym (compared_is r a t dst s count n passed e es ok en room reads tell some) ∙ yes_passed,
     )
 
-pub refused : (r : ℕ → ℕ → Bool) (a : Alphabet) (t dst s : List ℕ) (count n : ℕ) (read passed : Bool) → is_alphabet a ≡ true → count ≡ padding_len a t → s ≡ take (length t - count) t → (IsMisaligned a t → ⊥)
+pub refused : (r : ℕ → ℕ → Bool) (a : Alphabet) (t dst s : List ℕ) (count n : ℕ) (read passed : Bool)
+    → is_alphabet a ≡ true → count ≡ padding_len a t → s ≡ take (length t - count) t → (IsMisaligned a t → ⊥)
     → n ≡ byte_count (length s) → n ≤ length dst → (read ≡ true → (values : List ℕ) × Reads a s values (take n dst))
     → (length s % 4 ≢ 1 → AreCharacters a s → read ≡ true)
     → Compares r a s (take n dst) passed → (length s ≡ 0 → passed ≡ true) → (read && passed) ≡ false
@@ -119,20 +141,26 @@ pub refused : (r : ℕ → ℕ → Bool) (a : Alphabet) (t dst s : List ℕ) (co
 unfolding Passes
 refused r a t dst s count n false passed lawful e es ok en room reads accepted tell empty none b lenient pass =
     let len : length s ≡ length t - count = ap length es ∙ length-take-le (length t - count) t (omega arith) in
-    lenient_refused a t count false lawful e refl (λ odd all. accepted (λ one. odd (omega arith)) (subst (AreCharacters a) (sym es) all)) b lenient
-refused r a t dst s count n true true lawful e es ok en room reads accepted tell empty none b lenient pass = false≢true (sym none)
+    lenient_refused a t count false lawful e refl
+    (λ odd all. accepted (λ one. odd (omega arith)) (subst (AreCharacters a) (sym es) all)) b lenient
+refused r a t dst s count n true true lawful e es ok en room reads accepted tell empty none b lenient pass =
+    false≢true (sym none)
 refused r a t dst s count n true false lawful e es ok en room reads accepted tell empty none b lenient pass =
     let len : length s ≡ length t - count = ap length es ∙ length-take-le (length t - count) t (omega arith) in
-    let lenient2 : IsLenient a t (take n dst) = lenient_found a t dst count n lawful e ok (subst (λ (x : List ℕ). (values : List ℕ) × Reads a x values (take n dst)) es (reads refl)) in
+    let lenient2 : IsLenient a t (take n dst) =
+    lenient_found a t dst count n lawful e ok
+    (subst (λ (x : List ℕ). (values : List ℕ) × Reads a x values (take n dst)) es (reads refl)) in
     let same : b ≡ take n dst = lenient_once a t b (take n dst) lawful lenient lenient2 in
     elim (cases_eq (length t) 0) [
       | inl nothing ↦ false≢true (empty (omega arith))
-      | inr some ↦ false≢true (compared_is r a t dst s count n false e es ok en room (reads refl) tell some ∙ rw (← same) (pass some))
+      | inr some ↦ false≢true (compared_is r a t dst s count n false e es ok en room (reads refl) tell some
+          ∙ rw (← same) (pass some))
     ]
 
 -- ---- where the test is equality
 
-pointwise-same : (r : ℕ → ℕ → Bool) (xs ys : List ℕ) → ((x y : ℕ) → r x y ≡ (x == y)) → pointwise r xs ys ≡ pointwise (λ x y. x == y) xs ys
+pointwise-same : (r : ℕ → ℕ → Bool) (xs ys : List ℕ) → ((x y : ℕ) → r x y ≡ (x == y))
+    → pointwise r xs ys ≡ pointwise (λ x y. x == y) xs ys
 pointwise-same r [] [] h = refl
 pointwise-same r [] (y ∷ ys) h = refl
 pointwise-same r (x ∷ xs) [] h = refl
@@ -147,9 +175,11 @@ front_of a xs n e = take_at xs _ n (sym e)
 
 -- what is filled alike was alike
 unfilled : (a : Alphabet) (xs ys : List ℕ) → length xs ≡ length ys → filled a xs ≡ filled a ys → xs ≡ ys
-unfilled a xs ys len e = sym (front_of a xs (length xs) refl) ∙ ap (λ (x : List ℕ). take (length xs) x) e ∙ front_of a ys (length xs) len
+unfilled a xs ys len e =
+    sym (front_of a xs (length xs) refl) ∙ ap (λ (x : List ℕ). take (length xs) x) e ∙ front_of a ys (length xs) len
 
-pub encoding_found : (r : ℕ → ℕ → Bool) (a : Alphabet) (t b : List ℕ) → is_alphabet a ≡ true → EachBelow 256 b → (IsMisaligned a t → ⊥) → length b ≡ decoded_len a t
+pub encoding_found : (r : ℕ → ℕ → Bool) (a : Alphabet) (t b : List ℕ) → is_alphabet a ≡ true → EachBelow 256 b
+    → (IsMisaligned a t → ⊥) → length b ≡ decoded_len a t
     → ((x y : ℕ) → r x y ≡ (x == y)) → IsLenient a t b → Passes r a t b → t ≡ encoding a b
 unfolding Passes
 encoding_found r a t b lawful below ok len equal lenient pass =
@@ -166,7 +196,8 @@ encoding_found r a t b lawful below ok len equal lenient pass =
           let ns : drop (4 * q) (stem a t) ≡ [] = nil_from_length (drop (4 * q) (stem a t)) (omega arith) in
           rw (nb, ns) (unpadded-nil a)
       | inr some ↦
-          let same : compared a t ≡ reencoded a t b = same_text _ _ (sym (sym (pointwise-same r (compared a t) (reencoded a t b) equal) ∙ pass some)) in
+          let same : compared a t ≡ reencoded a t b =
+          same_text _ _ (sym (sym (pointwise-same r (compared a t) (reencoded a t b) equal) ∙ pass some)) in
           let full : 0 < u = nonempty some in
           let alike : filled a (drop (4 * q) (stem a t)) ≡ filled a (unpadded_encoding a (drop (3 * q) b)) =
           sym (compared-at a t u refl (omega arith)) ∙ same ∙ reencoded-at a t b u refl (omega arith) len in
@@ -175,25 +206,33 @@ encoding_found r a t b lawful below ok len equal lenient pass =
     encoding_from_lenient a t b q lawful below (omega arith) lenient last
   where
     nonempty : length t ≢ 0 → 0 < length t - padding_len a t
-    nonempty some = elim (cases_eq (length t - padding_len a t) 0) [ inl none ↦ absurd (some (empty_text a t ok none)) | inr more ↦ omega arith ]
+    nonempty some = elim (cases_eq (length t - padding_len a t) 0) [
+      | inl none ↦ absurd (some (empty_text a t ok none))
+      | inr more ↦ omega arith
+    ]
 
     stem_len : (l : IsLenient a t b) → length l.0 % 4 ≡ (length t - padding_len a t) % 4
     stem_len (values, hv, odd, is, bytes) =
-        let s : stem a t ≡ map (character a) values = ap (λ (x : List ℕ). stem a x) is ∙ stem-text a values lawful hv odd in
-        let n : length values ≡ length t - padding_len a t = sym (length-map values (character a)) ∙ sym (ap length s) ∙ stem_short a t in
+        let s : stem a t ≡ map (character a) values =
+        ap (λ (x : List ℕ). stem a x) is ∙ stem-text a values lawful hv odd in
+        let n : length values ≡ length t - padding_len a t =
+        sym (length-map values (character a)) ∙ sym (ap length s) ∙ stem_short a t in
         ap (λ (m : ℕ). m % 4) n
 
-encoded_count : (a : Alphabet) (t b : List ℕ) → is_alphabet a ≡ true → EachBelow 256 b → t ≡ encoding a b → length b ≡ byte_count (length t - padding_len a t)
+encoded_count : (a : Alphabet) (t b : List ℕ) → is_alphabet a ≡ true → EachBelow 256 b → t ≡ encoding a b
+    → length b ≡ byte_count (length t - padding_len a t)
 encoded_count a t b lawful below is =
     let ls = stem_short a t in
     let lu = length-unpadded a b below in
-    let same : length (stem a t) ≡ length (unpadded_encoding a b) = ap length (ap (λ (x : List ℕ). stem a x) is ∙ stem-encoding a b lawful below) in
+    let same : length (stem a t) ≡ length (unpadded_encoding a b) =
+    ap length (ap (λ (x : List ℕ). stem a x) is ∙ stem-encoding a b lawful below) in
     omega (arith, ls, lu, same)
 
 aligned_text : (a : Alphabet) (t b : List ℕ) → t ≡ encoding a b → IsMisaligned a t → ⊥
 aligned_text a t b is wrong = wrong.1 (ap (λ (x : List ℕ). length x % 4) is ∙ length-encoding_padded a b wrong.0)
 
-pub encoding_passes : (r : ℕ → ℕ → Bool) (a : Alphabet) (t b : List ℕ) → is_alphabet a ≡ true → EachBelow 256 b → ((x y : ℕ) → r x y ≡ (x == y)) → t ≡ encoding a b → IsLenient a t b × Passes r a t b
+pub encoding_passes : (r : ℕ → ℕ → Bool) (a : Alphabet) (t b : List ℕ) → is_alphabet a ≡ true → EachBelow 256 b
+    → ((x y : ℕ) → r x y ≡ (x == y)) → t ≡ encoding a b → IsLenient a t b × Passes r a t b
 unfolding Passes
 encoding_passes r a t b lawful below equal is =
     let q : ℕ = (length t - padding_len a t - 1) / 4 in
@@ -203,8 +242,12 @@ encoding_passes r a t b lawful below equal is =
     let lb : length b ≡ byte_count u = encoded_count a t b lawful below is in
     let full : length t ≢ 0 → u ≢ 0 = λ some none. some (empty_text a t (aligned_text a t b is) none) in
     let alike : length t ≢ 0 → compared a t ≡ reencoded a t b = λ some.
-    compared-at a t u refl (full some) ∙ ap (λ (x : List ℕ). filled a x) (sym both.1) ∙ sym (reencoded-at a t b u refl (full some) lb) in
-    (both.0, λ some. pointwise-same r (compared a t) (reencoded a t b) equal ∙ rw (alike some) (pointwise-refl (reencoded a t b)))
+    compared-at a t u refl (full some) ∙ ap (λ (x : List ℕ). filled a x) (sym both.1)
+    ∙ sym (reencoded-at a t b u refl (full some) lb) in (
+      both.0,
+      λ some. pointwise-same r (compared a t) (reencoded a t b) equal
+          ∙ rw (alike some) (pointwise-refl (reencoded a t b)),
+    )
 
 abbrev looks_unless : ℕ → Bool → ℕ
 looks_unless n b = cond b 0 (4 * (n / 4) + 4)

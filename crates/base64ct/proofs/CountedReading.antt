@@ -1,11 +1,14 @@
 -- What decoding by a table and a test rests on.
-use Rattle.std.proofs.Common.{◌≡◌, ◌≢◌, ℕ, ◌+◌, ◌-◌, ◌*◌, ◌/◌, ◌%◌, ◌≤◌, Bool, true, false, ◌&&◌, List, [], ◌∷◌, ◌++◌, length, take, drop, replicate, slice_index, None, bit_or, inl, inr, refl, sym, ap, ◌∙◌, subst, arith}
+use Rattle.std.proofs.Common.{◌≡◌, ◌≢◌, ℕ, ◌+◌, ◌-◌, ◌*◌, ◌/◌, ◌%◌, ◌≤◌, Bool, true, false, ◌&&◌, List, [], ◌∷◌, ◌++◌}
+use Rattle.std.proofs.Common.{length, take, drop, replicate, slice_index, None, bit_or, inl, inr, refl, sym, ap, ◌∙◌}
+use Rattle.std.proofs.Common.{subst, arith}
 use Rattle.std.specs.Prelude.{◌==◌, nat_eq, not, if◌then◌else◌}
 use Rattle.std.specs.Cmp.Lexicographic.{pointwise}
 use Rattle.std.proofs.lemmas.Bool.{cases_eq, ne_eqb}
 use Rattle.std.proofs.lemmas.List.{append-nil, length-map, length-take-le, length-drop, get_or-drop}
 use borrow.Rule.Slice.PartMut.{put_mid}
-use Rattle.base64ct.specs.Encoding.{Alphabet, is_alphabet, character, value_of, unpadded_encoding, whole_bytes, byte_count, EachBelow, AreCharacters, Reads}
+use Rattle.base64ct.specs.Encoding.{Alphabet, is_alphabet, character, value_of, unpadded_encoding, whole_bytes}
+use Rattle.base64ct.specs.Encoding.{byte_count, EachBelow, AreCharacters, Reads}
 use Rattle.base64ct.specs.Tables.{filled}
 use Rattle.base64ct.proofs.Unpadded.{length-unpadded, unpadded-fill_one, unpadded-fill_two}
 use Rattle.base64ct.proofs.Last.{or_zero_l, or_zero_r}
@@ -14,15 +17,21 @@ use Rattle.base64ct.proofs.Lenience.{lenient_end, are_filled, zero_is}
 
 -- ---- reading
 
-pub zeros_filled : (a : Alphabet) (z : ℕ) → is_alphabet a ≡ true → z ≡ character a 0 → AreCharacters a (z ∷ z ∷ z ∷ z ∷ [])
+pub zeros_filled : (a : Alphabet) (z : ℕ) → is_alphabet a ≡ true → z ≡ character a 0
+    → AreCharacters a (z ∷ z ∷ z ∷ z ∷ [])
 zeros_filled a z lawful ez =
     let some = zero_is a z lawful ez in
-    are_filled a (z ∷ z ∷ z ∷ []) z some (are_filled a (z ∷ z ∷ []) z some (are_filled a (z ∷ []) z some (are_filled a [] z some (λ i lt. absurd (omega arith)))))
+    are_filled a (z ∷ z ∷ z ∷ []) z some
+    (are_filled a (z ∷ z ∷ []) z some
+    (are_filled a (z ∷ []) z some (are_filled a [] z some (λ i lt. absurd (omega arith)))))
 
-pub end_leniently : (a : Alphabet) (src old dst bytes last rest : List ℕ) (i j fault wrong k n : ℕ) → is_alphabet a ≡ true → j ≡ i → i ≡ length src / 4 → byte_count (length src) ≤ length dst
-    → n ≡ byte_count (length src) → k ≡ length src % 4 * 3 / 4 → length bytes ≡ 3 → last ≡ take k bytes → rest ≡ drop (4 * i) src → EachBelow 256 (put_mid (3 * i) k dst last)
+pub end_leniently : (a : Alphabet) (src old dst bytes last rest : List ℕ) (i j fault wrong k n : ℕ)
+    → is_alphabet a ≡ true → j ≡ i → i ≡ length src / 4 → byte_count (length src) ≤ length dst
+    → n ≡ byte_count (length src) → k ≡ length src % 4 * 3 / 4 → length bytes ≡ 3 → last ≡ take k bytes
+    → rest ≡ drop (4 * i) src → EachBelow 256 (put_mid (3 * i) k dst last)
     → (wrong ≡ 0 → (values : List ℕ) × Reads a rest values (take (byte_count (length rest)) bytes))
-    → Progress a src old dst j fault → bit_or fault wrong ≡ 0 → (values : List ℕ) × Reads a src values (take n (put_mid (3 * i) k dst last))
+    → Progress a src old dst j fault → bit_or fault wrong ≡ 0
+    → (values : List ℕ) × Reads a src values (take n (put_mid (3 * i) k dst last))
 end_leniently a src old dst bytes last rest i j fault wrong k n lawful ej ei room en ek three el er below tail p none =
     let lr : length rest ≡ length src - 4 * i = ap length er ∙ length-drop (4 * i) src in
     let found = tail (or_zero_r fault wrong none) in
@@ -31,19 +40,26 @@ end_leniently a src old dst bytes last rest i j fault wrong k n lawful ej ei roo
     let lv : length found.0 ≡ length rest = sym (ap length found.1.2 ∙ length-map found.0 (character a)) in
     let odd : length src % 4 ≢ 1 = λ e. found.1.1 (omega arith) in
     let bytes_are : last ≡ whole_bytes a.low_first found.0 = el ∙ rw (← width) found.1.3 in
-    lenient_end a src old dst last found.0 i j fault k n lawful ej ei odd (omega arith) (omega arith) (omega arith) below found.1.0 (sym er ∙ found.1.2) bytes_are p (or_zero_l fault wrong none)
+    lenient_end a src old dst last found.0 i j fault k n lawful ej ei odd (omega arith) (omega arith) (omega arith)
+    below found.1.0 (sym er ∙ found.1.2) bytes_are p (or_zero_l fault wrong none)
 
-pub all_accepted : (a : Alphabet) (src old dst rest : List ℕ) (i j fault wrong : ℕ) → i ≡ length src / 4 → length src % 4 ≢ 1 → rest ≡ drop (4 * i) src
-    → (length rest ≢ 1 → AreCharacters a rest → wrong ≡ 0) → Progress a src old dst j fault → AreCharacters a src → bit_or fault wrong ≡ 0
+pub all_accepted : (a : Alphabet) (src old dst rest : List ℕ) (i j fault wrong : ℕ) → i ≡ length src / 4
+    → length src % 4 ≢ 1 → rest ≡ drop (4 * i) src
+    → (length rest ≢ 1 → AreCharacters a rest → wrong ≡ 0) → Progress a src old dst j fault → AreCharacters a src
+    → bit_or fault wrong ≡ 0
 all_accepted a src old dst rest i j fault wrong ei odd er tail p all =
     let lr : length rest ≡ length src - 4 * i = ap length er ∙ length-drop (4 * i) src in
-    let back : AreCharacters a rest = subst (AreCharacters a) (sym er) (λ m lt. subst (λ (c : ℕ). value_of a c ≢ None) (sym (get_or-drop (4 * i) src m 0)) (all (4 * i + m) (omega (arith, length-drop (4 * i) src)))) in
+    let back : AreCharacters a rest =
+    subst (AreCharacters a) (sym er)
+    (λ m lt. subst (λ (c : ℕ). value_of a c ≢ None) (sym (get_or-drop (4 * i) src m 0))
+    (all (4 * i + m) (omega (arith, length-drop (4 * i) src)))) in
     rw (p.accepted all, tail (λ one. odd (omega arith)) back) refl
 
 -- ---- comparing
 
 pub four_pairs : (r : ℕ → ℕ → Bool) (xs ys : List ℕ) → length xs ≡ 4 → length ys ≡ 4
-    → (((r (slice_index xs 0) (slice_index ys 0) && r (slice_index xs 1) (slice_index ys 1)) && r (slice_index xs 2) (slice_index ys 2)) && r (slice_index xs 3) (slice_index ys 3)) ≡ pointwise r xs ys
+    → (((r (slice_index xs 0) (slice_index ys 0) && r (slice_index xs 1) (slice_index ys 1))
+    && r (slice_index xs 2) (slice_index ys 2)) && r (slice_index xs 3) (slice_index ys 3)) ≡ pointwise r xs ys
 four_pairs r [] ys lx ly = absurd (omega arith)
 four_pairs r (a ∷ []) ys lx ly = absurd (omega arith)
 four_pairs r (a ∷ b ∷ []) ys lx ly = absurd (omega arith)
@@ -63,25 +79,29 @@ four_pairs r (a ∷ b ∷ c ∷ d ∷ []) (v ∷ w ∷ x ∷ y ∷ []) lx ly = j
     joined true true true false = refl
     joined true true true true = refl
 
-pub fill_one : (xs : List ℕ) (z : ℕ) → length xs ≡ 1 → slice_index xs 0 ∷ z ∷ z ∷ z ∷ [] ≡ xs ++ replicate (4 - length xs) z
+pub fill_one : (xs : List ℕ) (z : ℕ) → length xs ≡ 1
+    → slice_index xs 0 ∷ z ∷ z ∷ z ∷ [] ≡ xs ++ replicate (4 - length xs) z
 fill_one [] z l = absurd (omega arith)
 fill_one (a ∷ []) z l = refl
 fill_one (a ∷ b ∷ xs) z l = absurd (omega arith)
 
-pub fill_two : (xs : List ℕ) (z : ℕ) → length xs ≡ 2 → slice_index xs 0 ∷ slice_index xs 1 ∷ z ∷ z ∷ [] ≡ xs ++ replicate (4 - length xs) z
+pub fill_two : (xs : List ℕ) (z : ℕ) → length xs ≡ 2
+    → slice_index xs 0 ∷ slice_index xs 1 ∷ z ∷ z ∷ [] ≡ xs ++ replicate (4 - length xs) z
 fill_two [] z l = absurd (omega arith)
 fill_two (a ∷ []) z l = absurd (omega arith)
 fill_two (a ∷ b ∷ []) z l = refl
 fill_two (a ∷ b ∷ c ∷ xs) z l = absurd (omega arith)
 
-pub fill_three : (xs : List ℕ) (z : ℕ) → length xs ≡ 3 → slice_index xs 0 ∷ slice_index xs 1 ∷ slice_index xs 2 ∷ z ∷ [] ≡ xs ++ replicate (4 - length xs) z
+pub fill_three : (xs : List ℕ) (z : ℕ) → length xs ≡ 3
+    → slice_index xs 0 ∷ slice_index xs 1 ∷ slice_index xs 2 ∷ z ∷ [] ≡ xs ++ replicate (4 - length xs) z
 fill_three [] z l = absurd (omega arith)
 fill_three (a ∷ []) z l = absurd (omega arith)
 fill_three (a ∷ b ∷ []) z l = absurd (omega arith)
 fill_three (a ∷ b ∷ c ∷ []) z l = refl
 fill_three (a ∷ b ∷ c ∷ d ∷ xs) z l = absurd (omega arith)
 
-pub fill_four : (xs : List ℕ) (z : ℕ) → length xs ≡ 4 → slice_index xs 0 ∷ slice_index xs 1 ∷ slice_index xs 2 ∷ slice_index xs 3 ∷ [] ≡ xs ++ replicate (4 - length xs) z
+pub fill_four : (xs : List ℕ) (z : ℕ) → length xs ≡ 4
+    → slice_index xs 0 ∷ slice_index xs 1 ∷ slice_index xs 2 ∷ slice_index xs 3 ∷ [] ≡ xs ++ replicate (4 - length xs) z
 fill_four [] z l = absurd (omega arith)
 fill_four (a ∷ []) z l = absurd (omega arith)
 fill_four (a ∷ b ∷ []) z l = absurd (omega arith)
@@ -94,13 +114,15 @@ bytes_one [] l = absurd (omega arith)
 bytes_one (a ∷ []) l = refl
 bytes_one (a ∷ b ∷ xs) l = absurd (omega arith)
 
-pub bytes_two : (xs : List ℕ) → length xs ≡ 2 → slice_index xs 0 ∷ slice_index xs 1 ∷ 0 ∷ [] ≡ xs ++ replicate (3 - length xs) 0
+pub bytes_two : (xs : List ℕ) → length xs ≡ 2
+    → slice_index xs 0 ∷ slice_index xs 1 ∷ 0 ∷ [] ≡ xs ++ replicate (3 - length xs) 0
 bytes_two [] l = absurd (omega arith)
 bytes_two (a ∷ []) l = absurd (omega arith)
 bytes_two (a ∷ b ∷ []) l = refl
 bytes_two (a ∷ b ∷ c ∷ xs) l = absurd (omega arith)
 
-pub bytes_three : (xs : List ℕ) → length xs ≡ 3 → slice_index xs 0 ∷ slice_index xs 1 ∷ slice_index xs 2 ∷ [] ≡ xs ++ replicate (3 - length xs) 0
+pub bytes_three : (xs : List ℕ) → length xs ≡ 3
+    → slice_index xs 0 ∷ slice_index xs 1 ∷ slice_index xs 2 ∷ [] ≡ xs ++ replicate (3 - length xs) 0
 bytes_three [] l = absurd (omega arith)
 bytes_three (a ∷ []) l = absurd (omega arith)
 bytes_three (a ∷ b ∷ []) l = absurd (omega arith)
@@ -112,7 +134,8 @@ bytes_none [] l = refl
 bytes_none (a ∷ xs) l = absurd (omega arith)
 
 -- the characters of filled bytes are the filled characters
-pub unpadded-filled : (a : Alphabet) (bytes : List ℕ) → EachBelow 256 bytes → 1 ≤ length bytes → length bytes ≤ 3 → unpadded_encoding a (bytes ++ replicate (3 - length bytes) 0) ≡ filled a (unpadded_encoding a bytes)
+pub unpadded-filled : (a : Alphabet) (bytes : List ℕ) → EachBelow 256 bytes → 1 ≤ length bytes → length bytes ≤ 3
+    → unpadded_encoding a (bytes ++ replicate (3 - length bytes) 0) ≡ filled a (unpadded_encoding a bytes)
 unpadded-filled a [] h l m = absurd (omega arith)
 unpadded-filled a (b ∷ []) h l m =
     let len : length (unpadded_encoding a (b ∷ [])) ≡ 2 = length-unpadded a (b ∷ []) h in
@@ -123,17 +146,22 @@ unpadded-filled a (b ∷ c ∷ []) h l m =
 unpadded-filled a (b ∷ c ∷ d ∷ []) h l m =
     let len : length (unpadded_encoding a (b ∷ c ∷ d ∷ [])) ≡ 4 = length-unpadded a (b ∷ c ∷ d ∷ []) h in
     let none : replicate (4 - length (unpadded_encoding a (b ∷ c ∷ d ∷ []))) (character a 0) ≡ [] = rw len refl in
-    sym (ap (λ (x : List ℕ). unpadded_encoding a (b ∷ c ∷ d ∷ []) ++ x) none ∙ append-nil (unpadded_encoding a (b ∷ c ∷ d ∷ [])))
+    sym (ap (λ (x : List ℕ). unpadded_encoding a (b ∷ c ∷ d ∷ []) ++ x) none
+    ∙ append-nil (unpadded_encoding a (b ∷ c ∷ d ∷ [])))
 unpadded-filled a (b ∷ c ∷ d ∷ e ∷ bytes) h l m = absurd (omega arith)
 
-pub last_answer : (r : ℕ → ℕ → Bool) (a : Alphabet) (last bytes block whole again : List ℕ) (z : ℕ) → EachBelow 256 bytes → 1 ≤ length last → length last ≤ 4 → length last ≢ 1 → length bytes ≡ 3 * length last / 4
-    → z ≡ character a 0 → block ≡ last ++ replicate (4 - length last) z → whole ≡ bytes ++ replicate (3 - length bytes) 0 → length again ≡ 4 → length block ≡ 4
+pub last_answer : (r : ℕ → ℕ → Bool) (a : Alphabet) (last bytes block whole again : List ℕ) (z : ℕ)
+    → EachBelow 256 bytes → 1 ≤ length last → length last ≤ 4 → length last ≢ 1 → length bytes ≡ 3 * length last / 4
+    → z ≡ character a 0 → block ≡ last ++ replicate (4 - length last) z
+    → whole ≡ bytes ++ replicate (3 - length bytes) 0 → length again ≡ 4 → length block ≡ 4
     → again ≡ unpadded_encoding a whole
-    → (((r (slice_index block 0) (slice_index again 0) && r (slice_index block 1) (slice_index again 1)) && r (slice_index block 2) (slice_index again 2)) && r (slice_index block 3) (slice_index again 3))
+    → (((r (slice_index block 0) (slice_index again 0) && r (slice_index block 1) (slice_index again 1))
+    && r (slice_index block 2) (slice_index again 2)) && r (slice_index block 3) (slice_index again 3))
     ≡ pointwise r (filled a last) (filled a (unpadded_encoding a bytes))
 last_answer r a last bytes block whole again z below some few odd lb ez eb ew la lk ea =
     let left : block ≡ filled a last = eb ∙ rw ez refl in
-    let right : again ≡ filled a (unpadded_encoding a bytes) = ea ∙ rw ew (unpadded-filled a bytes below (omega arith) (omega arith)) in
+    let right : again ≡ filled a (unpadded_encoding a bytes) =
+    ea ∙ rw ew (unpadded-filled a bytes below (omega arith) (omega arith)) in
     four_pairs r block again lk la ∙ rw (left, right) refl
 
 -- ---- both kinds of fault as one number
@@ -142,10 +170,13 @@ and_false : (b : Bool) → (b && false) ≡ false
 and_false true = refl
 and_false false = refl
 
-pub both_at_once : (fault differs : ℕ) (passed : Bool) → differs ≡ (if not passed then 1 else 0) → nat_eq (bit_or fault differs) 0 ≡ ((fault == 0) && passed)
+pub both_at_once : (fault differs : ℕ) (passed : Bool) → differs ≡ (if not passed then 1 else 0)
+    → nat_eq (bit_or fault differs) 0 ≡ ((fault == 0) && passed)
 both_at_once fault differs true is = elim (cases_eq fault 0) [
   | inl none ↦ rw (none, is) refl
-  | inr some ↦ ne_eqb (bit_or fault differs) 0 (λ e. some (or_zero_l fault differs e)) ∙ sym (rw (ne_eqb fault 0 some) refl)
+  | inr some ↦ ne_eqb (bit_or fault differs) 0 (λ e. some (or_zero_l fault differs e))
+      ∙ sym (rw (ne_eqb fault 0 some) refl)
 ]
 both_at_once fault differs false is =
-    ne_eqb (bit_or fault differs) 0 (λ e. absurd (omega (arith, is, or_zero_r fault differs e))) ∙ sym (and_false (fault == 0))
+    ne_eqb (bit_or fault differs) 0 (λ e. absurd (omega (arith, is, or_zero_r fault differs e)))
+    ∙ sym (and_false (fault == 0))

@@ -9,7 +9,10 @@ use Rattle.base64ct.proofs.DecodingLaws.{decoding-None, decoding_is}
 
 pub decoding-misaligned : (a : Alphabet) (t : List ℕ) → IsMisaligned a t → decoding a t ≡ None
 decoding-misaligned a t bad =
-    decoding-None a t (λ b below same. bad.1 (ap (λ (x : List ℕ). length x % 4) (sym same) ∙ length-encoding_padded a b bad.0))
+    decoding-None a t (λ b below same.
+    bad.1 (ap (λ (x : List ℕ). length x % 4) (sym same) ∙ length-encoding_padded a b bad.0))
 
-pub decoding_read : (a : Alphabet) (t new : List ℕ) (n : ℕ) → is_alphabet a ≡ true → EachBelow 256 new → (n ≡ decoded_len a t) × (t ≡ encoding a (take n new)) → decoding a t ≡ Some (take n new)
-decoding_read a t new n lawful small h = decoding_is a t (take n new) lawful (below-take 256 n new (omega arith) small) h.1
+pub decoding_read : (a : Alphabet) (t new : List ℕ) (n : ℕ) → is_alphabet a ≡ true → EachBelow 256 new
+    → (n ≡ decoded_len a t) × (t ≡ encoding a (take n new)) → decoding a t ≡ Some (take n new)
+decoding_read a t new n lawful small h =
+    decoding_is a t (take n new) lawful (below-take 256 n new (omega arith) small) h.1

@@ -1,5 +1,6 @@
 -- `decoding` gives the one list of bytes that a text is the encoding of.
-use Rattle.std.proofs.Common.{◌≡◌, ◌≢◌, ℕ, zero, suc, ◌+◌, ◌*◌, ◌/◌, ◌-◌, Bool, true, false, List, [], ◌∷◌, length, refl, sym, ap, ◌∙◌, arith}
+use Rattle.std.proofs.Common.{◌≡◌, ◌≢◌, ℕ, zero, suc, ◌+◌, ◌*◌, ◌/◌, ◌-◌, Bool, true, false, List, [], ◌∷◌, length}
+use Rattle.std.proofs.Common.{refl, sym, ap, ◌∙◌, arith}
 use Rattle.std.specs.Prelude.{◌&&◌, nat_eq, nat_lt, Option, Some, None, if◌then◌else◌}
 use Rattle.std.specs.Cmp.Lexicographic.{pointwise}
 use Rattle.std.proofs.lemmas.Bool.{and_parts}
@@ -41,7 +42,8 @@ some_same b c h = cc
 none_some : (b : List ℕ) → None ≡ Some b → ⊥
 none_some b h = cc
 
-by_test : (a : Alphabet) (t b c : List ℕ) (r : Bool) → (are_bytes b && pointwise nat_eq (encoding a b) t) ≡ r → (if r then Some b else None) ≡ Some c → EachBelow 256 c × (t ≡ encoding a c)
+by_test : (a : Alphabet) (t b c : List ℕ) (r : Bool) → (are_bytes b && pointwise nat_eq (encoding a b) t) ≡ r
+    → (if r then Some b else None) ≡ Some c → EachBelow 256 c × (t ≡ encoding a c)
 by_test a t b c true is h =
     let same = some_same b c h in
     let parts = and_parts (are_bytes b) (pointwise nat_eq (encoding a b) t) is in
@@ -57,28 +59,34 @@ if_encodes-found : (a : Alphabet) (b : List ℕ) → EachBelow 256 b → if_enco
 if_encodes-found a b below = rw (true_below b below, true_same (encoding a b)) refl
 
 -- an encoding is found
-pub decoding-encoding : (a : Alphabet) (b : List ℕ) → is_alphabet a ≡ true → EachBelow 256 b → decoding a (encoding a b) ≡ Some b
+pub decoding-encoding : (a : Alphabet) (b : List ℕ) → is_alphabet a ≡ true → EachBelow 256 b
+    → decoding a (encoding a b) ≡ Some b
 unfolding decoding
 decoding-encoding a b lawful below =
     ap (if_encodes a (encoding a b)) (decoded-encoding a b lawful below) ∙ if_encodes-found a b below
 
-pub decoding_is : (a : Alphabet) (t b : List ℕ) → is_alphabet a ≡ true → EachBelow 256 b → t ≡ encoding a b → decoding a t ≡ Some b
+pub decoding_is : (a : Alphabet) (t b : List ℕ) → is_alphabet a ≡ true → EachBelow 256 b → t ≡ encoding a b
+    → decoding a t ≡ Some b
 decoding_is a t b lawful below is = ap (decoding a) is ∙ decoding-encoding a b lawful below
 
-by_option : (a : Alphabet) (t : List ℕ) (r : Option (List ℕ)) → decoding a t ≡ r → ((b : List ℕ) → EachBelow 256 b → encoding a b ≢ t) → r ≡ None
+by_option : (a : Alphabet) (t : List ℕ) (r : Option (List ℕ)) → decoding a t ≡ r
+    → ((b : List ℕ) → EachBelow 256 b → encoding a b ≢ t) → r ≡ None
 by_option a t None is none = refl
 by_option a t (Some b) is none = let parts = decoding-Some a t b is in absurd (none b parts.0 (sym parts.1))
 
 -- no encoding, nothing found
-pub decoding-None : (a : Alphabet) (t : List ℕ) → ((b : List ℕ) → EachBelow 256 b → encoding a b ≢ t) → decoding a t ≡ None
+pub decoding-None : (a : Alphabet) (t : List ℕ) → ((b : List ℕ) → EachBelow 256 b → encoding a b ≢ t)
+    → decoding a t ≡ None
 decoding-None a t none = by_option a t (decoding a t) refl none
 
 -- nothing found, no encoding
-pub undecodable : (a : Alphabet) (t : List ℕ) → is_alphabet a ≡ true → decoding a t ≡ None → (b : List ℕ) → EachBelow 256 b → encoding a b ≢ t
+pub undecodable : (a : Alphabet) (t : List ℕ) → is_alphabet a ≡ true → decoding a t ≡ None → (b : List ℕ)
+    → EachBelow 256 b → encoding a b ≢ t
 undecodable a t lawful none b below same = none_some b (sym none ∙ decoding_is a t b lawful below (sym same))
 
 -- the length of an unpadded text tells the number of its bytes
-pub length-decodable : (a : Alphabet) (t b : List ℕ) → a.padded ≡ false → decoding a t ≡ Some b → length t ≡ (4 * length b + 2) / 3
+pub length-decodable : (a : Alphabet) (t b : List ℕ) → a.padded ≡ false → decoding a t ≡ Some b
+    → length t ≡ (4 * length b + 2) / 3
 length-decodable a t b plain is =
     let parts = decoding-Some a t b is in
     let len = length-encoding a b parts.0 in
@@ -90,12 +98,14 @@ decoded_len-unpadded a t plain =
     let all : length t - 0 ≡ length t = omega arith in
     rw plain (ap byte_count all)
 
-pub length-decoding : (a : Alphabet) (t b : List ℕ) → a.padded ≡ false → decoding a t ≡ Some b → length b ≡ decoded_len a t
+pub length-decoding : (a : Alphabet) (t b : List ℕ) → a.padded ≡ false → decoding a t ≡ Some b
+    → length b ≡ decoded_len a t
 length-decoding a t b plain is =
     let len = length-decodable a t b plain is in
     let size_is = decoded_len-unpadded a t plain in
     omega (arith, len, size_is)
 
 -- two lists of bytes with one encoding are equal
-pub encoding_once : (a : Alphabet) (b c : List ℕ) → is_alphabet a ≡ true → EachBelow 256 b → EachBelow 256 c → encoding a b ≡ encoding a c → b ≡ c
+pub encoding_once : (a : Alphabet) (b c : List ℕ) → is_alphabet a ≡ true → EachBelow 256 b → EachBelow 256 c
+    → encoding a b ≡ encoding a c → b ≡ c
 encoding_once a b c lawful hb hc e = once a b c lawful hb hc e

@@ -1,6 +1,9 @@
 -- The first block of what is left.
-use Rattle.std.proofs.Common.{◌≡◌, ℕ, zero, suc, ◌+◌, ◌-◌, ◌*◌, ◌/◌, ◌<◌, ◌≤◌, ◌==◌, ◌&&◌, ◌||◌, Bool, true, false, List, [], ◌∷◌, ◌++◌, length, take, drop, refl, sym, ap, ◌∙◌, subst, arith, inl, inr, slice_index, Option, Some, None}
-use Rattle.std.proofs.lemmas.List.{append-nil, length-append, take_at, drop_at, length-take-le, length-drop, nil_from_length, take_all, drop_all, drop-drop}
+use Rattle.std.proofs.Common.{◌≡◌, ℕ, zero, suc, ◌+◌, ◌-◌, ◌*◌, ◌/◌, ◌<◌, ◌≤◌, ◌==◌, ◌&&◌, ◌||◌, Bool, true, false}
+use Rattle.std.proofs.Common.{List, [], ◌∷◌, ◌++◌, length, take, drop, refl, sym, ap, ◌∙◌, subst, arith, inl, inr}
+use Rattle.std.proofs.Common.{slice_index, Option, Some, None}
+use Rattle.std.proofs.lemmas.List.{append-nil, length-append, take_at, drop_at, length-take-le, length-drop}
+use Rattle.std.proofs.lemmas.List.{nil_from_length, take_all, drop_all, drop-drop}
 use Rattle.std.proofs.lemmas.Bool.{cases_Bool, cases_lt}
 use Rattle.base64ct.specs.Encoding.{Alphabet, is_alphabet, unpadded_encoding, encoding, EachBelow, AreCharacters}
 use Rattle.base64ct.specs.Blocks.{blocks, IsEncoding}
@@ -18,7 +21,8 @@ Some-once x y e = ap (λ (o : Option (List ℕ)). elim o as (λ _. List ℕ) [ N
 pub None≢Some : (y : List ℕ) → None ≡ Some y → ⊥
 None≢Some y e = subst (λ (o : Option (List ℕ)). elim o as (λ _. Type 0) [ None ↦ Unit {0} | Some t ↦ ⊥ ]) e tt
 
-pub before_some : (xs s : List ℕ) (o : Option (List ℕ)) → before xs o ≡ Some s → (t : List ℕ) × (o ≡ Some t) × (s ≡ xs ++ t)
+pub before_some : (xs s : List ℕ) (o : Option (List ℕ)) → before xs o ≡ Some s
+    → (t : List ℕ) × (o ≡ Some t) × (s ≡ xs ++ t)
 before_some xs s None e = absurd (None≢Some s e)
 before_some xs s (Some t) e = (t, refl, sym (Some-once (xs ++ t) s e))
 
@@ -51,21 +55,32 @@ some_text w zero (c ∷ d ∷ f ∷ rest) s e some = elim (cases_Bool ((c == 13)
 ]
 
 -- four characters are taken, and more stand behind them
-pub first_four : (w : ℕ) (body block s : List ℕ) (at room next left : ℕ) → Ahead w body at room s → characters_from w room (drop at body) ≡ before block (characters_from w left (drop next body))
+pub first_four : (w : ℕ) (body block s : List ℕ) (at room next left : ℕ) → Ahead w body at room s
+    → characters_from w room (drop at body) ≡ before block (characters_from w left (drop next body))
     → length block ≡ 4 → next < length body → (4 < length s) × (take 4 s ≡ block) × Ahead w body next left (drop 4 s)
 first_four w body block s at room next left r is four more =
     let parts = before_some block s (characters_from w left (drop next body)) (sym is ∙ r.0) in
-    let rest : 0 < length parts.0 = some_text w left (drop next body) parts.0 parts.1 (omega (arith, length-drop next body)) in
-    let sum : s ≡ block ++ parts.0 = parts.2 in
-    (omega (arith, ap length sum, length-append block parts.0), ap (λ (l : List ℕ). take 4 l) sum ∙ take_at block parts.0 4 four, (parts.1 ∙ ap (λ (l : List ℕ). Some l) (sym (ap (λ (l : List ℕ). drop 4 l) sum ∙ drop_at block parts.0 4 four)), omega arith))
+    let rest : 0 < length parts.0 =
+    some_text w left (drop next body) parts.0 parts.1 (omega (arith, length-drop next body)) in
+    let sum : s ≡ block ++ parts.0 = parts.2 in (
+      omega (arith, ap length sum, length-append block parts.0),
+      ap (λ (l : List ℕ). take 4 l) sum
+          ∙ take_at block parts.0 4 four,
+      (
+        parts.1 ∙ ap (λ (l : List ℕ). Some l) (sym (ap (λ (l : List ℕ). drop 4 l) sum ∙ drop_at block parts.0 4 four)),
+        omega arith,
+      ),
+    )
 
 -- the last characters are taken
-pub first_last : (w : ℕ) (body block s : List ℕ) (at room next left : ℕ) → Ahead w body at room s → characters_from w room (drop at body) ≡ before block (characters_from w left (drop next body))
+pub first_last : (w : ℕ) (body block s : List ℕ) (at room next left : ℕ) → Ahead w body at room s
+    → characters_from w room (drop at body) ≡ before block (characters_from w left (drop next body))
     → length block ≤ 4 → next ≡ length body → (s ≡ block) × (length s ≤ 4) × Ahead w body next left (drop 4 s)
 first_last w body block s at room next left r is four end =
     let none : drop next body ≡ [] = drop_all next body (omega arith) in
     let text : characters_from w left (drop next body) ≡ Some [] = rw none (text_nil w left) in
-    let sum : s ≡ block = sym (Some-once block s (ap (λ (l : List ℕ). Some l) (sym (append-nil block)) ∙ rw text at (sym is ∙ r.0))) in
+    let sum : s ≡ block = sym
+    (Some-once block s (ap (λ (l : List ℕ). Some l) (sym (append-nil block)) ∙ rw text at (sym is ∙ r.0))) in
     let len : length s ≤ 4 = omega (arith, ap length sum) in
     (sum, len, (text ∙ ap (λ (l : List ℕ). Some l) (sym (drop_all 4 s len)), omega arith))
 
@@ -78,12 +93,14 @@ some_blocks x (y ∷ []) = omega arith
 some_blocks x (y ∷ z ∷ []) = omega arith
 some_blocks x (y ∷ z ∷ w ∷ t) = omega arith
 
-bytes_more : (a : Alphabet) (block : List ℕ) (bs : List (List ℕ)) → 0 < length bs → bytes_of_blocks a (block ∷ bs) ≡ four_bytes a block ++ bytes_of_blocks a bs
+bytes_more : (a : Alphabet) (block : List ℕ) (bs : List (List ℕ)) → 0 < length bs
+    → bytes_of_blocks a (block ∷ bs) ≡ four_bytes a block ++ bytes_of_blocks a bs
 unfolding bytes_of_blocks
 bytes_more a block [] some = absurd (omega arith)
 bytes_more a block (next ∷ bs) some = refl
 
-pub decoded_more : (a : Alphabet) (s : List ℕ) → 4 < length s → decoded a s ≡ four_bytes a (take 4 s) ++ decoded a (drop 4 s)
+pub decoded_more : (a : Alphabet) (s : List ℕ) → 4 < length s
+    → decoded a s ≡ four_bytes a (take 4 s) ++ decoded a (drop 4 s)
 unfolding blocks
 decoded_more a [] h = absurd (omega arith)
 decoded_more a (c ∷ []) h = absurd (omega arith)
@@ -105,9 +122,12 @@ pub decoded_nil : (a : Alphabet) → decoded a [] ≡ []
 unfolding blocks bytes_of_blocks
 decoded_nil a = refl
 
-pub four_read : (a : Alphabet) (w : ℕ) (body block s bytes : List ℕ) (at room next left : ℕ) → is_alphabet a ≡ true → Ahead w body at room s
-    → characters_from w room (drop at body) ≡ before block (characters_from w left (drop next body)) → length block ≡ 4 → next < length body
-    → AreCharacters a block → length bytes ≡ 3 → EachBelow 256 bytes → unpadded_encoding a bytes ≡ block → FirstRead a w body s bytes 3 next left
+pub four_read : (a : Alphabet) (w : ℕ) (body block s bytes : List ℕ) (at room next left : ℕ) → is_alphabet a ≡ true
+    → Ahead w body at room s
+    → characters_from w room (drop at body) ≡ before block (characters_from w left (drop next body)) → length block ≡ 4
+    → next < length body
+    → AreCharacters a block → length bytes ≡ 3 → EachBelow 256 bytes → unpadded_encoding a bytes ≡ block
+    → FirstRead a w body s bytes 3 next left
 four_read a w body block s bytes at room next left lawful r is four more good three small spelled =
     let f = first_four w body block s at room next left r is four more in
     let whole : take 3 bytes ≡ bytes = take_all 3 bytes (omega arith) in
@@ -121,9 +141,12 @@ four_read a w body block s bytes at room next left lawful r is four more good th
       next = f.2;
     }
 
-pub last_read : (a : Alphabet) (w : ℕ) (body block s bytes : List ℕ) (at room next left n : ℕ) → is_alphabet a ≡ true → Ahead w body at room s → 0 < length s
-    → characters_from w room (drop at body) ≡ before block (characters_from w left (drop next body)) → length block ≤ 4 → next ≡ length body
-    → length bytes ≡ 3 → n ≤ 3 → EachBelow 256 bytes → block ≡ encoding a (take n bytes) → FirstRead a w body s bytes n next left
+pub last_read : (a : Alphabet) (w : ℕ) (body block s bytes : List ℕ) (at room next left n : ℕ) → is_alphabet a ≡ true
+    → Ahead w body at room s → 0 < length s
+    → characters_from w room (drop at body) ≡ before block (characters_from w left (drop next body)) → length block ≤ 4
+    → next ≡ length body
+    → length bytes ≡ 3 → n ≤ 3 → EachBelow 256 bytes → block ≡ encoding a (take n bytes)
+    → FirstRead a w body s bytes n next left
 last_read a w body block s bytes at room next left n lawful r some is four end three few small spelled =
     let f = first_last w body block s at room next left r is four end in
     let below : EachBelow 256 (take n bytes) = below-take 256 n bytes (omega arith) small in
@@ -131,12 +154,14 @@ last_read a w body block s bytes at room next left n lawful r some is four end t
     let none : drop 4 s ≡ [] = drop_all 4 s f.1 in
     record {
       good = λ long. absurd (omega (arith, f.1));
-      read = decoded_last a s some f.1 ∙ rw (none, decoded_nil a, append-nil (take n bytes), sp) (decoded-encoding a (take n bytes) lawful below);
+      read = decoded_last a s some f.1
+          ∙ rw (none, decoded_nil a, append-nil (take n bytes), sp) (decoded-encoding a (take n bytes) lawful below);
       three = three;
       few = few;
       some = elim (cases_lt 0 n) [
         | inl lt ↦ lt
-        | inr ge ↦ let zero_bytes : take n bytes ≡ [] = nil_from_length (take n bytes) (omega (arith, length-take-le n bytes (omega arith))) in
+        | inr ge ↦ let zero_bytes : take n bytes ≡ [] =
+            nil_from_length (take n bytes) (omega (arith, length-take-le n bytes (omega arith))) in
             absurd (empty a.padded (ap length sp ∙ rw zero_bytes (length-encoding a [] (λ i. omega arith))))
       ];
       whole = λ long. absurd (omega (arith, f.1));
@@ -161,20 +186,28 @@ block_items (c ∷ d ∷ e ∷ f ∷ []) n is four = rw is refl
 block_items (c ∷ d ∷ e ∷ f ∷ g ∷ rest) n is four = absurd (omega arith)
 
 pub count_four : (n next len : ℕ) → n ≤ 4 → (n < 4 → next ≡ len) → next < len → n ≡ 4
-count_four n next len few short more = elim (cases_lt n 4) [ inl lt ↦ absurd (omega (arith, short lt)) | inr ge ↦ omega arith ]
+count_four n next len few short more =
+    elim (cases_lt n 4) [ inl lt ↦ absurd (omega (arith, short lt)) | inr ge ↦ omega arith ]
 
-pub fault_read : (a : Alphabet) (w : ℕ) (body block s : List ℕ) (at room next left n : ℕ) → Ahead w body at room s → characters_from w room (drop at body) ≡ before (take n block) (characters_from w left (drop next body))
-    → length block ≡ 4 → n ≤ 4 → (n < 4 → next ≡ length body) → next < length body → (AreCharacters a (items block) → ⊥) → (4 < length s) × (AreCharacters a (take 4 s) → ⊥)
+pub fault_read : (a : Alphabet) (w : ℕ) (body block s : List ℕ) (at room next left n : ℕ) → Ahead w body at room s
+    → characters_from w room (drop at body) ≡ before (take n block) (characters_from w left (drop next body))
+    → length block ≡ 4 → n ≤ 4 → (n < 4 → next ≡ length body) → next < length body → (AreCharacters a (items block) → ⊥)
+    → (4 < length s) × (AreCharacters a (take 4 s) → ⊥)
 fault_read a w body block s at room next left n r is four few short more bad =
     let all : take n block ≡ items block = block_items block n (count_four n next (length body) few short more) four in
     let f = first_four w body (items block) s at room next left r (rw all at is) refl more in
     (f.0, λ good. bad (subst (AreCharacters a) f.1 good))
 
-pub good_read : (a : Alphabet) (w : ℕ) (body block s bytes : List ℕ) (at room next left n : ℕ) → is_alphabet a ≡ true → Ahead w body at room s → characters_from w room (drop at body) ≡ before (take n block) (characters_from w left (drop next body))
-    → length block ≡ 4 → n ≤ 4 → (n < 4 → next ≡ length body) → next < length body → AreCharacters a (items block) → length bytes ≡ 3 → EachBelow 256 bytes → unpadded_encoding a bytes ≡ items block → FirstRead a w body s bytes 3 next left
+pub good_read : (a : Alphabet) (w : ℕ) (body block s bytes : List ℕ) (at room next left n : ℕ) → is_alphabet a ≡ true
+    → Ahead w body at room s
+    → characters_from w room (drop at body) ≡ before (take n block) (characters_from w left (drop next body))
+    → length block ≡ 4 → n ≤ 4 → (n < 4 → next ≡ length body) → next < length body → AreCharacters a (items block)
+    → length bytes ≡ 3 → EachBelow 256 bytes → unpadded_encoding a bytes ≡ items block
+    → FirstRead a w body s bytes 3 next left
 good_read a w body block s bytes at room next left n lawful r is four few short more good three small spelled =
     let all : take n block ≡ items block = block_items block n (count_four n next (length body) few short more) four in
-    four_read a w body (items block) s bytes at room next left lawful r (rw all at is) refl more good three small spelled
+    four_read a w body (items block) s bytes at room next left lawful r (rw all at is) refl more good three small
+    spelled
 
 pub last_is : (s : List ℕ) → length s ≤ 4 → last_block s ≡ s
 last_is s h = let none : 4 * ((length s - 1) / 4) ≡ 0 = omega arith in rw none refl
@@ -185,7 +218,8 @@ last_more s h =
     let next : 4 * ((length s - 1) / 4) ≡ 4 + 4 * ((length (drop 4 s) - 1) / 4) = omega arith in
     rw next (sym (drop-drop (4 * ((length (drop 4 s) - 1) / 4)) 4 s))
 
-pub last_refused : (a : Alphabet) (w : ℕ) (body block s : List ℕ) (at room next left : ℕ) → Ahead w body at room s → characters_from w room (drop at body) ≡ before block (characters_from w left (drop next body))
+pub last_refused : (a : Alphabet) (w : ℕ) (body block s : List ℕ) (at room next left : ℕ) → Ahead w body at room s
+    → characters_from w room (drop at body) ≡ before block (characters_from w left (drop next body))
     → length block ≤ 4 → next ≡ length body → IsEncoding a (last_block s) → (IsEncoding a block → ⊥) → ⊥
 last_refused a w body block s at room next left r is four end spelled bad =
     let f = first_last w body block s at room next left r is four end in

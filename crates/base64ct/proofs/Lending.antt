@@ -1,5 +1,5 @@
--- A `&mut [T]` that is given up for good: its first k elements are had as a `&[T]`, its token comes back, and its name ends at the elements as they are.
---     gives_front       the two steps, from a `&mut [T]` and the token
+-- A `&mut [T]` that is given up for good: its first k elements are had as a `&[T]`, its token comes back, and its name
+-- ends at the elements as they are.     gives_front       the two steps, from a `&mut [T]` and the token
 --     rests_at          from how a name ends to the clause `Rests`
 -- Assumes `Logic`.
 use mathlib.Core.Path.{◌≡◌, refl, sym}
@@ -15,7 +15,8 @@ use base.Fraction.{full_share}
 use mir.Syntax.{Lifetime, erased, w8}
 use mir.Val.{Val}
 use types.Logic.{Logic, sem}
-use types.Kit.{‵, ◌⊛◌, later, ◌$◌, ◌∵◌, !, qed, move, use1, use2, rewrite, split, split3, fsplit, fjoin, fpick, fpack, feq_l, feq_i, await, updating, now, done}
+use types.Kit.{‵, ◌⊛◌, later, ◌$◌, ◌∵◌, !, qed, move, use1, use2, rewrite, split, split3, fsplit, fjoin, fpick, fpack}
+use types.Kit.{feq_l, feq_i, await, updating, now, done}
 use denote.RattleType.{RattleType, RowLaws}
 use denote.Shares.{Shares}
 use denote.Slice.{MutSlice, ShrSlice, slice_val, finally}
@@ -53,28 +54,41 @@ module _ {M : Type 1} {𝓤 : Ura M} (𝓛 : Logic 𝓤) where
   unfolding such_by follows_by
   rests_at R γ P v holds =
       qed 𝓛 (‵ (fres γ (R.coded.code v)) ∷ []) ∵
-      fpack ! ((s : (R.Denot → R.Denot) × R.Denot) × (R.Denot → Unit {0}) × P s.1) (λ s. follows_by R.Denot R.Denot R.coded.code R.coded.code γ none s.0.0 s.0.1) (((λ w. w), v), (λ w. tt), holds) $ done !
+      fpack ! ((s : (R.Denot → R.Denot) × R.Denot) × (R.Denot → Unit {0}) × P s.1)
+      (λ s. follows_by R.Denot R.Denot R.coded.code R.coded.code γ none s.0.0 s.0.1)
+      (((λ w. w), v), (λ w. tt), holds) $ done !
 
-  module _ (R : RattleType) (laws : RowLaws R) (sh : (l : Lft) → Shares 𝓛 R l) (ℓ : Lifetime) (κ : Lft) (q : Share) (b o : ℕ) (γ : GName) (xs : List R.Denot) where
+  module _ (R : RattleType) (laws : RowLaws R) (sh : (l : Lft) → Shares 𝓛 R l) (ℓ : Lifetime) (κ : Lft) (q : Share)
+      (b o : ℕ) (γ : GName) (xs : List R.Denot) where
     pub gives_front : (k : ℕ) → k ≤ length xs → (vs : List Val)
-        → ent 𝓤 (sep 𝓤 (sem 𝓛 ((MutSlice ℓ κ R).own_val (record { ref_ptr = (b, o); ghost_name = γ; now = xs }) vs)) (A.lft κ q))
-        (H.⇛ (sep 𝓤 (sem 𝓛 ((ShrSlice ℓ κ R).own_val (record { ref_ptr = (b, o); now = take k xs }) (slice_val (b, o) k ∷ []))) (sep 𝓤 (A.lft κ q) (A.res γ ((coded_list R.coded).code xs)))))
+        → ent 𝓤 (sep 𝓤 (sem 𝓛 ((MutSlice ℓ κ R).own_val (record { ref_ptr = (b, o); ghost_name = γ; now = xs }) vs))
+        (A.lft κ q))
+        (H.⇛ (sep 𝓤 (sem 𝓛 ((ShrSlice ℓ κ R).own_val (record { ref_ptr = (b, o); now = take k xs })
+        (slice_val (b, o) k ∷ []))) (sep 𝓤 (A.lft κ q) (A.res γ ((coded_list R.coded).code xs)))))
     gives_front k within vs =
-        qed 𝓛 (‵ ((MutSlice ℓ κ R).own_val (record { ref_ptr = (b, o); ghost_name = γ; now = xs }) vs) ∷ ‵ (flft κ q) ∷ []) ∵
+        qed 𝓛 (‵ ((MutSlice ℓ κ R).own_val (record { ref_ptr = (b, o); ghost_name = γ; now = xs }) vs) ∷ ‵ (flft κ q)
+        ∷ []) ∵
         updating ! $ fsplit ! $ fsplit ! $ feq_l ! (λ _. fjoin ! $
-        use2 𝓛 (later (‵ ((bare.ShrSlice erased κ R).own_val (record { ref_ptr = (b, o); now = xs })) ⊛ ‵ (finally R γ xs) ⊛ ‵ (flft κ q)))
+        use2 𝓛 (later (‵ ((bare.ShrSlice erased κ R).own_val (record { ref_ptr = (b, o); now = xs })) ⊛ ‵
+        (finally R γ xs) ⊛ ‵ (flft κ q)))
         (sl_Share 𝓛 R b o γ xs laws κ q (sh κ)) $ await ! tt $ split3 ! $
         -- [the shared slice; how the name ends; the token]
-        move ! (1 ∷ []) $ use1 𝓛 (‵ (fres γ ((coded_list R.coded).code xs))) (finally-res 𝓛 R γ xs) $ move ! (1 ∷ 2 ∷ []) $
-        use2 𝓛 (later (‵ ((bare.ShrSlice erased κ R).own_val (record { ref_ptr = (b, o); now = take k xs })) ⊛ ‵ (flft κ q)))
+        move ! (1 ∷ []) $ use1 𝓛 (‵ (fres γ ((coded_list R.coded).code xs))) (finally-res 𝓛 R γ xs)
+        $ move ! (1 ∷ 2 ∷ []) $
+        use2 𝓛 (later (‵ ((bare.ShrSlice erased κ R).own_val (record { ref_ptr = (b, o); now = take k xs })) ⊛ ‵
+        (flft κ q)))
         (shs_prefix_same 𝓛 R κ q b o xs k) $ await ! tt $ split ! $ fsplit ! $
-        feq_i ! (List Val) (slice_val (b, o) k ∷ []) (slice_val (b, o) (length (take k xs)) ∷ []) (λ i. slice_val (b, o) (sym (length-take-le k xs within) i) ∷ []) $
+        feq_i ! (List Val) (slice_val (b, o) k ∷ []) (slice_val (b, o) (length (take k xs)) ∷ [])
+        (λ i. slice_val (b, o) (sym (length-take-le k xs within) i) ∷ []) $
         fjoin ! $ fjoin ! $ now ! $ done !)
 
   -- of bytes
-  pub byte_front : (ℓ : Lifetime) (κ : Lft) (q : Share) (b o : ℕ) (γ : GName) (xs : List ℕ) (k : ℕ) → k ≤ length xs → (vs : List Val)
-      → ent 𝓤 (sep 𝓤 (sem 𝓛 ((MutSlice ℓ κ u8).own_val (record { ref_ptr = (b, o); ghost_name = γ; now = xs }) vs)) (A.lft κ q))
-      (H.⇛ (sep 𝓤 (sem 𝓛 ((ShrSlice ℓ κ u8).own_val (record { ref_ptr = (b, o); now = take k xs }) (slice_val (b, o) k ∷ []))) (sep 𝓤 (A.lft κ q) (A.res γ ((coded_list u8.coded).code xs)))))
+  pub byte_front : (ℓ : Lifetime) (κ : Lft) (q : Share) (b o : ℕ) (γ : GName) (xs : List ℕ) (k : ℕ) → k ≤ length xs
+      → (vs : List Val)
+      → ent 𝓤 (sep 𝓤 (sem 𝓛 ((MutSlice ℓ κ u8).own_val (record { ref_ptr = (b, o); ghost_name = γ; now = xs }) vs))
+      (A.lft κ q))
+      (H.⇛ (sep 𝓤 (sem 𝓛 ((ShrSlice ℓ κ u8).own_val (record { ref_ptr = (b, o); now = take k xs })
+      (slice_val (b, o) k ∷ []))) (sep 𝓤 (A.lft κ q) (A.res γ ((coded_list u8.coded).code xs)))))
   byte_front = gives_front u8 (uint_row_laws w8) (λ l. (uint_Copied 𝓛 w8).shares full_share l)
 
   -- the same name, and more of what it ends at
@@ -91,7 +105,8 @@ abbrev pub byte_laws : Laws u8
 byte_laws = of_field u8-field u8-laws refl (copy_shared u8-field u8-copy)
 
 abbrev pub bytes_laws : (a : NamedLft) → Laws (ShrSlice a.mir a.lft u8)
-bytes_laws a = of_field (shr_slice_field a u8 tt) (shr_slice_laws a u8 tt) refl (copy_shared (shr_slice_field a u8 tt) (shr_slice_copy a u8 tt byte_laws.shr_laws))
+bytes_laws a = of_field (shr_slice_field a u8 tt) (shr_slice_laws a u8 tt) refl
+    (copy_shared (shr_slice_field a u8 tt) (shr_slice_copy a u8 tt byte_laws.shr_laws))
 
 abbrev pub Answer : NamedLft → RattleType
 Answer a = Result-type.the_row (ShrSlice a.mir a.lft u8) Error-type.the_row
@@ -120,7 +135,8 @@ abbrev pub outcome_laws : Laws Outcome
 outcome_laws = result_laws usize Error-type.the_row count_laws error_laws
 
 abbrev pub outcome_lowers : Lowered Outcome
-outcome_lowers = result_lowers usize Error-type.the_row count_laws error_laws (field_told usize-field usize-laws) error_told
+outcome_lowers = result_lowers usize Error-type.the_row count_laws error_laws (field_told usize-field usize-laws)
+    error_told
 
 abbrev pub TextOutcome : RattleType
 TextOutcome = Result-type.the_row usize Length-type.the_row
@@ -129,7 +145,8 @@ abbrev pub text_outcome_laws : Laws TextOutcome
 text_outcome_laws = result_laws usize Length-type.the_row count_laws length_laws
 
 abbrev pub text_outcome_lowers : Lowered TextOutcome
-text_outcome_lowers = result_lowers usize Length-type.the_row count_laws length_laws (field_told usize-field usize-laws) length_told
+text_outcome_lowers = result_lowers usize Length-type.the_row count_laws length_laws (field_told usize-field usize-laws)
+    length_told
 
 -- and so has `Result<&[u8], DecodeVecError>`
 abbrev pub VecAnswer : NamedLft → RattleType

@@ -1,9 +1,12 @@
 -- What four looks tell of a block of four characters.
-use Rattle.std.proofs.Common.{◌≡◌, ◌≢◌, ◌↔◌, ℕ, zero, suc, ◌/◌, ◌<◌, ◌≤◌, Bool, true, List, [], ◌∷◌, length, bit_and, bit_or, Option, Some, None, refl, ◌∙◌, subst, arith, ℤ, pos, negsuc, to_z, of_z, w16, rules}
+use Rattle.std.proofs.Common.{◌≡◌, ◌≢◌, ◌↔◌, ℕ, zero, suc, ◌/◌, ◌<◌, ◌≤◌, Bool, true, List, [], ◌∷◌, length, bit_and}
+use Rattle.std.proofs.Common.{bit_or, Option, Some, None, refl, ◌∙◌, subst, arith, ℤ, pos, negsuc, to_z, of_z, w16}
+use Rattle.std.proofs.Common.{rules}
 use lib.IntN.{nat_abs}
 use Rattle.std.specs.Prelude.{MatchOption}
 use Rattle.std.proofs.lemmas.Nat.{and_mask, and_le_r, le_or_l, le_or_r, or_lt}
-use Rattle.base64ct.specs.Encoding.{Alphabet, is_alphabet, character, value_of, unpadded_encoding, groups, whole_bytes, EachBelow, AreCharacters}
+use Rattle.base64ct.specs.Encoding.{Alphabet, is_alphabet, character, value_of, unpadded_encoding, groups, whole_bytes}
+use Rattle.base64ct.specs.Encoding.{EachBelow, AreCharacters}
 use Rattle.base64ct.proofs.Sextets.{groups-whole_bytes, whole_bytes-block}
 use Rattle.base64ct.proofs.Values.{value_of-Some}
 
@@ -35,7 +38,8 @@ module _ (a : Alphabet) (lawful : is_alphabet a ≡ true) where
   some_of_small c v h lt e = let big : 64 ≤ v = subst (λ o. MatchOption o (64 ≤ v) (λ p. v ≡ p)) e h in omega arith
 
 -- the low byte of a value, or of -1
-pub low_byte : (a : Alphabet) (c : ℕ) (z : ℤ) → is_alphabet a ≡ true → MatchOption (value_of a c) (z ≡ negsuc 0) (λ v. z ≡ pos v)
+pub low_byte : (a : Alphabet) (c : ℕ) (z : ℤ) → is_alphabet a ≡ true
+    → MatchOption (value_of a c) (z ≡ negsuc 0) (λ v. z ≡ pos v)
     → IsValueOf a c (nat_abs (to_z w16 (bit_and (of_z w16 z) 255)))
 low_byte a c z lawful h = go (value_of a c) refl
   where
@@ -64,7 +68,8 @@ small_whole v w x y lv lw lx ly =
     let small = or_lt 6 (bit_or (bit_or v w) x) y (or_lt 6 (bit_or v w) x (or_lt 6 v w lv lw) lx) ly in
     omega arith
 
-pub fault_from_values : (a : Alphabet) (c d e f v w x y : ℕ) → is_alphabet a ≡ true → IsValueOf a c v → IsValueOf a d w → IsValueOf a e x → IsValueOf a f y
+pub fault_from_values : (a : Alphabet) (c d e f v w x y : ℕ) → is_alphabet a ≡ true → IsValueOf a c v → IsValueOf a d w
+    → IsValueOf a e x → IsValueOf a f y
     → (bit_or (bit_or (bit_or v w) x) y / 64 ≡ 0) ↔ AreCharacters a (c ∷ d ∷ e ∷ f ∷ [])
 fault_from_values a c d e f v w x y h hc hd he hf = (found, none)
   where
@@ -76,25 +81,38 @@ fault_from_values a c d e f v w x y h hc hd he hf = (found, none)
     found z (suc (suc (suc (suc i)))) lt = absurd (omega arith)
 
     none : AreCharacters a (c ∷ d ∷ e ∷ f ∷ []) → bit_or (bit_or (bit_or v w) x) y / 64 ≡ 0
-    none all = small_whole v w x y (small_of_some a h c v hc (all 0 (omega arith))) (small_of_some a h d w hd (all 1 (omega arith))) (small_of_some a h e x he (all 2 (omega arith))) (small_of_some a h f y hf (all 3 (omega arith)))
+    none all = small_whole v w x y (small_of_some a h c v hc (all 0 (omega arith)))
+        (small_of_some a h d w hd (all 1 (omega arith))) (small_of_some a h e x he (all 2 (omega arith)))
+        (small_of_some a h f y hf (all 3 (omega arith)))
 
 mask : (n : ℕ) → n < 64 → bit_and n 63 ≡ n
 mask n lt = and_mask n 6 ∙ omega arith
 
-pub unpadded_from_values : (a : Alphabet) (c d e f v w x y : ℕ) (low_first : Bool) (bytes : List ℕ) → is_alphabet a ≡ true → IsValueOf a c v → IsValueOf a d w → IsValueOf a e x → IsValueOf a f y
-    → low_first ≡ a.low_first → bytes ≡ whole_bytes low_first (bit_and v 63 ∷ bit_and w 63 ∷ bit_and x 63 ∷ bit_and y 63 ∷ [])
+pub unpadded_from_values : (a : Alphabet) (c d e f v w x y : ℕ) (low_first : Bool) (bytes : List ℕ)
+    → is_alphabet a ≡ true → IsValueOf a c v → IsValueOf a d w → IsValueOf a e x → IsValueOf a f y
+    → low_first ≡ a.low_first
+    → bytes ≡ whole_bytes low_first (bit_and v 63 ∷ bit_and w 63 ∷ bit_and x 63 ∷ bit_and y 63 ∷ [])
     → bit_or (bit_or (bit_or v w) x) y / 64 ≡ 0 → unpadded_encoding a bytes ≡ c ∷ d ∷ e ∷ f ∷ []
 unpadded_from_values a c d e f v w x y low_first bytes h hc hd he hf order same none =
     let small = small_parts v w x y none in
     let values : groups a.low_first bytes ≡ v ∷ w ∷ x ∷ y ∷ [] =
-    rw (same, mask v small.0, mask w small.1, mask x small.2, mask y small.3, ← order) (groups-whole_bytes low_first v w x y small.0 small.1 small.2 small.3) in
-    rw (values, ← character_of_value a h c v hc small.0, ← character_of_value a h d w hd small.1, ← character_of_value a h e x he small.2, ← character_of_value a h f y hf small.3) refl
+    rw (same, mask v small.0, mask w small.1, mask x small.2, mask y small.3, ← order)
+    (groups-whole_bytes low_first v w x y small.0 small.1 small.2 small.3) in
+    rw (
+      values,
+      ← character_of_value a h c v hc small.0,
+      ← character_of_value a h d w hd small.1,
+      ← character_of_value a h e x he small.2,
+      ← character_of_value a h f y hf small.3,
+    ) refl
 
-pub bytes_from_values : (v w x y : ℕ) (low_first : Bool) (bytes : List ℕ) → bytes ≡ whole_bytes low_first (bit_and v 63 ∷ bit_and w 63 ∷ bit_and x 63 ∷ bit_and y 63 ∷ [])
+pub bytes_from_values : (v w x y : ℕ) (low_first : Bool) (bytes : List ℕ)
+    → bytes ≡ whole_bytes low_first (bit_and v 63 ∷ bit_and w 63 ∷ bit_and x 63 ∷ bit_and y 63 ∷ [])
     → (length bytes ≡ 3) × EachBelow 256 bytes
 bytes_from_values v w x y low_first bytes e =
     let lv = and_le_r v 63 in
     let lw = and_le_r w 63 in
     let lx = and_le_r x 63 in
     let ly = and_le_r y 63 in
-    rw e (whole_bytes-block low_first (bit_and v 63) (bit_and w 63) (bit_and x 63) (bit_and y 63) (omega arith) (omega arith) (omega arith) (omega arith))
+    rw e (whole_bytes-block low_first (bit_and v 63) (bit_and w 63) (bit_and x 63) (bit_and y 63) (omega arith)
+    (omega arith) (omega arith) (omega arith))

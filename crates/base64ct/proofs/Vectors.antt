@@ -6,7 +6,8 @@ use Rattle.base64ct.specs.Decoding.{decoding}
 use Rattle.base64ct.specs.Blocks.{blocks}
 use Rattle.base64ct.specs.Tables.{compared, reencoded}
 use Rattle.base64ct.specs.Counts.{look_count, comparison_count}
-use Rattle.base64ct.specs.Alphabets.{base64, base64_unpadded, base64_url, base64_bcrypt, base64_crypt, base64_pbkdf2, base64_sha_crypt}
+use Rattle.base64ct.specs.Alphabets.{base64, base64_unpadded, base64_url, base64_bcrypt, base64_crypt, base64_pbkdf2}
+use Rattle.base64ct.specs.Alphabets.{base64_sha_crypt}
 
 alphabet : is_alphabet base64_sha_crypt ≡ true
 alphabet = refl

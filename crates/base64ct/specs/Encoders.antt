@@ -1,5 +1,6 @@
 -- What an encoder stands for.
-use Rattle.std.specs.Prelude.{◌≡◌, ℕ, zero, suc, ◌+◌, ◌-◌, ◌*◌, ◌/◌, ◌%◌, ◌≤◌, ◌==◌, nat_lt, if◌then◌else◌, List, [], ◌∷◌, ◌++◌, length, map, take, Option, Some, None}
+use Rattle.std.specs.Prelude.{◌≡◌, ℕ, zero, suc, ◌+◌, ◌-◌, ◌*◌, ◌/◌, ◌%◌, ◌≤◌, ◌==◌, nat_lt, if◌then◌else◌, List, []}
+use Rattle.std.specs.Prelude.{◌∷◌, ◌++◌, length, map, take, Option, Some, None}
 use Rattle.std.specs.List.{position_or_len}
 use Rattle.base64ct.specs.Encoding.{Alphabet, whole_bytes, unpadded_encoding, EachBelow}
 use Rattle.base64ct.specs.Wrapping.{Format}
@@ -26,7 +27,8 @@ unwrap_from w k (suc n) (c ∷ cs) = if nat_lt n k then unwrap_from w k n cs els
 
 -- the bytes whose characters, wrapped at w by endings of k bytes, are these
 abbrev pub bytes_in : Alphabet → ℕ → ℕ → List ℕ → List ℕ
-bytes_in a w k front = whole_bytes a.low_first (map (λ c. position_or_len (λ x. x == c) a.characters) (unwrap_from w k (w + k) front))
+bytes_in a w k front = whole_bytes a.low_first
+    (map (λ c. position_or_len (λ x. x == c) a.characters) (unwrap_from w k (w + k) front))
 
 -- the whole blocks of three bytes
 abbrev pub whole_blocks : List ℕ → List ℕ

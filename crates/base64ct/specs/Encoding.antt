@@ -1,5 +1,7 @@
 -- Bytes encoded by characters of six bits each (RFC 4648, sections 3 to 5), and the texts that are read back.
-use Rattle.std.specs.Prelude.{◌≡◌, ◌≢◌, ℕ, zero, suc, ◌+◌, ◌-◌, ◌*◌, ◌/◌, ◌%◌, ◌^◌, ◌<◌, ◌==◌, Bool, true, ◌&&◌, not, if◌then◌else◌, List, [], ◌∷◌, ◌++◌, length, map, reverse, take, drop, replicate, slice_index, EachIndex, Option, None, count_by, position, flat_map, nat_lt}
+use Rattle.std.specs.Prelude.{◌≡◌, ◌≢◌, ℕ, zero, suc, ◌+◌, ◌-◌, ◌*◌, ◌/◌, ◌%◌, ◌^◌, ◌<◌, ◌==◌, Bool, true, ◌&&◌, not}
+use Rattle.std.specs.Prelude.{if◌then◌else◌, List, [], ◌∷◌, ◌++◌, length, map, reverse, take, drop, replicate}
+use Rattle.std.specs.Prelude.{slice_index, EachIndex, Option, None, count_by, position, flat_map, nat_lt}
 use Rattle.std.specs.List.{list_all}
 
 -- the characters of the values 0 to 63; whether `=` fills the text up to fours; whether bits are taken lowest first
@@ -125,7 +127,8 @@ EachBelow n xs = (i : ℕ) → slice_index xs i < n
 
 -- these are the characters of the values, and the bytes are the whole bytes of their bits
 abbrev pub Reads : Alphabet → List ℕ → List ℕ → List ℕ → Type 0
-Reads a cs values bytes = EachBelow 64 values × (length values % 4 ≢ 1) × (cs ≡ map (character a) values) × (bytes ≡ whole_bytes a.low_first values)
+Reads a cs values bytes = EachBelow 64 values × (length values % 4 ≢ 1) × (cs ≡ map (character a) values)
+    × (bytes ≡ whole_bytes a.low_first values)
 
 -- t is read as these bytes, whatever bits are left over
 abbrev pub IsLenient : Alphabet → List ℕ → List ℕ → Type 0

@@ -1,5 +1,6 @@
 -- What a call has done to a buffer that is lent to it, and what it answers.
-use Rattle.std.specs.Prelude.{◌≡◌, ◌≢◌, ◌↔◌, ◌⊎◌, ◌++◌, ℕ, ◌<◌, ◌≤◌, List, length, take, drop, Result, Err, Some, None, IsErr, IfOk, OnErr, MatchResult}
+use Rattle.std.specs.Prelude.{◌≡◌, ◌≢◌, ◌↔◌, ◌⊎◌, ◌++◌, ℕ, ◌<◌, ◌≤◌, List, length, take, drop, Result, Err, Some, None}
+use Rattle.std.specs.Prelude.{IsErr, IfOk, OnErr, MatchResult}
 use Rattle.std.specs.Borrow.{RattleType, u8 as byte}
 use Rattle.std.specs.contracts.vec.Vec.{the_row as vec_row}
 use Rattle.std.specs.contracts.alloc.Global.{the_row as global}
@@ -16,9 +17,11 @@ Decodes a src old new r =
     (IsMisaligned a src → (r ≡ Err InvalidEncoding) × (new ≡ old))
     × ((IsMisaligned a src → ⊥) → length old < decoded_len a src → (r ≡ Err InvalidLength) × (new ≡ old))
     × ((IsMisaligned a src → ⊥) → decoded_len a src ≤ length old
-    → MatchResult r (λ n. (n ≡ decoded_len a src) × (src ≡ encoding a (take n new))) (λ e. (e ≡ InvalidEncoding) × ((b : List ℕ) → EachBelow 256 b → encoding a b ≢ src)))
+    → MatchResult r (λ n. (n ≡ decoded_len a src) × (src ≡ encoding a (take n new)))
+    (λ e. (e ≡ InvalidEncoding) × ((b : List ℕ) → EachBelow 256 b → encoding a b ≢ src)))
     × (decoded_len a src ≤ length old
-    → MatchResult r (λ n. (n ≡ decoded_len a src) × (n ≤ length old) × (decoding a src ≡ Some (take n new))) (λ e. (e ≡ InvalidEncoding) × (decoding a src ≡ None)))
+    → MatchResult r (λ n. (n ≡ decoded_len a src) × (n ≤ length old) × (decoding a src ≡ Some (take n new)))
+    (λ e. (e ≡ InvalidEncoding) × (decoding a src ≡ None)))
     × (drop (decoded_len a src) new ≡ drop (decoded_len a src) old)
 
 -- encoding bytes into a buffer that was old and is new

@@ -1,6 +1,7 @@
 -- The masked steps from a character to its value and back, in 16-bit two's complement: a number below
 -- 2 ^ 15 stands for itself, and one from there on for what is 2 ^ 16 less.
-use Rattle.std.specs.Prelude.{ℕ, zero, suc, ◌+◌, ◌-◌, ◌/◌, ◌%◌, ◌==◌, Bool, true, ◌&&◌, cond, nat_lt, List, [], ◌∷◌, Option, Some, None, bit_and}
+use Rattle.std.specs.Prelude.{ℕ, zero, suc, ◌+◌, ◌-◌, ◌/◌, ◌%◌, ◌==◌, Bool, true, ◌&&◌, cond, nat_lt, List, [], ◌∷◌}
+use Rattle.std.specs.Prelude.{Option, Some, None, bit_and}
 use Rattle.base64ct.specs.Encoding.{Alphabet, character, value_of}
 
 -- what is added where the character lies in a range, from its first to its last: the character and an
@@ -38,8 +39,10 @@ sign_shift a = cond (nat_lt a 0x8000) (a / 256) (0xff00 + a / 256)
 
 -- what a step adds for the character c
 abbrev pub decode_step : ℕ → DecodeStep → ℕ
-decode_step c (in_range first last offset) = bit_and (sign_shift (bit_and (word_sub (word_sub first 1) c) (word_sub c (last + 1)))) (word_add c offset)
-decode_step c (at_one one value) = bit_and (sign_shift (bit_and (word_sub (word_sub one 1) c) (word_sub c (one + 1)))) value
+decode_step c (in_range first last offset) =
+    bit_and (sign_shift (bit_and (word_sub (word_sub first 1) c) (word_sub c (last + 1)))) (word_add c offset)
+decode_step c (at_one one value) =
+    bit_and (sign_shift (bit_and (word_sub (word_sub one 1) c) (word_sub c (one + 1)))) value
 
 -- a sum and all that steps add to it
 abbrev pub decode_from : ℕ → ℕ → List DecodeStep → ℕ
@@ -53,8 +56,10 @@ decoded_by s c = decode_from (minus 1) c s.decoding
 -- a sum and all that steps add to it for the value v
 abbrev pub encode_from : ℕ → ℕ → List EncodeStep → ℕ
 encode_from sum v [] = sum
-encode_from sum v (past_value bound n ∷ steps) = encode_from (word_add sum (bit_and (sign_shift (word_sub bound v)) n)) v steps
-encode_from sum v (past_sum bound n ∷ steps) = encode_from (word_add sum (bit_and (sign_shift (word_sub bound sum)) n)) v steps
+encode_from sum v (past_value bound n ∷ steps) =
+    encode_from (word_add sum (bit_and (sign_shift (word_sub bound v)) n)) v steps
+encode_from sum v (past_sum bound n ∷ steps) =
+    encode_from (word_add sum (bit_and (sign_shift (word_sub bound sum)) n)) v steps
 
 -- the steps from the value and the base on
 abbrev pub encoded_by : Steps → ℕ → ℕ
@@ -72,4 +77,5 @@ all_below (suc n) test = test n && all_below n test
 
 -- the steps give the value of each character and the character of each value
 unfoldable pub steps_agree : Alphabet → Steps → Bool
-steps_agree a s = all_below 256 (λ c. decoded_by s c == word_of (value_of a c)) && all_below 64 (λ v. encoded_by s v == character a v)
+steps_agree a s = all_below 256 (λ c. decoded_by s c == word_of (value_of a c))
+    && all_below 64 (λ v. encoded_by s v == character a v)

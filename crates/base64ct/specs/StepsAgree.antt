@@ -1,6 +1,8 @@
 -- The steps of each alphabet give the values of all 256 bytes and the characters of all 64 values: computed.
 use Rattle.std.specs.Prelude.{◌≡◌, true, refl}
-use Rattle.base64ct.specs.Alphabets.{base64, base64_unpadded, base64_url, base64_url_unpadded, base64_bcrypt, base64_crypt, base64_pbkdf2, base64_sha_crypt, base64_steps, base64_url_steps, base64_bcrypt_steps, base64_crypt_steps, base64_pbkdf2_steps}
+use Rattle.base64ct.specs.Alphabets.{base64, base64_unpadded, base64_url, base64_url_unpadded, base64_bcrypt}
+use Rattle.base64ct.specs.Alphabets.{base64_crypt, base64_pbkdf2, base64_sha_crypt, base64_steps, base64_url_steps}
+use Rattle.base64ct.specs.Alphabets.{base64_bcrypt_steps, base64_crypt_steps, base64_pbkdf2_steps}
 use Rattle.base64ct.specs.Steps.{steps_agree}
 
 pub base64_agrees : steps_agree base64 base64_steps ≡ true

@@ -1,5 +1,6 @@
 -- What decoding by a table of characters and a test of two numbers answers.
-use Rattle.std.specs.Prelude.{◌≡◌, ◌≢◌, ℕ, ◌+◌, ◌-◌, ◌*◌, ◌/◌, ◌%◌, ◌==◌, Bool, true, ◌&&◌, List, ◌∷◌, ◌++◌, length, take, drop, replicate}
+use Rattle.std.specs.Prelude.{◌≡◌, ◌≢◌, ℕ, ◌+◌, ◌-◌, ◌*◌, ◌/◌, ◌%◌, ◌==◌, Bool, true, ◌&&◌, List, ◌∷◌, ◌++◌, length}
+use Rattle.std.specs.Prelude.{take, drop, replicate}
 use Rattle.std.specs.Cmp.Lexicographic.{pointwise}
 use Rattle.base64ct.specs.declared.tables.Shape.{Shape}
 use Rattle.base64ct.specs.Encoding.{Alphabet, all_different, equals_sign, character, unpadded_encoding, padding_len}

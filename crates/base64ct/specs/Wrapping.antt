@@ -1,5 +1,6 @@
 -- Text in lines of a width.
-use Rattle.std.specs.Prelude.{◌≡◌, ℕ, zero, suc, ◌+◌, ◌-◌, ◌/◌, ◌<◌, ◌≤◌, ◌==◌, ◌&&◌, ◌||◌, if◌then◌else◌, List, [], ◌∷◌, ◌++◌, length, slice_index, Option, Some, None, ◌⊎◌}
+use Rattle.std.specs.Prelude.{◌≡◌, ℕ, zero, suc, ◌+◌, ◌-◌, ◌/◌, ◌<◌, ◌≤◌, ◌==◌, ◌&&◌, ◌||◌, if◌then◌else◌, List, []}
+use Rattle.std.specs.Prelude.{◌∷◌, ◌++◌, length, slice_index, Option, Some, None, ◌⊎◌}
 use Rattle.std.specs.List.{join_by}
 use Rattle.std.specs.Simd.{first_chunks}
 
@@ -31,8 +32,10 @@ IsEnding e = (e ≡ 13 ∷ []) ⊎ (e ≡ 10 ∷ []) ⊎ (e ≡ 13 ∷ 10 ∷ []
 -- "BCCB LF BBA"): where it stands for an encoding, which holds neither, it is one
 unfoldable pub AreLines : ℕ → List (List ℕ) → List ℕ → Type 0
 AreLines w [] text = ⊥
-AreLines w (line ∷ []) text = (0 < length line) × (length line ≤ w) × ((text ≡ line) ⊎ ((e : List ℕ) × IsEnding e × (text ≡ line ++ e)))
-AreLines w (line ∷ next ∷ lines) text = (length line ≡ w) × ((e rest : List ℕ) × IsEnding e × (text ≡ line ++ e ++ rest) × AreLines w (next ∷ lines) rest)
+AreLines w (line ∷ []) text =
+    (0 < length line) × (length line ≤ w) × ((text ≡ line) ⊎ ((e : List ℕ) × IsEnding e × (text ≡ line ++ e)))
+AreLines w (line ∷ next ∷ lines) text =
+    (length line ≡ w) × ((e rest : List ℕ) × IsEnding e × (text ≡ line ++ e ++ rest) × AreLines w (next ∷ lines) rest)
 
 -- text is t in lines of w characters, with any endings
 abbrev pub Wrapped : List ℕ → ℕ → List ℕ → Type 0
@@ -65,7 +68,8 @@ unfoldable pub characters_from : ℕ → ℕ → List ℕ → Option (List ℕ)
 characters_from w room [] = Some []
 characters_from w (suc room) (c ∷ rest) = before (c ∷ []) (characters_from w room rest)
 characters_from w zero (c ∷ []) = None
-characters_from w zero (c ∷ d ∷ []) = if (c == 13) && (d == 10) then None else if (c == 13) || (c == 10) then before (d ∷ []) (Some []) else None
+characters_from w zero (c ∷ d ∷ []) =
+    if (c == 13) && (d == 10) then None else if (c == 13) || (c == 10) then before (d ∷ []) (Some []) else None
 characters_from w zero (c ∷ d ∷ f ∷ rest) =
     if (c == 13) && (d == 10) then before (f ∷ []) (characters_from w (w - 1) rest)
     else if (c == 13) || (c == 10) then before (d ∷ []) (characters_from w (w - 1) (f ∷ rest))

@@ -1,10 +1,13 @@
 -- Laws of a line buffer.
-use Rattle.std.proofs.Common.{zero, suc, ◌≡◌, ℕ, ◌<◌, ◌≤◌, ◌+◌, ◌-◌, Bool, true, false, List, [], ◌∷◌, ◌++◌, inl, inr, length, get_or, take, drop, Option, refl, sym, ap, ◌∙◌, append_assoc, add-one, arith, rules, drop-cons, length-drop, length-append, eqb}
+use Rattle.std.proofs.Common.{zero, suc, ◌≡◌, ℕ, ◌<◌, ◌≤◌, ◌+◌, ◌-◌, Bool, true, false, List, [], ◌∷◌, ◌++◌, inl, inr}
+use Rattle.std.proofs.Common.{length, get_or, take, drop, Option, refl, sym, ap, ◌∙◌, append_assoc, add-one, arith}
+use Rattle.std.proofs.Common.{rules, drop-cons, length-drop, length-append, eqb}
 use borrow.Rule.Slice.PartMut.{put_mid, post_of}
 use Rattle.std.specs.Prelude.{◌↔◌, ◌||◌, nat_lt, if◌then◌else◌}
 use Rattle.std.specs.List.{list_any}
 use Rattle.std.proofs.lemmas.Bool.{cases_Bool, or_cases}
-use Rattle.std.proofs.lemmas.List.{drop-drop, take-append-drop, take-append-le, drop-take, length-take-le, drop-append-le}
+use Rattle.std.proofs.lemmas.List.{drop-drop, take-append-drop, take-append-le, drop-take, length-take-le}
+use Rattle.std.proofs.lemmas.List.{drop-append-le}
 use Rattle.std.proofs.lemmas.List.Folds.{list_any-append}
 use Rattle.std.proofs.lemmas.Slice.{take-put_mid_below}
 use Rattle.std.proofs.Math.Seq.{take-append-add, take-length}
@@ -24,7 +27,8 @@ dropped bytes start end k h =
     rw e (rw (drop-take k (end - (start + k)) (drop start bytes), drop-drop k start bytes) refl)
 
 pub filled : (bytes buf : List ℕ) (start end room count : ℕ) → start ≤ end → end ≤ length bytes → count ≤ length buf →
-    take (end + count - start) (drop start (put_mid end room bytes buf)) ≡ take (end - start) (drop start bytes) ++ take count buf
+    take (end + count - start) (drop start (put_mid end room bytes buf)) ≡ take (end - start) (drop start bytes)
+    ++ take count buf
 filled bytes buf start end room count ordered within fits =
     let whole : List ℕ = put_mid end room bytes buf in
     let known : List ℕ = take end bytes in
@@ -78,10 +82,12 @@ fewer (suc n) (suc m) (x ∷ xs) h free =
 pub free-append : (xs ys : List ℕ) → NoFeed xs → NoFeed ys → NoFeed (xs ++ ys)
 free-append xs ys p q = rw (list_any-append is_feed xs ys, p, q) refl
 
-pub split_at : (text : List ℕ) (at : ℕ) → at < length text → take at text ++ get_or text at 0 ∷ drop (at + 1) text ≡ text
+pub split_at : (text : List ℕ) (at : ℕ) → at < length text
+    → take at text ++ get_or text at 0 ∷ drop (at + 1) text ≡ text
 split_at text at within = rw (add-one, ← drop-cons text at 0) (take-append-drop at text)
 
--- What a call has gathered: `gone` is the dropped end of a long line, and none of the first `seen` pending bytes is a feed.
+-- What a call has gathered: `gone` is the dropped end of a long line, and none of the first `seen` pending bytes is a
+-- feed.
 pub record Gathered (left left_now : Option (List ℕ)) (before now : LineBuffer) (long : Bool) (seen : ℕ) : Type 0 where
   pub gone : List ℕ
   pub bytes : List ℕ
@@ -117,7 +123,8 @@ fill_step left mid_left left_now before mid now long seen all g f = record {
   bytes = g.bytes ++ f.bytes;
   consumed = consumes_more left mid_left left_now g.bytes f.bytes g.consumed f.consumed;
   counted = rw (f.counted, g.counted, length-append g.bytes f.bytes) (omega arith);
-  whole = rw (f.added, ← append_assoc (pending before) g.bytes f.bytes, g.whole) (append_assoc g.gone (pending mid) f.bytes);
+  whole = rw (f.added, ← append_assoc (pending before) g.bytes f.bytes, g.whole)
+      (append_assoc g.gone (pending mid) f.bytes);
   free = g.free;
   short = g.short;
   longer = g.longer;
@@ -137,37 +144,39 @@ pub drop_step : (left left_now : Option (List ℕ)) (before mid now : LineBuffer
     next ≡ (long || nat_lt 8192 (length (pending mid))) →
     pending now ≡ (if nat_lt 8192 (length (pending mid)) then [] else pending mid) → KeepsRest mid now →
     Gathered left left_now before now next (length (pending now))
-drop_step left left_now before mid now long next seen g free e p k = elim (cases_Bool (nat_lt 8192 (length (pending mid)))) [
-  | inl yes_long ↦
-      let q : pending now ≡ [] = rw yes_long at p in
-      record {
-        gone = g.gone ++ pending mid;
-        bytes = g.bytes;
-        consumed = g.consumed;
-        counted = rw k.taken_same g.counted;
-        whole = rw q (rw (append-nil (g.gone ++ pending mid)) g.whole);
-        free = free-append g.gone (pending mid) g.free free;
-        short = λ s. absurd (let w = rw (yes_long, or-true long) at e in cc);
-        longer = λ s. let w : 8192 < length (pending mid) = search rules in rw (length-append g.gone (pending mid)) (omega arith);
-        seen_free = rw q refl;
-        seen_within = omega arith;
-      }
-  | inr fits ↦
-      let q : pending now ≡ pending mid = rw fits at p in
-      let s : next ≡ long = (rw fits at e) ∙ or-false_r long in
-      record {
-        gone = g.gone;
-        bytes = g.bytes;
-        consumed = g.consumed;
-        counted = rw k.taken_same g.counted;
-        whole = rw q g.whole;
-        free = g.free;
-        short = λ f. g.short (sym s ∙ f);
-        longer = λ f. g.longer (sym s ∙ f);
-        seen_free = rw (q, take-length (pending mid)) free;
-        seen_within = omega arith;
-      }
-]
+drop_step left left_now before mid now long next seen g free e p k =
+    elim (cases_Bool (nat_lt 8192 (length (pending mid)))) [
+      | inl yes_long ↦
+          let q : pending now ≡ [] = rw yes_long at p in
+          record {
+            gone = g.gone ++ pending mid;
+            bytes = g.bytes;
+            consumed = g.consumed;
+            counted = rw k.taken_same g.counted;
+            whole = rw q (rw (append-nil (g.gone ++ pending mid)) g.whole);
+            free = free-append g.gone (pending mid) g.free free;
+            short = λ s. absurd (let w = rw (yes_long, or-true long) at e in cc);
+            longer = λ s. let w : 8192 < length (pending mid) = search rules in
+                rw (length-append g.gone (pending mid)) (omega arith);
+            seen_free = rw q refl;
+            seen_within = omega arith;
+          }
+      | inr fits ↦
+          let q : pending now ≡ pending mid = rw fits at p in
+          let s : next ≡ long = (rw fits at e) ∙ or-false_r long in
+          record {
+            gone = g.gone;
+            bytes = g.bytes;
+            consumed = g.consumed;
+            counted = rw k.taken_same g.counted;
+            whole = rw q g.whole;
+            free = g.free;
+            short = λ f. g.short (sym s ∙ f);
+            longer = λ f. g.longer (sym s ∙ f);
+            seen_free = rw (q, take-length (pending mid)) free;
+            seen_within = omega arith;
+          }
+    ]
 
 -- a text with a feed in it
 feed_in : (bytes l rest : List ℕ) (n : ℕ) → bytes ≡ l ++ 10 ∷ rest → length l < n → NoFeed (take n bytes) → ⊥
@@ -181,17 +190,20 @@ feed_in bytes l rest n is more free_bytes =
 
 -- a first line is no empty text
 some_line : (bytes l : List ℕ) (b : LineBuffer) → IsFirstLine bytes l b → bytes ≡ [] → ⊥
-some_line bytes l b (inl c) none = let e = ap length (sym none ∙ c.0) in let f = length-append l (10 ∷ pending b) in omega arith
+some_line bytes l b (inl c) none = let e = ap length (sym none ∙ c.0) in let f = length-append l (10 ∷ pending b) in
+    omega arith
 some_line bytes l b (inr c) none = let e = ap length (sym none ∙ c.0) in omega (arith, c.1)
 
 -- a first line ends among the first bytes
-in_budget : (bytes l : List ℕ) (b : LineBuffer) → IsFirstLine bytes l b → max_bytes b < taken b → NoFeed (among_first b bytes) → ⊥
+in_budget : (bytes l : List ℕ) (b : LineBuffer) → IsFirstLine bytes l b → max_bytes b < taken b
+    → NoFeed (among_first b bytes) → ⊥
 in_budget bytes l b (inl c) past free =
     let size = ap length c.0 ∙ length-append l (10 ∷ pending b) in
     feed_in bytes l (pending b) (length bytes - (taken b - max_bytes b)) c.0 (omega (arith, c.1)) free
 in_budget bytes l b (inr c) past free = omega (arith, c.4)
 
-ends_exactly : (answer : Line) (bytes : List ℕ) (b : LineBuffer) → Answers answer bytes b → (answer ≡ End) ↔ ((is_ended b ≡ true) × (bytes ≡ []))
+ends_exactly : (answer : Line) (bytes : List ℕ) (b : LineBuffer) → Answers answer bytes b
+    → (answer ≡ End) ↔ ((is_ended b ≡ true) × (bytes ≡ []))
 ends_exactly (Whole n) bytes b a = ((λ e. absurd (cc)), (λ p. absurd (some_line bytes (line b) b a.3 p.1)))
 ends_exactly TooLong bytes b a = ((λ e. absurd (cc)), (λ p. absurd (some_line bytes a.1.0 b a.1.3 p.1)))
 ends_exactly End bytes b a = ((λ e. (a.1, a.2)), (λ p. refl))
@@ -208,7 +220,8 @@ spends_exactly Budget bytes b a = ((λ e. (a.2, a.3)), (λ p. refl))
 
 -- a call, from its answer
 takes : (answer : Line) (left left_now : Option (List ℕ)) (before now : LineBuffer) (bytes : List ℕ) →
-    Consumes left left_now bytes → taken now ≡ taken before + length bytes → Answers answer (pending before ++ bytes) now →
+    Consumes left left_now bytes → taken now ≡ taken before + length bytes
+    → Answers answer (pending before ++ bytes) now →
     Takes answer left left_now before now
 takes answer left left_now before now bytes consumed counted answered = record {
   bytes = bytes;
@@ -229,7 +242,8 @@ budget left left_now before now long seen g no_line unended past within free =
       no_line,
       unended,
       past,
-      let n : length (pending before ++ g.bytes) - (taken now - max_bytes now) ≡ length g.gone + (length (pending now) - (taken now - max_bytes now)) =
+      let n : length (pending before ++ g.bytes) - (taken now - max_bytes now)
+          ≡ length g.gone + (length (pending now) - (taken now - max_bytes now)) =
           rw (g.whole, length-append g.gone (pending now)) (omega arith) in
           rw (n, g.whole, take-append-add g.gone (pending now) (length (pending now) - (taken now - max_bytes now)))
           (free-append g.gone (take (length (pending now) - (taken now - max_bytes now)) (pending now)) g.free free),
@@ -237,7 +251,8 @@ budget left left_now before now long seen g no_line unended past within free =
 
 -- the end, with nothing gathered
 pub ended_empty : (left left_now : Option (List ℕ)) (before now : LineBuffer) (seen : ℕ) →
-    Gathered left left_now before now false seen → line now ≡ [] → taken now ≤ max_bytes now → is_ended now ≡ true → length (pending now) ≡ 0 →
+    Gathered left left_now before now false seen → line now ≡ [] → taken now ≤ max_bytes now → is_ended now ≡ true
+    → length (pending now) ≡ 0 →
     Takes End left left_now before now
 ended_empty left left_now before now seen g no_line within e none =
     takes End left left_now before now g.bytes g.consumed g.counted
@@ -245,11 +260,13 @@ ended_empty left left_now before now seen g no_line within e none =
 
 -- a failed read
 pub failed : (left mid_left left_now : Option (List ℕ)) (before mid now : LineBuffer) (long : Bool) (seen : ℕ) →
-    seen ≡ length (pending mid) → Gathered left mid_left before mid long seen → line now ≡ [] → taken mid ≤ max_bytes mid → is_ended mid ≡ false →
+    seen ≡ length (pending mid) → Gathered left mid_left before mid long seen → line now ≡ []
+    → taken mid ≤ max_bytes mid → is_ended mid ≡ false →
     KeepsAll mid now → Keeps mid_left left_now →
     Takes Failed left left_now before now
 failed left mid_left left_now before mid now long seen all g no_line within unended k same =
-    takes Failed left left_now before now g.bytes (consumes_keeps left mid_left left_now g.bytes g.consumed same) (rw k.rest.taken_same g.counted) (
+    takes Failed left left_now before now g.bytes (consumes_keeps left mid_left left_now g.bytes g.consumed same)
+    (rw k.rest.taken_same g.counted) (
       no_line,
       k.rest.ended_same ∙ unended,
       (let f : NoFeed (pending mid) = rw (all, take-length (pending mid)) at g.seen_free in
@@ -258,7 +275,8 @@ failed left mid_left left_now before mid now long seen all g no_line within unen
     )
 
 -- the answer for a line of which `gone` was dropped and `tail` is the rest
-line_answers : (t long : Bool) (count : ℕ) (gone tail bytes : List ℕ) (b : LineBuffer) → (long || nat_lt 8192 count) ≡ t →
+line_answers : (t long : Bool) (count : ℕ) (gone tail bytes : List ℕ) (b : LineBuffer) → (long || nat_lt 8192 count) ≡ t
+    →
     (long ≡ false → gone ≡ []) → (long ≡ true → 8192 < length gone) → NoFeed gone → NoFeed tail → length tail ≡ count →
     line b ≡ (if t then [] else tail) → IsFirstLine bytes (gone ++ tail) b →
     Answers (if t then TooLong else Whole count) bytes b
@@ -287,8 +305,10 @@ pub line_answer : (left left_now : Option (List ℕ)) (before mid now : LineBuff
     IsFirstLine (pending before ++ g.bytes) (g.gone ++ take count (pending mid)) now →
     Takes (if long || nat_lt 8192 count then TooLong else Whole count) left left_now before now
 line_answer left left_now before mid now long seen count g k free within l first =
-    takes (if long || nat_lt 8192 count then TooLong else Whole count) left left_now before now g.bytes g.consumed (omega (arith, k.taken_same, g.counted))
-    (line_answers (long || nat_lt 8192 count) long count g.gone (take count (pending mid)) (pending before ++ g.bytes) now refl
+    takes (if long || nat_lt 8192 count then TooLong else Whole count) left left_now before now g.bytes g.consumed
+    (omega (arith, k.taken_same, g.counted))
+    (line_answers (long || nat_lt 8192 count) long count g.gone (take count (pending mid)) (pending before ++ g.bytes)
+    now refl
     g.short g.longer g.free free (length-take-le count (pending mid) within) l first)
 
 -- a feed was found
@@ -302,7 +322,8 @@ pub found : (left left_now : Option (List ℕ)) (before mid now : LineBuffer) (l
 found left left_now before mid now long seen at g k within past free feed l p =
     line_answer left left_now before mid now long seen at g k free (omega arith) l
     (inl (
-      (let e : take at (pending mid) ++ 10 ∷ drop (at + 1) (pending mid) ≡ pending mid = rw feed at (split_at (pending mid) at within) in
+      (let e : take at (pending mid) ++ 10 ∷ drop (at + 1) (pending mid)
+          ≡ pending mid = rw feed at (split_at (pending mid) at within) in
           rw (g.whole, p, append_assoc g.gone (take at (pending mid)) (10 ∷ drop (at + 1) (pending mid)), e) refl),
       omega (arith, k.taken_same, k.max_same, ap length p, length-drop (at + 1) (pending mid)),
     ))

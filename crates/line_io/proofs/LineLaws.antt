@@ -1,5 +1,6 @@
 -- Laws of `lines` and `whole_lines`.
-use Rattle.std.proofs.Common.{◌≡◌, ℕ, ◌<◌, Bool, true, false, cond, List, [], ◌∷◌, ◌++◌, length, ◌⊎◌, inl, inr, refl, sym, ap, ◌∙◌, arith, rules}
+use Rattle.std.proofs.Common.{◌≡◌, ℕ, ◌<◌, Bool, true, false, cond, List, [], ◌∷◌, ◌++◌, length, ◌⊎◌, inl, inr, refl}
+use Rattle.std.proofs.Common.{sym, ap, ◌∙◌, arith, rules}
 use Rattle.std.specs.Prelude.{◌||◌, All}
 use Rattle.std.specs.List.{slice_split, list_any, onto_first}
 use Rattle.std.proofs.lemmas.List.Splits.{slice_split_none, slice_split_at, slice_split-cons_no}
@@ -19,7 +20,8 @@ or-false_right true b e = absurd (cc)
 or-false_right false b e = e
 
 -- the first part of a list of parts that isn't empty stays
-keeps_first : (part : List ℕ) (parts : List (List ℕ)) → (0 < length parts) → without_empty_last (part ∷ parts) ≡ part ∷ without_empty_last parts
+keeps_first : (part : List ℕ) (parts : List (List ℕ)) → (0 < length parts)
+    → without_empty_last (part ∷ parts) ≡ part ∷ without_empty_last parts
 keeps_first part [] some = absurd (omega arith)
 keeps_first part (next ∷ more) some = refl
 
@@ -29,16 +31,22 @@ onto_first_some b (part ∷ parts) = omega arith
 
 split_some : (text : List ℕ) → 0 < length (slice_split is_feed text)
 split_some [] = omega arith
-split_some (b ∷ text) = elim (is_feed b) as (λ v. 0 < length (cond v ([] ∷ slice_split is_feed text) (onto_first b (slice_split is_feed text))))
+split_some (b ∷ text) =
+    elim (is_feed b) as (λ v. 0
+    < length (cond v ([] ∷ slice_split is_feed text) (onto_first b (slice_split is_feed text))))
     [ true ↦ omega arith | false ↦ onto_first_some b (slice_split is_feed text) ]
 
 all_free : (text : List ℕ) → NoFeed text → All (λ b. is_feed b ≡ false) text
 all_free [] free = search rules
-all_free (b ∷ text) free = All-cons (λ x. is_feed x ≡ false) b text (or-false_left (is_feed b) (list_any is_feed text) free) (all_free text (or-false_right (is_feed b) (list_any is_feed text) free))
+all_free (b ∷ text) free =
+    All-cons (λ x. is_feed x ≡ false) b text (or-false_left (is_feed b) (list_any is_feed text) free)
+    (all_free text (or-false_right (is_feed b) (list_any is_feed text) free))
 
 -- a line, its feed and the rest
 pub lines-first : (line rest : List ℕ) → NoFeed line → lines (line ++ 10 ∷ rest) ≡ line ∷ lines rest
-lines-first line rest free = rw (slice_split_at is_feed line 10 rest (all_free line free) refl) (keeps_first line (slice_split is_feed rest) (split_some rest))
+lines-first line rest free =
+    rw (slice_split_at is_feed line 10 rest (all_free line free) refl)
+    (keeps_first line (slice_split is_feed rest) (split_some rest))
 
 last_some : (line : List ℕ) → 0 < length line → without_empty_last (line ∷ []) ≡ line ∷ []
 last_some [] some = absurd (omega arith)
@@ -49,7 +57,8 @@ pub lines-last : (line : List ℕ) → NoFeed line → 0 < length line → lines
 lines-last line free some = rw (slice_split_none is_feed line (all_free line free)) (last_some line some)
 
 -- a byte that is no feed stands before the first line
-onto_last : (b : ℕ) (parts : List (List ℕ)) → without_empty_last (onto_first b parts) ≡ onto_first b (without_empty_last parts)
+onto_last : (b : ℕ) (parts : List (List ℕ))
+    → without_empty_last (onto_first b parts) ≡ onto_first b (without_empty_last parts)
 onto_last b [] = search rules
 onto_last b ([] ∷ []) = search rules
 onto_last b ((c ∷ part) ∷ []) = search rules
@@ -89,17 +98,20 @@ any-append (x ∷ xs) ys some = elim (bool_cases (is_feed x)) [
 ]
 
 -- a text whose first byte stands in its whole lines
-whole_lines-cons : (b : ℕ) (text : List ℕ) → list_any is_feed (b ∷ text) ≡ true → whole_lines (b ∷ text) ≡ b ∷ whole_lines text
+whole_lines-cons : (b : ℕ) (text : List ℕ) → list_any is_feed (b ∷ text) ≡ true
+    → whole_lines (b ∷ text) ≡ b ∷ whole_lines text
 whole_lines-cons b text some = rw some refl
 
-whole_lines-cons_prefix : (b : ℕ) (before : List ℕ) → whole_lines (b ∷ before) ≡ b ∷ before → (list_any is_feed (b ∷ before) ≡ true) × (whole_lines before ≡ before)
+whole_lines-cons_prefix : (b : ℕ) (before : List ℕ) → whole_lines (b ∷ before) ≡ b ∷ before
+    → (list_any is_feed (b ∷ before) ≡ true) × (whole_lines before ≡ before)
 whole_lines-cons_prefix b before w = elim (bool_cases (list_any is_feed (b ∷ before))) [
   | inl e ↦ let c = whole_lines-cons b before e in (e, cc)
   | inr e ↦ let c = whole_lines-none (b ∷ before) e in absurd (cc)
 ]
 
 -- a text of whole lines before another
-pub whole_lines-append : (before text : List ℕ) → whole_lines before ≡ before → whole_lines (before ++ text) ≡ before ++ whole_lines text
+pub whole_lines-append : (before text : List ℕ) → whole_lines before ≡ before
+    → whole_lines (before ++ text) ≡ before ++ whole_lines text
 whole_lines-append [] text w = refl
 whole_lines-append (b ∷ before) text w =
     let p = whole_lines-cons_prefix b before w in
@@ -110,7 +122,8 @@ some_length : (text : List ℕ) → list_any is_feed text ≡ true → 0 < lengt
 some_length [] some = absurd (cc)
 some_length (b ∷ text) some = omega arith
 
-pub lines-append : (before text : List ℕ) → whole_lines before ≡ before → lines (before ++ text) ≡ lines before ++ lines text
+pub lines-append : (before text : List ℕ) → whole_lines before ≡ before
+    → lines (before ++ text) ≡ lines before ++ lines text
 lines-append [] text w = refl
 lines-append (b ∷ before) text w =
     let p = whole_lines-cons_prefix b before w in
@@ -120,7 +133,8 @@ lines-append (b ∷ before) text w =
           rw (h, lines-feed (before ++ text), lines-feed before, ih) refl
       | inr e ↦
           let rest : list_any is_feed before ≡ true = rw e at p.0 in
-          rw (lines-onto b (before ++ text) e, lines-onto b before e, ih) (onto_append b (lines before) (lines text) (lines-some before (some_length before rest)))
+          rw (lines-onto b (before ++ text) e, lines-onto b before e, ih)
+          (onto_append b (lines before) (lines text) (lines-some before (some_length before rest)))
     ]
 
 any-whole_lines : (text : List ℕ) → list_any is_feed (whole_lines text) ≡ list_any is_feed text
@@ -134,7 +148,8 @@ pub whole_lines-idempotent : (text : List ℕ) → whole_lines (whole_lines text
 whole_lines-idempotent [] = refl
 whole_lines-idempotent (b ∷ text) = elim (bool_cases (list_any is_feed (b ∷ text))) [
   | inl e ↦ let c = whole_lines-cons b text e in
-      let again : list_any is_feed (b ∷ whole_lines text) ≡ true = ap (λ v. is_feed b || v) (any-whole_lines text) ∙ e in
+      let again : list_any is_feed (b ∷ whole_lines text) ≡ true =
+      ap (λ v. is_feed b || v) (any-whole_lines text) ∙ e in
       rw c (whole_lines-cons b (whole_lines text) again ∙ ap (λ xs. b ∷ xs) (whole_lines-idempotent text))
   | inr e ↦ rw (whole_lines-none (b ∷ text) e) refl
 ]

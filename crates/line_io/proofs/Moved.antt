@@ -1,5 +1,6 @@
 -- What two steps take from a source, or add to a sink, in all.
-use Rattle.std.proofs.Common.{◌≡◌, ℕ, ◌-◌, List, [], ◌++◌, length, take, drop, Option, None, Some, refl, sym, ap, ◌∙◌, append_assoc, rules}
+use Rattle.std.proofs.Common.{◌≡◌, ℕ, ◌-◌, List, [], ◌++◌, length, take, drop, Option, None, Some, refl, sym, ap, ◌∙◌}
+use Rattle.std.proofs.Common.{append_assoc, rules}
 pub use Rattle.std.proofs.lemmas.List.{append-nil}
 use Rattle.std.proofs.lemmas.List.{take_rest, take-append-drop}
 use Rattle.std.specs.Io.KnownBytes.{Appends, Consumes, Keeps}
@@ -72,14 +73,17 @@ write_step old mid new piece rest n so_far more = (
 pub prefix_more : (a b : Option (List ℕ)) (p q : List ℕ) → AppendsPrefix a b p → AppendsPrefix a b (p ++ q)
 prefix_more a b p q f = (f.0, f.1 ++ q, rw (← append_assoc f.0 f.1 q) (ap (λ xs. xs ++ q) f.2), f.3)
 
-pub prefix_after : (a b c : Option (List ℕ)) (p q : List ℕ) → Appends a b p → AppendsPrefix b c q → AppendsPrefix a c (p ++ q)
-prefix_after a b c p q x f = (p ++ f.0, f.1, rw (append_assoc p f.0 f.1) (ap (λ xs. p ++ xs) f.2), appends_more a b c p f.0 x f.3)
+pub prefix_after : (a b c : Option (List ℕ)) (p q : List ℕ) → Appends a b p → AppendsPrefix b c q
+    → AppendsPrefix a c (p ++ q)
+prefix_after a b c p q x f =
+    (p ++ f.0, f.1, rw (append_assoc p f.0 f.1) (ap (λ xs. p ++ xs) f.2), appends_more a b c p f.0 x f.3)
 
 pub prefix_all : (a b : Option (List ℕ)) (p : List ℕ) → Appends a b p → AppendsPrefix a b p
 prefix_all a b p x = (p, [], append-nil p, x)
 
 -- from what is known of devices that tell
-pub where_told : (left left_now written written_now : Option (List ℕ)) (taken added : List ℕ) (P : List ℕ → List ℕ → List ℕ → Type 0) →
+pub where_told : (left left_now written written_now : Option (List ℕ)) (taken added : List ℕ) (P : List ℕ → List ℕ
+    → List ℕ → Type 0) →
     Consumes left left_now taken → Appends written written_now added →
     ((held rest : List ℕ) → left_now ≡ Some rest → held ≡ taken ++ rest → P held taken added) →
     WhereTold left left_now written written_now P

@@ -1,5 +1,8 @@
--- What a run of calls of next_line has answered. Of the output of a line these laws say nothing: it is flat_map of the lines.
-use Rattle.std.proofs.Common.{◌≡◌, ℕ, ◌<◌, ◌≤◌, ◌+◌, ◌-◌, Bool, true, false, List, [], ◌∷◌, ◌++◌, ◌⊎◌, inl, inr, length, take, map, Option, None, Some, refl, sym, ap, ◌∙◌, append_assoc, arith, rules, length-append}
+-- What a run of calls of next_line has answered. Of the output of a line these laws say nothing: it is flat_map of the
+-- lines.
+use Rattle.std.proofs.Common.{◌≡◌, ℕ, ◌<◌, ◌≤◌, ◌+◌, ◌-◌, Bool, true, false, List, [], ◌∷◌, ◌++◌, ◌⊎◌, inl, inr, length}
+use Rattle.std.proofs.Common.{take, map, Option, None, Some, refl, sym, ap, ◌∙◌, append_assoc, arith, rules}
+use Rattle.std.proofs.Common.{length-append}
 use Rattle.std.specs.List.{list_any, flat_map}
 use Rattle.std.proofs.lemmas.List.Folds.{list_any-append}
 use Rattle.std.proofs.lemmas.List.Concat.{flat_map-append}
@@ -63,15 +66,18 @@ whole_line : (l : List ℕ) → NoFeed l → whole_lines (l ++ 10 ∷ []) ≡ l 
 whole_line [] free = refl
 whole_line (b ∷ l) free =
     let p = or-false (is_feed b) (list_any is_feed l) free in
-    let some : list_any is_feed ((b ∷ l) ++ 10 ∷ []) ≡ true = rw (list_any-append is_feed (b ∷ l) (10 ∷ [])) (or-true (list_any is_feed (b ∷ l))) in
+    let some : list_any is_feed ((b ∷ l) ++ 10 ∷ []) ≡ true =
+    rw (list_any-append is_feed (b ∷ l) (10 ∷ [])) (or-true (list_any is_feed (b ∷ l))) in
     rw some (ap (λ xs. b ∷ xs) (whole_line l p.1))
 
 -- after the end nothing is pending and nothing comes
-none_left : (b now : LineBuffer) (bytes : List ℕ) → pending b ≡ [] → taken now ≡ taken b → taken now ≡ taken b + length bytes → pending b ++ bytes ≡ []
+none_left : (b now : LineBuffer) (bytes : List ℕ) → pending b ≡ [] → taken now ≡ taken b
+    → taken now ≡ taken b + length bytes → pending b ++ bytes ≡ []
 none_left b now bytes p same counted = rw p (nothing bytes (omega arith))
 
 no_line : (bytes l : List ℕ) (b : LineBuffer) → bytes ≡ [] → IsFirstLine bytes l b → ⊥
-no_line bytes l b none (inl c) = let e = ap length (sym none ∙ c.0) in let f = length-append l (10 ∷ pending b) in omega arith
+no_line bytes l b none (inl c) = let e = ap length (sym none ∙ c.0) in let f = length-append l (10 ∷ pending b) in
+    omega arith
 no_line bytes l b none (inr c) = let e = ap length (sym none ∙ c.0) in omega (arith, c.1)
 
 -- what was taken, once a line is answered
@@ -81,28 +87,35 @@ taken_split all text old more p e f = rw (e, append_assoc text old more, f) refl
 line_text : (text l rest : List ℕ) → (text ++ (l ++ 10 ∷ [])) ++ rest ≡ text ++ (l ++ 10 ∷ rest)
 line_text text l rest = append_assoc text (l ++ 10 ∷ []) rest ∙ ap (λ xs. text ++ xs) (append_assoc l (10 ∷ []) rest)
 
-lines_more : (text l : List ℕ) → whole_lines text ≡ text → NoFeed l → lines (text ++ (l ++ 10 ∷ [])) ≡ lines text ++ l ∷ []
+lines_more : (text l : List ℕ) → whole_lines text ≡ text → NoFeed l
+    → lines (text ++ (l ++ 10 ∷ [])) ≡ lines text ++ l ∷ []
 lines_more text l w free = lines-append text (l ++ 10 ∷ []) w ∙ ap (λ ls. lines text ++ ls) (lines-first l [] free)
 
-lines_last : (text l : List ℕ) → whole_lines text ≡ text → NoFeed l → 0 < length l → lines (text ++ l) ≡ lines text ++ l ∷ []
+lines_last : (text l : List ℕ) → whole_lines text ≡ text → NoFeed l → 0 < length l
+    → lines (text ++ l) ≡ lines text ++ l ∷ []
 lines_last text l w free some = lines-append text l w ∙ ap (λ ls. lines text ++ ls) (lines-last l free some)
 
 -- One more line. The measure of a loop, max + 1 - (taken - pending), falls.
-pub run_first : (answer : Line) (left left_mid left_now : Option (List ℕ)) (before now : LineBuffer) (max : ℕ) (done : List (List ℕ)) (l : List ℕ) →
-    LinesGiven left left_mid before max done → (c : IsCall answer left_mid left_now before now) → is_last answer ≡ false →
+pub run_first : (answer : Line) (left left_mid left_now : Option (List ℕ)) (before now : LineBuffer) (max : ℕ)
+    (done : List (List ℕ)) (l : List ℕ) →
+    LinesGiven left left_mid before max done → (c : IsCall answer left_mid left_now before now) → is_last answer ≡ false
+    →
     NoFeed l → IsFirstLine (pending before ++ c.takes.bytes) l now →
     LinesGiven left left_now now max (done ++ l ∷ [])
-    × (taken before - length (pending before) < taken now - length (pending now)) × (taken before - length (pending before) ≤ max)
+    × (taken before - length (pending before) < taken now - length (pending now))
+    × (taken before - length (pending before) ≤ max)
 run_first answer left left_mid left_now before now max done l s c going free first =
     let bytes : List ℕ = c.takes.bytes in
     let counted = c.takes.counted in
     let len = ap length s.split ∙ length-append s.text (pending before) in
     let unclosed : is_closed now ≡ false = c.closed ∙ going in
     elim s.shape [
-      | inr e ↦ absurd (no_line (pending before ++ bytes) l now (none_left before now bytes e.1 (c.after_end e.0).0 counted) first)
+      | inr e ↦ absurd (no_line (pending before ++ bytes) l now
+          (none_left before now bytes e.1 (c.after_end e.0).0 counted) first)
       | inl w ↦ elim first [
         | inl ends ↦
-            let split = taken_split s.bytes s.text (pending before) bytes (l ++ 10 ∷ pending now) s.split ends.0 ∙ sym (line_text s.text l (pending now)) in
+            let split = taken_split s.bytes s.text (pending before) bytes (l ++ 10 ∷ pending now) s.split ends.0
+            ∙ sym (line_text s.text l (pending now)) in
             let sizes = ap length split in
             let size_1 = length-append s.bytes bytes in
             let size_2 = length-append (s.text ++ (l ++ 10 ∷ [])) (pending now) in
@@ -126,7 +139,8 @@ run_first answer left left_mid left_now before now max done l s c going free fir
             )
         | inr ends ↦
             let split_l = taken_split s.bytes s.text (pending before) bytes l s.split ends.0 in
-            let split : s.bytes ++ bytes ≡ (s.text ++ l) ++ pending now = rw (ends.3, append-nil (s.text ++ l)) split_l in
+            let split : s.bytes ++ bytes ≡ (s.text ++ l) ++ pending now =
+            rw (ends.3, append-nil (s.text ++ l)) split_l in
             let sizes = ap length split_l in
             let size_1 = length-append s.bytes bytes in
             let size_2 = length-append s.text l in
@@ -153,13 +167,17 @@ run_first answer left left_mid left_now before now max done l s c going free fir
 -- what a step gives: the lines so far, and the two facts of a loop's measure
 abbrev pub OneMore : Option (List ℕ) → Option (List ℕ) → LineBuffer → LineBuffer → ℕ → List (List ℕ) → List ℕ → Type 0
 OneMore left left_now before now max done l = LinesGiven left left_now now max (done ++ l ∷ [])
-    × (taken before - length (pending before) < taken now - length (pending now)) × (taken before - length (pending before) ≤ max)
+    × (taken before - length (pending before) < taken now - length (pending now))
+    × (taken before - length (pending before) ≤ max)
 
 -- a whole line was answered
-pub run_whole : (n : ℕ) (left left_mid left_now : Option (List ℕ)) (before now : LineBuffer) (max : ℕ) (done : List (List ℕ)) →
-    LinesGiven left left_mid before max done → IsCall (Whole n) left_mid left_now before now → OneMore left left_now before now max done (line now)
+pub run_whole : (n : ℕ) (left left_mid left_now : Option (List ℕ)) (before now : LineBuffer) (max : ℕ)
+    (done : List (List ℕ)) →
+    LinesGiven left left_mid before max done → IsCall (Whole n) left_mid left_now before now
+    → OneMore left left_now before now max done (line now)
 run_whole n left left_mid left_now before now max done s c =
-    run_first (Whole n) left left_mid left_now before now max done (line now) s c refl c.takes.answered.2 c.takes.answered.3
+    run_first (Whole n) left left_mid left_now before now max done (line now) s c refl c.takes.answered.2
+    c.takes.answered.3
 
 -- a long line was answered
 pub run_long : (left left_mid left_now : Option (List ℕ)) (before now : LineBuffer) (max : ℕ) (done : List (List ℕ)) →
@@ -177,11 +195,16 @@ run_prefix left left_now b max done s held rest e k =
     elim s.shape [
       | inr h ↦
           let none : rest ≡ [] = rw e at (s.at_end h.0) in
-          let all_held : held ≡ s.text = k ∙ ap (λ xs. s.bytes ++ xs) none ∙ append-nil s.bytes ∙ s.split ∙ ap (λ xs. s.text ++ xs) h.1 ∙ append-nil s.text in
+          let all_held : held ≡ s.text = k ∙ ap (λ xs. s.bytes ++ xs) none ∙ append-nil s.bytes ∙ s.split
+          ∙ ap (λ xs. s.text ++ xs) h.1 ∙ append-nil s.text in
           ([], ap lines all_held ∙ s.given ∙ sym (append-nil done))
       | inl w ↦
-          let all_held : held ≡ s.text ++ (pending b ++ rest) = k ∙ ap (λ xs. xs ++ rest) s.split ∙ append_assoc s.text (pending b) rest in
-          (lines (pending b ++ rest), ap lines all_held ∙ lines-append s.text (pending b ++ rest) w ∙ ap (λ ls. ls ++ lines (pending b ++ rest)) s.given)
+          let all_held : held ≡ s.text ++ (pending b ++ rest) =
+          k ∙ ap (λ xs. xs ++ rest) s.split ∙ append_assoc s.text (pending b) rest in (
+            lines (pending b ++ rest),
+            ap lines all_held ∙ lines-append s.text (pending b ++ rest) w
+                ∙ ap (λ ls. ls ++ lines (pending b ++ rest)) s.given,
+          )
     ]
 
 -- the end
@@ -192,8 +215,10 @@ pub run_end : (left left_mid left_now : Option (List ℕ)) (before now : LineBuf
 run_end left left_mid left_now before now max done s c held rest e k =
     let a = c.takes.answered in
     let none : rest ≡ [] = rw e at (c.at_end s.at_end a.1) in
-    let all : held ≡ s.bytes ++ c.takes.bytes = k ∙ ap (λ xs. (s.bytes ++ c.takes.bytes) ++ xs) none ∙ append-nil (s.bytes ++ c.takes.bytes) in
-    let text : s.bytes ++ c.takes.bytes ≡ s.text = taken_split s.bytes s.text (pending before) c.takes.bytes [] s.split a.2 ∙ append-nil s.text in
+    let all : held ≡ s.bytes ++ c.takes.bytes =
+    k ∙ ap (λ xs. (s.bytes ++ c.takes.bytes) ++ xs) none ∙ append-nil (s.bytes ++ c.takes.bytes) in
+    let text : s.bytes ++ c.takes.bytes ≡ s.text =
+    taken_split s.bytes s.text (pending before) c.takes.bytes [] s.split a.2 ∙ append-nil s.text in
     let size = ap length (all ∙ text) in
     (omega (arith, s.within), sym all, ap lines (all ∙ text) ∙ s.given)
 
@@ -207,7 +232,8 @@ run_failed left left_mid left_now before now max done s c =
       | inl w ↦
           let p : List ℕ = pending before ++ c.takes.bytes in
           let split = taken_split s.bytes s.text (pending before) c.takes.bytes p s.split refl in
-          ap lines (ap whole_lines split ∙ whole_lines-append s.text p w ∙ ap (λ xs. s.text ++ xs) (whole_lines-none p c.takes.answered.2) ∙ append-nil s.text) ∙ s.given
+          ap lines (ap whole_lines split ∙ whole_lines-append s.text p w
+          ∙ ap (λ xs. s.text ++ xs) (whole_lines-none p c.takes.answered.2) ∙ append-nil s.text) ∙ s.given
     ]
 
 -- the budget
@@ -223,44 +249,55 @@ run_budget left left_mid left_now before now max done s c held rest k =
     let size_1 = length-append s.bytes c.takes.bytes in
     let size_2 = length-append s.text p in
     let size_3 = ap length k ∙ length-append (s.bytes ++ c.takes.bytes) rest in
-    let over : max < length (s.bytes ++ c.takes.bytes) = omega (arith, s.counted, s.max_same, c.takes.counted, c.max_same, a.2) in
+    let over : max < length (s.bytes ++ c.takes.bytes) =
+    omega (arith, s.counted, s.max_same, c.takes.counted, c.max_same, a.2) in
     elim s.shape [
-      | inr e ↦ absurd (let same = (c.after_end e.0).0 in let none = ap length e.1 in let sizes_before = ap length s.split ∙ length-append s.text (pending before) in
+      | inr e ↦ absurd (let same = (c.after_end e.0).0 in let none = ap length e.1 in
+          let sizes_before = ap length s.split ∙ length-append s.text (pending before) in
           omega (arith, s.counted, s.max_same, s.within, c.takes.counted))
       | inl w ↦
-          let n : max ≡ length s.text + (length p - (taken now - max_bytes now)) = omega (arith, s.counted, s.max_same, s.within, c.takes.counted, c.max_same, a.2) in
-          let same : take max held ≡ take max (s.bytes ++ c.takes.bytes) = ap (take max) k ∙ take-append-le max (s.bytes ++ c.takes.bytes) rest (omega arith) in
+          let n : max ≡ length s.text + (length p - (taken now - max_bytes now)) =
+          omega (arith, s.counted, s.max_same, s.within, c.takes.counted, c.max_same, a.2) in
+          let same : take max held ≡ take max (s.bytes ++ c.takes.bytes) =
+          ap (take max) k ∙ take-append-le max (s.bytes ++ c.takes.bytes) rest (omega arith) in
           let part : take max (s.bytes ++ c.takes.bytes) ≡ s.text ++ take (length p - (taken now - max_bytes now)) p =
-          ap (λ j. take j (s.bytes ++ c.takes.bytes)) n ∙ ap (take (length s.text + (length p - (taken now - max_bytes now)))) split
+          ap (λ j. take j (s.bytes ++ c.takes.bytes)) n
+          ∙ ap (take (length s.text + (length p - (taken now - max_bytes now)))) split
           ∙ take-append-add s.text p (length p - (taken now - max_bytes now)) in (
             omega arith,
-            ap lines (ap whole_lines (same ∙ part) ∙ whole_lines-append s.text (take (length p - (taken now - max_bytes now)) p) w
-                ∙ ap (λ xs. s.text ++ xs) (whole_lines-none (take (length p - (taken now - max_bytes now)) p) a.3) ∙ append-nil s.text) ∙ s.given,
+            ap lines (ap whole_lines (same ∙ part)
+                ∙ whole_lines-append s.text (take (length p - (taken now - max_bytes now)) p) w
+                ∙ ap (λ xs. s.text ++ xs) (whole_lines-none (take (length p - (taken now - max_bytes now)) p) a.3)
+                ∙ append-nil s.text) ∙ s.given,
           )
     ]
 
 -- the output of the lines so far is the beginning of that of all lines
-pub given_prefix : (f : List ℕ → List ℕ) (left left_now : Option (List ℕ)) (b : LineBuffer) (max : ℕ) (done : List (List ℕ)) →
+pub given_prefix : (f : List ℕ → List ℕ) (left left_now : Option (List ℕ)) (b : LineBuffer) (max : ℕ)
+    (done : List (List ℕ)) →
     (s : LinesGiven left left_now b max done) → (held rest : List ℕ) → left_now ≡ Some rest → held ≡ s.bytes ++ rest →
     IsPrefix (flat_map f done) (flat_map f (lines held))
 given_prefix f left left_now b max done s held rest e k =
     let p = run_prefix left left_now b max done s held rest e k in
     (flat_map f p.0, sym (flat_map-append f done p.0) ∙ ap (flat_map f) (sym p.1))
 
-at_line : (ls more : List (List ℕ)) (l : List ℕ) → (take (length ls) (ls ++ l ∷ more) ≡ ls) × (slice_get (ls ++ l ∷ more) (length ls) ≡ Some l)
+at_line : (ls more : List (List ℕ)) (l : List ℕ) → (take (length ls) (ls ++ l ∷ more) ≡ ls)
+    × (slice_get (ls ++ l ∷ more) (length ls) ≡ Some l)
 at_line [] more l = (refl, refl)
 at_line (x ∷ ls) more l = let p = at_line ls more l in (ap (λ xs. x ∷ xs) p.0, p.1)
 
 -- the line that was answered last is followed by others
 next_line_of : (left left_now : Option (List ℕ)) (b : LineBuffer) (max : ℕ) (done : List (List ℕ)) (l : List ℕ) →
-    (s : LinesGiven left left_now b max (done ++ l ∷ [])) → (held rest : List ℕ) → left_now ≡ Some rest → held ≡ s.bytes ++ rest →
+    (s : LinesGiven left left_now b max (done ++ l ∷ [])) → (held rest : List ℕ) → left_now ≡ Some rest
+    → held ≡ s.bytes ++ rest →
     (more : List (List ℕ)) × (lines held ≡ done ++ l ∷ more)
 next_line_of left left_now b max done l s held rest e k =
     let p = run_prefix left left_now b max (done ++ l ∷ []) s held rest e k in
     (p.0, p.1 ∙ append_assoc done (l ∷ []) p.0)
 
 -- a line was found, and of its output only a part was written
-pub stopped_part : (f : List ℕ → List ℕ) (left left_now : Option (List ℕ)) (b : LineBuffer) (max : ℕ) (done : List (List ℕ)) (l part : List ℕ) →
+pub stopped_part : (f : List ℕ → List ℕ) (left left_now : Option (List ℕ)) (b : LineBuffer) (max : ℕ)
+    (done : List (List ℕ)) (l part : List ℕ) →
     (s : LinesGiven left left_now b max (done ++ l ∷ [])) → IsPrefix part (f l) →
     (held rest : List ℕ) → left_now ≡ Some rest → held ≡ s.bytes ++ rest →
     IsPrefix (flat_map f done ++ part) (flat_map f (lines held))
@@ -268,28 +305,40 @@ stopped_part f left left_now b max done l part s p held rest e k =
     let n = next_line_of left left_now b max done l s held rest e k in (
       p.0 ++ flat_map f n.0,
       append_assoc (flat_map f done) part (p.0 ++ flat_map f n.0)
-          ∙ ap (λ xs. flat_map f done ++ xs) (sym (append_assoc part p.0 (flat_map f n.0)) ∙ ap (λ xs. xs ++ flat_map f n.0) p.1)
+          ∙ ap (λ xs. flat_map f done ++ xs)
+          (sym (append_assoc part p.0 (flat_map f n.0)) ∙ ap (λ xs. xs ++ flat_map f n.0) p.1)
           ∙ sym (flat_map-append f done (l ∷ n.0)) ∙ ap (flat_map f) (sym n.1),
     )
 
 -- a line was found, and nothing of its output was written
-pub stopped_at : (M : List ℕ → Type 0) (f : List ℕ → List ℕ) (left left_now : Option (List ℕ)) (b : LineBuffer) (max : ℕ) (done : List (List ℕ)) (l : List ℕ) →
+pub stopped_at : (M : List ℕ → Type 0) (f : List ℕ → List ℕ) (left left_now : Option (List ℕ)) (b : LineBuffer)
+    (max : ℕ) (done : List (List ℕ)) (l : List ℕ) →
     (s : LinesGiven left left_now b max (done ++ l ∷ [])) → M l →
     (held rest : List ℕ) → left_now ≡ Some rest → held ≡ s.bytes ++ rest →
     StoppedAt M f held (flat_map f done)
 stopped_at M f left left_now b max done l s m held rest e k =
     let n = next_line_of left left_now b max done l s held rest e k in
-    let p = at_line done n.0 l in
-    (length done, l, ap (flat_map f) (sym p.0 ∙ ap (take (length done)) (sym n.1)), ap (λ ls. slice_get ls (length done)) n.1 ∙ p.1, m)
+    let p = at_line done n.0 l in (
+      length done,
+      l,
+      ap (flat_map f) (sym p.0 ∙ ap (take (length done)) (sym n.1)),
+      ap (λ ls. slice_get ls (length done)) n.1 ∙ p.1,
+      m,
+    )
 
 -- a line's answer, as the law says it
-shows : (answer : Line) (shown : List ℕ) (left left_mid left_now : Option (List ℕ)) (before now : LineBuffer) (max : ℕ) (done : List (List ℕ)) →
-    LinesGiven left left_mid before max done → IsCall answer left_mid left_now before now → is_last answer ≡ false → shown ≡ line now →
+shows : (answer : Line) (shown : List ℕ) (left left_mid left_now : Option (List ℕ)) (before now : LineBuffer) (max : ℕ)
+    (done : List (List ℕ)) →
+    LinesGiven left left_mid before max done → IsCall answer left_mid left_now before now → is_last answer ≡ false
+    → shown ≡ line now →
     (l : List ℕ) × ((answer, shown) ≡ line_answer l) × LinesGiven left left_now now max (done ++ l ∷ [])
 shows (Whole n) shown left left_mid left_now before now max done s c going e =
     let a = c.takes.answered in
-    let fits : nat_lt 8192 (length (line now)) ≡ false = search rules in
-    (line now, rw (fits, e) (ap (λ k. (Whole k, line now)) (sym a.0)), (run_whole n left left_mid left_now before now max done s c).0)
+    let fits : nat_lt 8192 (length (line now)) ≡ false = search rules in (
+      line now,
+      rw (fits, e) (ap (λ k. (Whole k, line now)) (sym a.0)),
+      (run_whole n left left_mid left_now before now max done s c).0,
+    )
 shows TooLong shown left left_mid left_now before now max done s c going e =
     let a = run_long left left_mid left_now before now max done s c in
     let long : nat_lt 8192 (length a.0) ≡ true = search rules in
@@ -304,7 +353,8 @@ unclosed_first [] left left_now before now c e = ap is_closed (sym c.1) ∙ e
 unclosed_first (a ∷ more) left left_now before now c e = c.2
 
 -- successive calls that each answered a line
-run_calls : (answers : List (Line × List ℕ)) (left left_mid left_now : Option (List ℕ)) (before now : LineBuffer) (max : ℕ) (done : List (List ℕ)) →
+run_calls : (answers : List (Line × List ℕ)) (left left_mid left_now : Option (List ℕ)) (before now : LineBuffer)
+    (max : ℕ) (done : List (List ℕ)) →
     LinesGiven left left_mid before max done → Calls answers left_mid before left_now now → is_closed now ≡ false →
     (more : List (List ℕ)) × (answers ≡ map line_answer more) × LinesGiven left left_now now max (done ++ more)
 run_calls [] left left_mid left_now before now max done s c e = ([], refl, rw (append-nil done, c.0, c.1) s)
@@ -313,13 +363,19 @@ run_calls (a ∷ answers) left left_mid left_now before now max done s c e =
     let call = c.3 in
     let unclosed = unclosed_first answers c.0 left_now mid now c.5 e in
     let one = shows a.0 a.1 left left_mid c.0 before mid max done s call (sym call.closed ∙ unclosed) c.4 in
-    let rest = run_calls answers left c.0 left_now mid now max (done ++ one.0 ∷ []) one.2 c.5 e in
-    (one.0 ∷ rest.0, ap (λ x. x ∷ answers) one.1 ∙ ap (λ xs. line_answer one.0 ∷ xs) rest.1, rw (append_assoc done (one.0 ∷ []) rest.0) at rest.2)
+    let rest = run_calls answers left c.0 left_now mid now max (done ++ one.0 ∷ []) one.2 c.5 e in (
+      one.0 ∷ rest.0,
+      ap (λ x. x ∷ answers) one.1 ∙ ap (λ xs. line_answer one.0 ∷ xs) rest.1,
+      rw (append_assoc done (one.0 ∷ []) rest.0) at rest.2,
+    )
 
 -- the last answer
-until_told : (last : Line) (max : ℕ) (held : List ℕ) (before now : LineBuffer) (left left_now : Option (List ℕ)) (answers : List (Line × List ℕ)) (done : List (List ℕ)) →
-    answers ≡ map line_answer done → (s : LinesGiven (Some held) left before max done) → (c : IsCall last left left_now before now) →
-    Consumes (Some held) left_now (s.bytes ++ c.takes.bytes) → AnswersUntil last max held (s.bytes ++ c.takes.bytes) answers
+until_told : (last : Line) (max : ℕ) (held : List ℕ) (before now : LineBuffer) (left left_now : Option (List ℕ))
+    (answers : List (Line × List ℕ)) (done : List (List ℕ)) →
+    answers ≡ map line_answer done → (s : LinesGiven (Some held) left before max done)
+    → (c : IsCall last left left_now before now) →
+    Consumes (Some held) left_now (s.bytes ++ c.takes.bytes)
+    → AnswersUntil last max held (s.bytes ++ c.takes.bytes) answers
 until_told (Whole n) max held before now left left_now answers done e s c k = search rules
 until_told TooLong max held before now left left_now answers done e s c k = search rules
 until_told last max held before now left None answers done e s c k = absurd k
@@ -332,8 +388,10 @@ until_told Budget max held before now left (Some rest) answers done e s c k =
     let r = run_budget (Some held) left (Some rest) before now max done s c held rest k in
     (r.0, e ∙ ap (map line_answer) (sym r.1))
 
-until : (last : Line) (max : ℕ) (held : List ℕ) (before now : LineBuffer) (left left_now : Option (List ℕ)) (answers : List (Line × List ℕ)) (done : List (List ℕ)) →
-    answers ≡ map line_answer done → LinesGiven (Some held) left before max done → IsCall last left left_now before now →
+until : (last : Line) (max : ℕ) (held : List ℕ) (before now : LineBuffer) (left left_now : Option (List ℕ))
+    (answers : List (Line × List ℕ)) (done : List (List ℕ)) →
+    answers ≡ map line_answer done → LinesGiven (Some held) left before max done → IsCall last left left_now before now
+    →
     (taken_bytes : List ℕ) × Consumes (Some held) left_now taken_bytes × AnswersUntil last max held taken_bytes answers
 until last max held before now left left_now answers done e s c =
     let bytes = s.bytes ++ c.takes.bytes in
@@ -343,5 +401,6 @@ until last max held before now left left_now answers done e s c =
 -- the law on whole runs
 pub lines_of_bytes : LinesOfBytes
 lines_of_bytes max held first before now left left_now answers last new calls unclosed call =
-    let r = run_calls answers (Some held) (Some held) left first before max [] (run_start (Some held) first max new) calls unclosed in
+    let r = run_calls answers (Some held) (Some held) left first before max [] (run_start (Some held) first max new)
+    calls unclosed in
     until last max held before now left left_now answers r.0 r.1 r.2 call

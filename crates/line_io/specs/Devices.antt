@@ -1,5 +1,6 @@
 -- What a source and a sink do to the bytes that they tell, and their counts of faults.
-use Rattle.std.specs.Prelude.{◌≡◌, ℕ, ◌+◌, ◌-◌, ◌^◌, ◌≤◌, ◌<◌, min, List, ◌++◌, length, Option, Result, IfOk, IfSome, OnSome}
+use Rattle.std.specs.Prelude.{◌≡◌, ℕ, ◌+◌, ◌-◌, ◌^◌, ◌≤◌, ◌<◌, min, List, ◌++◌, length, Option, Result, IfOk, IfSome}
+use Rattle.std.specs.Prelude.{OnSome}
 use Rattle.std.specs.Io.KnownBytes.{Appends, Consumes}
 
 -- the count after one more fault; it stays at the greatest number of its type
@@ -19,6 +20,8 @@ abbrev pub AppendsPrefix : Option (List ℕ) → Option (List ℕ) → List ℕ 
 AppendsPrefix old new bs = (done : List ℕ) × (rest : List ℕ) × (done ++ rest ≡ bs) × Appends old new done
 
 -- Where the source tells its bytes and the sink what it took, P holds of what was held, taken and added.
-abbrev pub WhereTold : Option (List ℕ) → Option (List ℕ) → Option (List ℕ) → Option (List ℕ) → (List ℕ → List ℕ → List ℕ → Type 0) → Type 0
+abbrev pub WhereTold : Option (List ℕ) → Option (List ℕ) → Option (List ℕ) → Option (List ℕ)
+    → (List ℕ → List ℕ → List ℕ → Type 0) → Type 0
 WhereTold left left_now written written_now P = IfSome left (λ held. OnSome written (
-    (taken : List ℕ) × (added : List ℕ) × Consumes left left_now taken × Appends written written_now added × P held taken added))
+    (taken : List ℕ) × (added : List ℕ) × Consumes left left_now taken × Appends written written_now added
+    × P held taken added))

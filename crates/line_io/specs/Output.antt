@@ -12,9 +12,10 @@ waiting b = take b.len b.bytes
 abbrev pub has_failed : OutputBuffer → Bool
 has_failed b = b.failed
 
--- The bytes `put` stand behind those that waited. Of all these `added` were added to the sink, and `rest` were not: they
--- wait, unless a write failed. After that nothing is written.
-pub record Puts (written written_now : Option (List ℕ)) (faults faults_now : ℕ) (before now : OutputBuffer) (put : List ℕ) : Type 0 where
+-- The bytes `put` stand behind those that waited. Of all these `added` were added to the sink, and `rest` were not:
+-- they wait, unless a write failed. After that nothing is written.
+pub record Puts (written written_now : Option (List ℕ)) (faults faults_now : ℕ) (before now : OutputBuffer)
+    (put : List ℕ) : Type 0 where
   pub added : List ℕ
   pub rest : List ℕ
   pub appended : Appends written written_now added

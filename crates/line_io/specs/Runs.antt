@@ -1,5 +1,6 @@
 -- Successive calls of next_line on one buffer and one source.
-use Rattle.std.specs.Prelude.{◌≡◌, ◌≢◌, ℕ, ◌≤◌, ◌<◌, true, false, nat_lt, if◌then◌else◌, List, [], ◌∷◌, ◌++◌, length, take, map, Option, Some, slice_get, ⊤}
+use Rattle.std.specs.Prelude.{◌≡◌, ◌≢◌, ℕ, ◌≤◌, ◌<◌, true, false, nat_lt, if◌then◌else◌, List, [], ◌∷◌, ◌++◌, length}
+use Rattle.std.specs.Prelude.{take, map, Option, Some, slice_get, ⊤}
 use Rattle.std.specs.List.{flat_map}
 use Rattle.std.specs.Io.KnownBytes.{Consumes}
 use Rattle.line_io.specs.Lines.{lines, whole_lines}
@@ -28,7 +29,8 @@ pub record IsCall (answer : Line) (left left_now : Option (List ℕ)) (before no
 abbrev pub Calls : List (Line × List ℕ) → Option (List ℕ) → LineBuffer → Option (List ℕ) → LineBuffer → Type 0
 Calls [] left before left_now now = (left_now ≡ left) × (now ≡ before)
 Calls (a ∷ more) left before left_now now = (left_mid : Option (List ℕ)) × (mid : LineBuffer) ×
-    (is_closed before ≡ false) × IsCall a.0 left left_mid before mid × (a.1 ≡ line mid) × Calls more left_mid mid left_now now
+    (is_closed before ≡ false) × IsCall a.0 left left_mid before mid × (a.1 ≡ line mid)
+    × Calls more left_mid mid left_now now
 
 -- how a line is answered, and what the buffer shows then
 abbrev pub line_answer : List ℕ → Line × List ℕ
@@ -36,17 +38,22 @@ line_answer l = if nat_lt 8192 (length l) then (TooLong, []) else (Whole (length
 
 -- The answers before the last one, where the source held `held` and `taken` was taken of it.
 abbrev pub AnswersUntil : Line → ℕ → List ℕ → List ℕ → List (Line × List ℕ) → Type 0
-AnswersUntil End max held taken answers = (length held ≤ max) × (taken ≡ held) × (answers ≡ map line_answer (lines held))
+AnswersUntil End max held taken answers =
+    (length held ≤ max) × (taken ≡ held) × (answers ≡ map line_answer (lines held))
 AnswersUntil Failed max held taken answers = answers ≡ map line_answer (lines (whole_lines taken))
-AnswersUntil Budget max held taken answers = (max < length held) × (answers ≡ map line_answer (lines (whole_lines (take max held))))
+AnswersUntil Budget max held taken answers =
+    (max < length held) × (answers ≡ map line_answer (lines (whole_lines (take max held))))
 AnswersUntil (Whole n) max held taken answers = ⊤
 AnswersUntil TooLong max held taken answers = ⊤
 
--- The law on whole runs: the lines that next_line gives before the end are the lines of the bytes, a long one as too long;
--- before a fault they are the whole lines of what was taken, and before the budget those that end among the first max bytes.
+-- The law on whole runs: the lines that next_line gives before the end are the lines of the bytes, a long one as too
+-- long; before a fault they are the whole lines of what was taken, and before the budget those that end among the
+-- first max bytes.
 abbrev pub LinesOfBytes : Type 0
-LinesOfBytes = (max : ℕ) (held : List ℕ) (first before now : LineBuffer) (left left_now : Option (List ℕ)) (answers : List (Line × List ℕ)) (last : Line) →
-    IsNew max first → Calls answers (Some held) first left before → is_closed before ≡ false → IsCall last left left_now before now →
+LinesOfBytes = (max : ℕ) (held : List ℕ) (first before now : LineBuffer) (left left_now : Option (List ℕ))
+    (answers : List (Line × List ℕ)) (last : Line) →
+    IsNew max first → Calls answers (Some held) first left before → is_closed before ≡ false
+    → IsCall last left left_now before now →
     (taken_bytes : List ℕ) × Consumes (Some held) left_now taken_bytes × AnswersUntil last max held taken_bytes answers
 
 -- the first list is the beginning of the second
@@ -55,4 +62,5 @@ IsPrefix part all = (rest : List ℕ) × (part ++ rest ≡ all)
 
 -- A run that stopped: the first k lines of what was held were answered by f, and nothing of line k+1, of which M holds.
 abbrev pub StoppedAt : (List ℕ → Type 0) → (List ℕ → List ℕ) → List ℕ → List ℕ → Type 0
-StoppedAt M f held added = (k : ℕ) × (l : List ℕ) × (added ≡ flat_map f (take k (lines held))) × (slice_get (lines held) k ≡ Some l) × M l
+StoppedAt M f held added =
+    (k : ℕ) × (l : List ℕ) × (added ≡ flat_map f (take k (lines held))) × (slice_get (lines held) k ≡ Some l) × M l

@@ -1,5 +1,6 @@
 -- What a run over lines has answered.
-use Rattle.std.proofs.Common.{◌≡◌, ℕ, ◌<◌, ◌≤◌, ◌-◌, Bool, true, false, List, [], ◌∷◌, ◌++◌, length, take, Option, Some, Err, refl, sym, ap, ◌∙◌, append_assoc}
+use Rattle.std.proofs.Common.{◌≡◌, ℕ, ◌<◌, ◌≤◌, ◌-◌, Bool, true, false, List, [], ◌∷◌, ◌++◌, length, take, Option, Some}
+use Rattle.std.proofs.Common.{Err, refl, sym, ap, ◌∙◌, append_assoc}
 use Rattle.std.specs.Prelude.{◌&&◌, if◌then◌else◌, slice_get}
 use Rattle.std.specs.Io.KnownBytes.{Appends, Consumes}
 use Rattle.line_io.specs.Buffer.{pending, taken}
@@ -19,10 +20,12 @@ use Rattle.line_program.specs.declared.stop.Stop.{Stop}
 use Rattle.line_program.specs.declared.stop.Stop.TheVariants.{End, ReadFault, WriteFault, Budget, NoMemory}
 use Rattle.line_io.proofs.Gathering.{puts_none, puts_more, puts_then_none, put_whole, put_part}
 use Rattle.line_program.proofs.RuleLaws.{after-append, good-last, replies-last, replies-prefix}
-use Rattle.line_program.proofs.Told.{told, given_first, prefix_same, row_done, row_read_fault, row_write_fault, row_memory, row_budget}
+use Rattle.line_program.proofs.Told.{told, given_first, prefix_same, row_done, row_read_fault, row_write_fault}
+use Rattle.line_program.proofs.Told.{row_memory, row_budget}
 
 -- The lines that were answered so far, what was put for them, the state then, and whether each reply was good.
-pub record Running {St : Type 0} (r : StateRules St) (s s_now : St) (left left_now written written_now : Option (List ℕ)) (faults faults_now : ℕ)
+pub record Running {St : Type 0} (r : StateRules St) (s s_now : St)
+    (left left_now written written_now : Option (List ℕ)) (faults faults_now : ℕ)
     (b : LineBuffer) (out : OutputBuffer) (max : ℕ) (all : Bool) : Type 0 where
   pub done : List (List ℕ)
   pub given : LinesGiven left left_now b max done
@@ -34,8 +37,10 @@ pub record Running {St : Type 0} (r : StateRules St) (s s_now : St) (left left_n
   pub state : s_now ≡ after_lines r s done
   pub good : all ≡ all_good r s done
 
-pub running_start : {St : Type 0} (r : StateRules St) (s : St) (left written : Option (List ℕ)) (faults : ℕ) (b : LineBuffer) (out : OutputBuffer) (max : ℕ) →
-    IsNew max b → waiting out ≡ [] → has_failed out ≡ false → Running r s s left left written written faults faults b out max true
+pub running_start : {St : Type 0} (r : StateRules St) (s : St) (left written : Option (List ℕ)) (faults : ℕ)
+    (b : LineBuffer) (out : OutputBuffer) (max : ℕ) →
+    IsNew max b → waiting out ≡ [] → has_failed out ≡ false
+    → Running r s s left left written written faults faults b out max true
 running_start r s left written faults b out max new empty unfailed = record {
   done = [];
   given = run_start left b max new;
@@ -48,22 +53,28 @@ running_start r s left written faults b out max new empty unfailed = record {
   good = refl;
 }
 
-at_line : (ls more : List (List ℕ)) (l : List ℕ) → (take (length ls) (ls ++ l ∷ more) ≡ ls) × (slice_get (ls ++ l ∷ more) (length ls) ≡ Some l)
+at_line : (ls more : List (List ℕ)) (l : List ℕ) → (take (length ls) (ls ++ l ∷ more) ≡ ls)
+    × (slice_get (ls ++ l ∷ more) (length ls) ≡ Some l)
 at_line [] more l = (refl, refl)
 at_line (x ∷ ls) more l = let p = at_line ls more l in (ap (λ xs. x ∷ xs) p.0, p.1)
 
-module _ {St : Type 0} (r : StateRules St) (s : St) (left left_mid left_now written written_now : Option (List ℕ)) (before now : LineBuffer) (max : ℕ) (done : List (List ℕ)) where
+module _ {St : Type 0} (r : StateRules St) (s : St) (left left_mid left_now written written_now : Option (List ℕ))
+    (before now : LineBuffer) (max : ℕ) (done : List (List ℕ)) where
   -- what was added is the beginning of the output
-  beginning : (held part : List ℕ) → (g : LinesGiven left left_mid before max done) → left ≡ Some held → IsPrefix part (replies r s done) → IsPrefix part (output (from_state r s) held)
+  beginning : (held part : List ℕ) → (g : LinesGiven left left_mid before max done) → left ≡ Some held
+      → IsPrefix part (replies r s done) → IsPrefix part (output (from_state r s) held)
   beginning held part g is p =
       let h = rw is at g in
       let more = given_first held left_mid before max done h h.consumed in
       rw more.1 (replies-prefix r s done more.0 part p)
 
   -- the end of the input
-  pub outcome_end : (status : ℕ) (all : Bool) → LinesGiven left left_mid before max done → IsCall lines_of.TheVariants.End left_mid left_now before now
-      → Appends written written_now (replies r s done) → all ≡ all_good r s done → status ≤ 1 → status ≡ (if all then 0 else 1)
-      → WhereTold left left_now written written_now (λ held taken added. Outcome (from_state r s) status max held taken added)
+  pub outcome_end : (status : ℕ) (all : Bool) → LinesGiven left left_mid before max done
+      → IsCall lines_of.TheVariants.End left_mid left_now before now
+      → Appends written written_now (replies r s done) → all ≡ all_good r s done → status ≤ 1
+      → status ≡ (if all then 0 else 1)
+      → WhereTold left left_now written written_now
+      (λ held taken added. Outcome (from_state r s) status max held taken added)
   outcome_end status all g c added good low is =
       told left left_now written written_now (g.bytes ++ c.takes.bytes) (replies r s done)
       (λ held taken added. Outcome (from_state r s) status max held taken added)
@@ -75,9 +86,11 @@ module _ {St : Type 0} (r : StateRules St) (s : St) (left left_mid left_now writ
       (is ∙ ap (λ (b : Bool). if b then 0 else 1) (good ∙ ap (all_good r s) (sym end.2))))
 
   -- a read failed
-  pub outcome_failed : LinesGiven left left_mid before max done → IsCall lines_of.TheVariants.Failed left_mid left_now before now
+  pub outcome_failed : LinesGiven left left_mid before max done
+      → IsCall lines_of.TheVariants.Failed left_mid left_now before now
       → Appends written written_now (replies r s done)
-      → WhereTold left left_now written written_now (λ held taken added. Outcome (from_state r s) 3 max held taken added)
+      → WhereTold left left_now written written_now
+      (λ held taken added. Outcome (from_state r s) 3 max held taken added)
   outcome_failed g c added =
       told left left_now written written_now (g.bytes ++ c.takes.bytes) (replies r s done)
       (λ held taken added. Outcome (from_state r s) 3 max held taken added)
@@ -88,9 +101,11 @@ module _ {St : Type 0} (r : StateRules St) (s : St) (left left_mid left_now writ
       (beginning held (replies r s done) g d (prefix_same (replies r s done))))
 
   -- more than max bytes
-  pub outcome_budget : LinesGiven left left_mid before max done → IsCall lines_of.TheVariants.Budget left_mid left_now before now
+  pub outcome_budget : LinesGiven left left_mid before max done
+      → IsCall lines_of.TheVariants.Budget left_mid left_now before now
       → Appends written written_now (replies r s done)
-      → WhereTold left left_now written written_now (λ held taken added. Outcome (from_state r s) 6 max held taken added)
+      → WhereTold left left_now written written_now
+      (λ held taken added. Outcome (from_state r s) 6 max held taken added)
   outcome_budget g c added =
       told left left_now written written_now (g.bytes ++ c.takes.bytes) (replies r s done)
       (λ held taken added. Outcome (from_state r s) 6 max held taken added)
@@ -104,7 +119,8 @@ module _ {St : Type 0} (r : StateRules St) (s : St) (left left_mid left_now writ
   -- a write failed, after `more` was taken
   pub outcome_cut : (more : List ℕ) → LinesGiven left left_mid before max done → Consumes left_mid left_now more
       → AppendsPrefix written written_now (replies r s done)
-      → WhereTold left left_now written written_now (λ held taken added. Outcome (from_state r s) 4 max held taken added)
+      → WhereTold left left_now written written_now
+      (λ held taken added. Outcome (from_state r s) 4 max held taken added)
   outcome_cut more g c part =
       told left left_now written written_now (g.bytes ++ more) part.0
       (λ held taken added. Outcome (from_state r s) 4 max held taken added)
@@ -116,7 +132,8 @@ module _ {St : Type 0} (r : StateRules St) (s : St) (left left_mid left_now writ
 behind : (all done more : List (List ℕ)) (l : List ℕ) → all ≡ (done ++ l ∷ []) ++ more → all ≡ done ++ l ∷ more
 behind all done more l e = e ∙ append_assoc done (l ∷ []) more
 
-stopped : {St : Type 0} (r : StateRules St) (s : St) (held : List ℕ) (done more : List (List ℕ)) (l : List ℕ) → lines held ≡ done ++ l ∷ more
+stopped : {St : Type 0} (r : StateRules St) (s : St) (held : List ℕ) (done more : List (List ℕ)) (l : List ℕ)
+    → lines held ≡ done ++ l ∷ more
     → r.may_lack_memory (after_lines r s done) l ≡ true → StoppedForMemory (from_state r s) held (replies r s done)
 stopped r s held done more l all lacks =
     let p = at_line done more l in
@@ -125,8 +142,10 @@ stopped r s held done more l all lacks =
     (length done, l, ap (replies r s) (sym firsts), found, rw firsts lacks)
 
 -- memory was wanting for the line behind those that are done
-pub outcome_memory : {St : Type 0} (r : StateRules St) (s : St) (left left_now written written_now : Option (List ℕ)) (now : LineBuffer) (max : ℕ) (done : List (List ℕ)) (l : List ℕ)
-    → (g : LinesGiven left left_now now max (done ++ l ∷ [])) → Appends written written_now (replies r s done) → r.may_lack_memory (after_lines r s done) l ≡ true
+pub outcome_memory : {St : Type 0} (r : StateRules St) (s : St) (left left_now written written_now : Option (List ℕ))
+    (now : LineBuffer) (max : ℕ) (done : List (List ℕ)) (l : List ℕ)
+    → (g : LinesGiven left left_now now max (done ++ l ∷ [])) → Appends written written_now (replies r s done)
+    → r.may_lack_memory (after_lines r s done) l ≡ true
     → WhereTold left left_now written written_now (λ held taken added. Outcome (from_state r s) 5 max held taken added)
 outcome_memory r s left left_now written written_now now max done l g added lacks =
     told left left_now written written_now g.bytes (replies r s done)
@@ -141,27 +160,39 @@ outcome_memory r s left left_now written written_now now max done l g added lack
 
 -- ---- the steps of a run
 
-module _ {St : Type 0} (r : StateRules St) (s s_mid s_now : St) (left left_mid left_now written written_mid written_now : Option (List ℕ)) (faults faults_mid faults_now : ℕ)
+module _ {St : Type 0} (r : StateRules St) (s s_mid s_now : St)
+    (left left_mid left_now written written_mid written_now : Option (List ℕ)) (faults faults_mid faults_now : ℕ)
     (before now : LineBuffer) (out out_now : OutputBuffer) (max : ℕ) (all : Bool) where
   -- the line that was taken is the next one
-  one_more : {P : List ℕ → Type 0} → (i : Running r s s_mid left left_mid written written_mid faults faults_mid before out max all) → (line : TakesLine P left_mid left_now before now)
+  one_more : {P : List ℕ → Type 0}
+      → (i : Running r s s_mid left left_mid written written_mid faults faults_mid before out max all)
+      → (line : TakesLine P left_mid left_now before now)
       → OneMore left left_now before now max i.done line.3
-  one_more i line = run_first line.0 left left_mid left_now before now max i.done line.3 i.given line.1 line.2 line.4 line.5
+  one_more i line = run_first line.0 left left_mid left_now before now max i.done line.3 i.given line.1 line.2 line.4
+      line.5
 
   -- what is put for the lines so far
-  put_more : (i : Running r s s_mid left left_mid written written_mid faults faults_mid before out max all) → (l : List ℕ)
+  put_more : (i : Running r s s_mid left left_mid written written_mid faults faults_mid before out max all)
+      → (l : List ℕ)
       → Puts written_mid written_now faults_mid faults_now out out_now (r.reply s_mid l)
       → Puts written written_now faults faults_now i.first out_now (replies r s (i.done ++ l ∷ []))
   put_more i l p =
-      let q : Puts written_mid written_now faults_mid faults_now out out_now (r.reply (after_lines r s i.done) l) = rw i.state at p in
-      rw (replies-last r s i.done l) (puts_more written written_mid written_now faults faults_mid faults_now i.first out out_now (replies r s i.done) (r.reply (after_lines r s i.done) l) i.put q)
+      let q : Puts written_mid written_now faults_mid faults_now out out_now (r.reply (after_lines r s i.done) l) =
+      rw i.state at p in
+      rw (replies-last r s i.done l)
+      (puts_more written written_mid written_now faults faults_mid faults_now i.first out out_now
+      (replies r s i.done) (r.reply (after_lines r s i.done) l) i.put q)
 
   -- a line was answered
-  pub run_step : (good : Bool) → Running r s s_mid left left_mid written written_mid faults faults_mid before out max all
-      → TakesLine (λ l. (good ≡ r.is_good s_mid l) × Puts written_mid written_now faults_mid faults_now out out_now (r.reply s_mid l) × (s_now ≡ r.after s_mid l)) left_mid left_now before now
+  pub run_step : (good : Bool)
+      → Running r s s_mid left left_mid written written_mid faults faults_mid before out max all
+      → TakesLine (λ l. (good ≡ r.is_good s_mid l)
+      × Puts written_mid written_now faults_mid faults_now out out_now (r.reply s_mid l)
+      × (s_now ≡ r.after s_mid l)) left_mid left_now before now
       → has_failed out_now ≡ false
       → Running r s s_now left left_now written written_now faults faults_now now out_now max (all && good)
-      × (taken before - length (pending before) < taken now - length (pending now)) × (taken before - length (pending before) ≤ max)
+      × (taken before - length (pending before) < taken now - length (pending now))
+      × (taken before - length (pending before) ≤ max)
   run_step good i line unfailed =
       let one = one_more i line in
       let l : List ℕ = line.3 in (
@@ -174,7 +205,9 @@ module _ {St : Type 0} (r : StateRules St) (s s_mid s_now : St) (left left_mid l
           put = put_more i l line.6.1;
           unfailed = unfailed;
           state = line.6.2 ∙ ap (λ t. r.after t l) i.state ∙ sym (after-append r s i.done (l ∷ []));
-          good = ap (λ a. a && good) i.good ∙ ap (λ b. all_good r s i.done && b) (line.6.0 ∙ ap (λ t. r.is_good t l) i.state) ∙ sym (good-last r s i.done l);
+          good = ap (λ a. a && good) i.good
+              ∙ ap (λ b. all_good r s i.done && b) (line.6.0 ∙ ap (λ t. r.is_good t l) i.state)
+              ∙ sym (good-last r s i.done l);
         },
         one.1,
         one.2,
@@ -182,54 +215,94 @@ module _ {St : Type 0} (r : StateRules St) (s s_mid s_now : St) (left left_mid l
 
   -- a write of its reply failed
   pub run_cut : (good : Bool) → Running r s s_mid left left_mid written written_mid faults faults_mid before out max all
-      → TakesLine (λ l. (good ≡ r.is_good s_mid l) × Puts written_mid written_now faults_mid faults_now out out_now (r.reply s_mid l) × (s_now ≡ r.after s_mid l)) left_mid left_now before now
-      → WhereTold left left_now written written_now (λ held taken added. Outcome (from_state r s) 4 max held taken added)
+      → TakesLine (λ l. (good ≡ r.is_good s_mid l)
+      × Puts written_mid written_now faults_mid faults_now out out_now (r.reply s_mid l)
+      × (s_now ≡ r.after s_mid l)) left_mid left_now before now
+      → WhereTold left left_now written written_now
+      (λ held taken added. Outcome (from_state r s) 4 max held taken added)
   run_cut good i line =
       let one = one_more i line in
-      outcome_cut r s left left_now left_now written written_now now now max (i.done ++ line.3 ∷ []) [] one.0 (consumes_none left_now)
-      (put_part written written_now faults faults_now i.first out_now (replies r s (i.done ++ line.3 ∷ [])) (put_more i line.3 line.6.1) i.first_empty)
+      outcome_cut r s left left_now left_now written written_now now now max (i.done ++ line.3 ∷ []) [] one.0
+      (consumes_none left_now)
+      (put_part written written_now faults faults_now i.first out_now (replies r s (i.done ++ line.3 ∷ []))
+      (put_more i line.3 line.6.1) i.first_empty)
 
 -- ---- the ends of a run: the last reply put nothing, and what waited was written
 
-module _ {St : Type 0} (r : StateRules St) (s s_mid s_now : St) (left left_mid left_now written written_mid written_next written_now : Option (List ℕ)) (faults faults_mid faults_next faults_now : ℕ)
+module _ {St : Type 0} (r : StateRules St) (s s_mid s_now : St)
+    (left left_mid left_now written written_mid written_next written_now : Option (List ℕ))
+    (faults faults_mid faults_next faults_now : ℕ)
     (before now : LineBuffer) (out out_next out_now : OutputBuffer) (max : ℕ) (all : Bool)
-    (i : Running r s s_mid left left_mid written written_mid faults faults_mid before out max all) (flushed : Puts written_next written_now faults_next faults_now out_next out_now []) where
-  put_last : Puts written_mid written_next faults_mid faults_next out out_next [] → Puts written written_now faults faults_now i.first out_now (replies r s i.done)
+    (i : Running r s s_mid left left_mid written written_mid faults faults_mid before out max all)
+    (flushed : Puts written_next written_now faults_next faults_now out_next out_now []) where
+  put_last : Puts written_mid written_next faults_mid faults_next out out_next []
+      → Puts written written_now faults faults_now i.first out_now (replies r s i.done)
   put_last p =
-      puts_then_none written written_next written_now faults faults_next faults_now i.first out_next out_now (replies r s i.done)
-      (puts_then_none written written_mid written_next faults faults_mid faults_next i.first out out_next (replies r s i.done) i.put p) flushed
+      puts_then_none written written_next written_now faults faults_next faults_now i.first out_next out_now
+      (replies r s i.done)
+      (puts_then_none written written_mid written_next faults faults_mid faults_next i.first out out_next
+      (replies r s i.done) i.put p) flushed
 
-  cut : Puts written_mid written_next faults_mid faults_next out out_next [] → AppendsPrefix written written_now (replies r s i.done)
+  cut : Puts written_mid written_next faults_mid faults_next out out_next []
+      → AppendsPrefix written written_now (replies r s i.done)
   cut p = put_part written written_now faults faults_now i.first out_now (replies r s i.done) (put_last p) i.first_empty
 
   -- what waited wasn't written
-  pub run_stop_cut : (stop : Stop) → NextReply r s_mid s_now (Puts written_mid written_next faults_mid faults_next out out_next) (Err stop) left_mid left_now before now
-      → WhereTold left left_now written written_now (λ held taken added. Outcome (from_state r s) 4 max held taken added)
-  run_stop_cut End n = outcome_cut r s left left_mid left_now written written_now before now max i.done n.0.takes.bytes i.given n.0.takes.consumed (cut n.1)
-  run_stop_cut ReadFault n = outcome_cut r s left left_mid left_now written written_now before now max i.done n.0.takes.bytes i.given n.0.takes.consumed (cut n.1)
-  run_stop_cut Budget n = outcome_cut r s left left_mid left_now written written_now before now max i.done n.0.takes.bytes i.given n.0.takes.consumed (cut n.1)
-  run_stop_cut WriteFault n = outcome_cut r s left left_mid left_now written written_now before now max i.done [] i.given (rw n.0 (consumes_none left_mid)) (cut n.2)
-  run_stop_cut NoMemory n = outcome_cut r s left left_mid left_now written written_now before now max i.done n.1.takes.bytes i.given n.1.takes.consumed (cut n.6.1)
+  pub run_stop_cut : (stop : Stop)
+      → NextReply r s_mid s_now (Puts written_mid written_next faults_mid faults_next out out_next) (Err stop) left_mid
+      left_now before now
+      → WhereTold left left_now written written_now
+      (λ held taken added. Outcome (from_state r s) 4 max held taken added)
+  run_stop_cut End n = outcome_cut r s left left_mid left_now written written_now before now max i.done n.0.takes.bytes
+      i.given n.0.takes.consumed (cut n.1)
+  run_stop_cut ReadFault n =
+      outcome_cut r s left left_mid left_now written written_now before now max i.done n.0.takes.bytes i.given
+      n.0.takes.consumed (cut n.1)
+  run_stop_cut Budget n =
+      outcome_cut r s left left_mid left_now written written_now before now max i.done n.0.takes.bytes i.given
+      n.0.takes.consumed (cut n.1)
+  run_stop_cut WriteFault n =
+      outcome_cut r s left left_mid left_now written written_now before now max i.done [] i.given
+      (rw n.0 (consumes_none left_mid)) (cut n.2)
+  run_stop_cut NoMemory n =
+      outcome_cut r s left left_mid left_now written written_now before now max i.done n.1.takes.bytes i.given
+      n.1.takes.consumed (cut n.6.1)
 
   module _ (unfailed : has_failed out_now ≡ false) (none : waiting out_now ≡ []) where
-    whole : Puts written_mid written_next faults_mid faults_next out out_next [] → Appends written written_now (replies r s i.done)
-    whole p = put_whole written written_now faults faults_now i.first out_now (replies r s i.done) (put_last p) i.first_empty unfailed none
+    whole : Puts written_mid written_next faults_mid faults_next out out_next []
+        → Appends written written_now (replies r s i.done)
+    whole p = put_whole written written_now faults faults_now i.first out_now (replies r s i.done) (put_last p)
+        i.first_empty unfailed none
 
-    pub run_end_told : (status : ℕ) → NextReply r s_mid s_now (Puts written_mid written_next faults_mid faults_next out out_next) (Err End) left_mid left_now before now
+    pub run_end_told : (status : ℕ)
+        → NextReply r s_mid s_now (Puts written_mid written_next faults_mid faults_next out out_next) (Err End) left_mid
+        left_now before now
         → status ≤ 1 → status ≡ (if all then 0 else 1)
-        → WhereTold left left_now written written_now (λ held taken added. Outcome (from_state r s) status max held taken added)
-    run_end_told status n low is = outcome_end r s left left_mid left_now written written_now before now max i.done status all i.given n.0 (whole n.1) i.good low is
+        → WhereTold left left_now written written_now
+        (λ held taken added. Outcome (from_state r s) status max held taken added)
+    run_end_told status n low is =
+        outcome_end r s left left_mid left_now written written_now before now max i.done status all i.given n.0
+        (whole n.1) i.good low is
 
-    pub run_failed_told : NextReply r s_mid s_now (Puts written_mid written_next faults_mid faults_next out out_next) (Err ReadFault) left_mid left_now before now
-        → WhereTold left left_now written written_now (λ held taken added. Outcome (from_state r s) 3 max held taken added)
-    run_failed_told n = outcome_failed r s left left_mid left_now written written_now before now max i.done i.given n.0 (whole n.1)
+    pub run_failed_told : NextReply r s_mid s_now (Puts written_mid written_next faults_mid faults_next out out_next)
+        (Err ReadFault) left_mid left_now before now
+        → WhereTold left left_now written written_now
+        (λ held taken added. Outcome (from_state r s) 3 max held taken added)
+    run_failed_told n = outcome_failed r s left left_mid left_now written written_now before now max i.done i.given n.0
+        (whole n.1)
 
-    pub run_budget_told : NextReply r s_mid s_now (Puts written_mid written_next faults_mid faults_next out out_next) (Err Budget) left_mid left_now before now
-        → WhereTold left left_now written written_now (λ held taken added. Outcome (from_state r s) 6 max held taken added)
-    run_budget_told n = outcome_budget r s left left_mid left_now written written_now before now max i.done i.given n.0 (whole n.1)
+    pub run_budget_told : NextReply r s_mid s_now (Puts written_mid written_next faults_mid faults_next out out_next)
+        (Err Budget) left_mid left_now before now
+        → WhereTold left left_now written written_now
+        (λ held taken added. Outcome (from_state r s) 6 max held taken added)
+    run_budget_told n = outcome_budget r s left left_mid left_now written written_now before now max i.done i.given n.0
+        (whole n.1)
 
-    pub run_memory_told : NextReply r s_mid s_now (Puts written_mid written_next faults_mid faults_next out out_next) (Err NoMemory) left_mid left_now before now
-        → WhereTold left left_now written written_now (λ held taken added. Outcome (from_state r s) 5 max held taken added)
+    pub run_memory_told : NextReply r s_mid s_now (Puts written_mid written_next faults_mid faults_next out out_next)
+        (Err NoMemory) left_mid left_now before now
+        → WhereTold left left_now written written_now
+        (λ held taken added. Outcome (from_state r s) 5 max held taken added)
     run_memory_told n =
         let one = run_first n.0 left left_mid left_now before now max i.done n.3 i.given n.1 n.2 n.4 n.5 in
-        outcome_memory r s left left_now written written_now now max i.done n.3 one.0 (whole n.6.1) (ap (λ t. r.may_lack_memory t n.3) (sym i.state) ∙ n.6.0)
+        outcome_memory r s left left_now written written_now now max i.done n.3 one.0 (whole n.6.1)
+        (ap (λ t. r.may_lack_memory t n.3) (sym i.state) ∙ n.6.0)

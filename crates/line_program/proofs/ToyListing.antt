@@ -1,5 +1,6 @@
 -- Notes: a listing, one text after the other.
-use Rattle.std.proofs.Common.{◌≡◌, ℕ, ◌+◌, ◌<◌, zero, suc, List, [], ◌∷◌, ◌++◌, length, get_or, take, map, sym, ap, ◌∙◌, append_assoc, add-one, arith}
+use Rattle.std.proofs.Common.{◌≡◌, ℕ, ◌+◌, ◌<◌, zero, suc, List, [], ◌∷◌, ◌++◌, length, get_or, take, map, sym, ap, ◌∙◌}
+use Rattle.std.proofs.Common.{append_assoc, add-one, arith}
 use Rattle.line_io.proofs.Moved.{append-nil}
 use Rattle.line_program.specs.Toys.{listing}
 
@@ -8,7 +9,8 @@ listing_suc : {A : Type 0} (f : A → List ℕ) (i : ℕ) (xs : List A) (d : A) 
 listing_suc f i [] d within = absurd (omega arith)
 listing_suc f zero (x ∷ xs) d within = append-nil (f x ++ 10 ∷ [])
 listing_suc f (suc i) (x ∷ xs) d within =
-    ap (λ zs. (f x ++ 10 ∷ []) ++ zs) (listing_suc f i xs d (omega arith) ∙ append_assoc (listing (map f (take i xs))) (f (get_or xs i d)) (10 ∷ []))
+    ap (λ zs. (f x ++ 10 ∷ []) ++ zs)
+    (listing_suc f i xs d (omega arith) ∙ append_assoc (listing (map f (take i xs))) (f (get_or xs i d)) (10 ∷ []))
     ∙ sym (append_assoc (f x ++ 10 ∷ []) (listing (map f (take i xs))) (f (get_or xs i d) ++ 10 ∷ []))
     ∙ sym (append_assoc ((f x ++ 10 ∷ []) ++ listing (map f (take i xs))) (f (get_or xs i d)) (10 ∷ []))
 

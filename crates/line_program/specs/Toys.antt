@@ -1,7 +1,8 @@
 -- Two programs that the tests run. No public clause names these words.
 --
 -- Notes: a program whose replies depend on the lines before. It keeps lines, and `list` lists them.
-use Rattle.std.specs.Prelude.{ℕ, Bool, true, false, ◌&&◌, ◌==◌, not, List, [], ◌∷◌, ◌++◌, length, nat_lt, nat_le, codes, bytes_eq, nat_eq, if◌then◌else◌, Option, Some, None}
+use Rattle.std.specs.Prelude.{ℕ, Bool, true, false, ◌&&◌, ◌==◌, not, List, [], ◌∷◌, ◌++◌, length, nat_lt, nat_le, codes}
+use Rattle.std.specs.Prelude.{bytes_eq, nat_eq, if◌then◌else◌, Option, Some, None}
 use Rattle.std.specs.Cmp.Lexicographic.{pointwise}
 use Rattle.std.specs.List.{flat_map}
 use Rattle.line_program.specs.Rules.{LineRules, StateRules, each_line, from_state}
@@ -35,11 +36,13 @@ kept (pair ∷ more) = if was_kept pair then pair.0 ∷ kept more else kept more
 
 -- the line is kept
 abbrev pub keeps : List (List ℕ) → List ℕ → Bool
-keeps texts line = if nat_lt 8192 (length line) then false else if is_list line then false else not (nat_le 4096 (length texts))
+keeps texts line = if nat_lt 8192 (length line) then false else if is_list line then false else not
+    (nat_le 4096 (length texts))
 
 -- a reply of `ok` or a listing
 abbrev pub is_good_over : List (List ℕ) → List ℕ → Bool
-is_good_over texts line = if nat_lt 8192 (length line) then false else if is_list line then true else not (nat_le 4096 (length texts))
+is_good_over texts line =
+    if nat_lt 8192 (length line) then false else if is_list line then true else not (nat_le 4096 (length texts))
 
 -- what is kept, as the code has it
 abbrev pub notes_rules : StateRules (List (List ℕ))

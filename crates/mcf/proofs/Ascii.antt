@@ -7,7 +7,8 @@ use Rattle.std.proofs.lemmas.Bool.{and_parts}
 use Rattle.std.proofs.lemmas.Bool.Decides.{nat_tests}
 use Rattle.std.proofs.lemmas.Str.{IsUtf8-from_ascii}
 use Rattle.std.proofs.lemmas.Str.Ascii.{IsAscii-nil, IsAscii-cons}
-use Rattle.mcf.specs.Grammar.{fault, field_fault, first_field_fault, fields_text, is_field_byte, is_identifier_byte, mcf, parts, parts_text}
+use Rattle.mcf.specs.Grammar.{fault, field_fault, first_field_fault, fields_text, is_field_byte, is_identifier_byte}
+use Rattle.mcf.specs.Grammar.{mcf, parts, parts_text}
 use Rattle.mcf.proofs.Built.{field_bytes, identifier_bytes}
 use Rattle.mcf.proofs.ValidTexts.{or_none, parts_text-mcf, valid_of}
 
@@ -52,7 +53,8 @@ text_of_valid s valid = parts_text-mcf s (parts s) (mcf_of_valid s valid)
 pub valid_ascii : (s : List ℕ) → fault s ≡ None → IsAscii s
 valid_ascii s valid =
     let good = valid_of s valid in
-    let name = all_ascii is_identifier_byte identifier_byte (parts s).id (identifier_bytes (parts s).id good.identifier) in
+    let name = all_ascii is_identifier_byte identifier_byte (parts s).id
+    (identifier_bytes (parts s).id good.identifier) in
     let behind = fields_ascii (parts s).fields good.fields in
     subst (λ (t : List ℕ). IsAscii t) (text_of_valid s valid)
     (IsAscii-cons 36 ((parts s).id ++ fields_text (parts s).fields) (omega arith)

@@ -1,5 +1,6 @@
 -- Texts that are built from an identifier and fields.
-use Rattle.std.proofs.Common.{◌≡◌, ◌≢◌, ℕ, zero, suc, ◌+◌, ◌-◌, Bool, true, false, List, [], ◌∷◌, ◌++◌, length, drop, refl, sym, ap, ◌∙◌, arith}
+use Rattle.std.proofs.Common.{◌≡◌, ◌≢◌, ℕ, zero, suc, ◌+◌, ◌-◌, Bool, true, false, List, [], ◌∷◌, ◌++◌, length, drop}
+use Rattle.std.proofs.Common.{refl, sym, ap, ◌∙◌, arith}
 use Rattle.std.specs.Prelude.{not, nat_eq, Some, None, Ok, if◌then◌else◌}
 use Rattle.std.specs.List.{list_all, starts_with, ends_with}
 use Rattle.std.specs.Cmp.Lexicographic.{pointwise}
@@ -10,7 +11,9 @@ use Rattle.std.proofs.Math.Seq.{drop-append-add}
 use Rattle.pieces.specs.Pieces.{LacksByte, pieces_at}
 use Rattle.pieces.proofs.Cuts.{cut_append, cut_in_front, one_piece}
 use Rattle.mcf.specs.declared.error.Error.TheVariants.{FieldInvalid, EncodingInvalid}
-use Rattle.mcf.specs.Grammar.{field_fault, first_field_fault, fields_text, is_field_byte, is_identifier_byte, is_delimited, is_identifier, fault, mcf, parts, Parts, parts_of_pieces, parts_text, with_dollar, with_field}
+use Rattle.mcf.specs.Grammar.{field_fault, first_field_fault, fields_text, is_field_byte, is_identifier_byte}
+use Rattle.mcf.specs.Grammar.{is_delimited, is_identifier, fault, mcf, parts, Parts, parts_of_pieces, parts_text}
+use Rattle.mcf.specs.Grammar.{with_dollar, with_field}
 use Rattle.mcf.proofs.ValidTexts.{some_none, or_none, valid_of, pieces_of_valid}
 
 -- ---- bytes that are no `$`
@@ -18,7 +21,8 @@ use Rattle.mcf.proofs.ValidTexts.{some_none, or_none, valid_of, pieces_of_valid}
 -- a text of bytes among which `$` is none
 lacks : (p : ℕ → Bool) → p 36 ≡ false → (s : List ℕ) → list_all p s ≡ true → LacksByte 36 s
 lacks p other [] h i below = absurd (omega (arith, below))
-lacks p other (b ∷ s) h zero below = λ same. false≢true (sym other ∙ ap p (sym same) ∙ (and_parts (p b) (list_all p s) h).0)
+lacks p other (b ∷ s) h zero below =
+    λ same. false≢true (sym other ∙ ap p (sym same) ∙ (and_parts (p b) (list_all p s) h).0)
 lacks p other (b ∷ s) h (suc i) below = lacks p other s (and_parts (p b) (list_all p s) h).1 i (omega (arith, below))
 
 other_byte : (b : ℕ) → b ≢ 36 → pointwise nat_eq (36 ∷ []) (b ∷ []) ≡ false
@@ -28,16 +32,19 @@ last_byte : (b : ℕ) (s : List ℕ) → LacksByte 36 (b ∷ s) → pointwise na
 last_byte b [] none = other_byte b (none 0 (omega arith))
 last_byte b (c ∷ s) none = last_byte c s (λ i below. none (suc i) (omega (arith, below)))
 
-not_at_end : (s : List ℕ) (b : ℕ) (part : List ℕ) → LacksByte 36 (b ∷ part) → ends_with nat_eq (s ++ 36 ∷ (b ∷ part)) (36 ∷ []) ≡ false
+not_at_end : (s : List ℕ) (b : ℕ) (part : List ℕ) → LacksByte 36 (b ∷ part)
+    → ends_with nat_eq (s ++ 36 ∷ (b ∷ part)) (36 ∷ []) ≡ false
 not_at_end s b part none =
     let tail : List ℕ = 36 ∷ (b ∷ part) in
     let at : length (s ++ tail) - 1 ≡ length s + suc (length part) = omega (arith, length-append s tail) in
-    let cut : drop (length s + suc (length part)) (s ++ tail) ≡ drop (suc (length part)) tail = drop-append-add s tail (suc (length part)) in
+    let cut : drop (length s + suc (length part)) (s ++ tail) ≡ drop (suc (length part)) tail =
+    drop-append-add s tail (suc (length part)) in
     rw (at, cut) (last_byte b part none)
 
 -- ---- a text by its pieces
 
-whole : (s id : List ℕ) (fields : List (List ℕ)) → is_delimited s ≡ true → pieces_at 36 s ≡ [] ∷ (id ∷ fields) → is_identifier id ≡ true → first_field_fault fields ≡ None
+whole : (s id : List ℕ) (fields : List (List ℕ)) → is_delimited s ≡ true → pieces_at 36 s ≡ [] ∷ (id ∷ fields)
+    → is_identifier id ≡ true → first_field_fault fields ≡ None
     → (fault s ≡ None) × (parts s ≡ record { id = id; fields = fields })
 whole s id fields delimited cut name good = (rw (delimited, cut, name) good, ap parts_of_pieces cut)
 
@@ -49,7 +56,8 @@ identifier_bytes id h = grind (arith, nat_tests, h)
 no_identifier : is_identifier [] ≡ true → ⊥
 no_identifier h = cc
 
-pub fault_identifier : (id : List ℕ) → is_identifier id ≡ true → (fault (with_dollar id) ≡ None) × (parts (with_dollar id) ≡ record { id = id; fields = [] })
+pub fault_identifier : (id : List ℕ) → is_identifier id ≡ true
+    → (fault (with_dollar id) ≡ None) × (parts (with_dollar id) ≡ record { id = id; fields = [] })
 fault_identifier [] h = absurd (no_identifier h)
 fault_identifier (b ∷ id) h =
     let none = lacks is_identifier_byte refl (b ∷ id) (identifier_bytes (b ∷ id) h) in
@@ -66,7 +74,8 @@ field_bytes b field h = by_test (list_all is_field_byte (b ∷ field)) h
     by_test true e = refl
     by_test false e = absurd (some_none EncodingInvalid e)
 
-more_fields : (fields : List (List ℕ)) (field : List ℕ) → first_field_fault fields ≡ None → field_fault field ≡ None → first_field_fault (fields ++ field ∷ []) ≡ None
+more_fields : (fields : List (List ℕ)) (field : List ℕ) → first_field_fault fields ≡ None → field_fault field ≡ None
+    → first_field_fault (fields ++ field ∷ []) ≡ None
 more_fields [] field h good = rw good refl
 more_fields (first ∷ fields) field h good =
     let both = or_none (field_fault first) (first_field_fault fields) h in
@@ -88,29 +97,35 @@ fault_pushed s (b ∷ field) h good =
     ∙ ap (λ (ps : List (List ℕ)). [] ∷ ((parts s).id ∷ ((parts s).fields ++ ps))) (one_piece 36 (b ∷ field) none) in
     let front = starts s (36 ∷ (b ∷ field)) valid.delimited in
     let end = not_at_end s b field none in
-    whole (s ++ 36 ∷ (b ∷ field)) (parts s).id ((parts s).fields ++ (b ∷ field) ∷ []) (rw (front, end) refl) cut valid.identifier
+    whole (s ++ 36 ∷ (b ∷ field)) (parts s).id ((parts s).fields ++ (b ∷ field) ∷ []) (rw (front, end) refl) cut
+    valid.identifier
     (more_fields (parts s).fields (b ∷ field) valid.fields good)
 
 -- ---- all fields
 
 pushed_all : (s : List ℕ) (fields : List (List ℕ)) → fault s ≡ None → first_field_fault fields ≡ None
-    → (fault (s ++ fields_text fields) ≡ None) × (parts (s ++ fields_text fields) ≡ record { id = (parts s).id; fields = (parts s).fields ++ fields })
+    → (fault (s ++ fields_text fields) ≡ None)
+    × (parts (s ++ fields_text fields) ≡ record { id = (parts s).id; fields = (parts s).fields ++ fields })
 pushed_all s [] h good = rw (append-nil s, append-nil (parts s).fields) (h, refl)
 pushed_all s (field ∷ fields) h good =
     let both = or_none (field_fault field) (first_field_fault fields) good in
     let one = fault_pushed s field h both.0 in
     let rest = pushed_all (s ++ with_dollar field) fields one.0 both.1 in
-    let same : (s ++ with_dollar field) ++ fields_text fields ≡ s ++ (with_dollar field ++ fields_text fields) = append_assoc s (with_dollar field) (fields_text fields) in (
+    let same : (s ++ with_dollar field) ++ fields_text fields ≡ s ++ (with_dollar field ++ fields_text fields) =
+    append_assoc s (with_dollar field) (fields_text fields) in (
       ap fault (sym same) ∙ rest.0,
       ap parts (sym same) ∙ rest.1 ∙ ap (λ (p : Parts). record { id = p.id; fields = p.fields ++ fields }) one.1
-          ∙ ap (λ (fs : List (List ℕ)). record { id = (parts s).id; fields = fs }) (append_assoc (parts s).fields (field ∷ []) fields),
+          ∙ ap (λ (fs : List (List ℕ)). record { id = (parts s).id; fields = fs })
+          (append_assoc (parts s).fields (field ∷ []) fields),
     )
 
 -- the text of an identifier and fields without a fault has them as its parts
-pub mcf-parts_text : (p : Parts) → is_identifier p.id ≡ true → first_field_fault p.fields ≡ None → mcf (parts_text p) ≡ Ok p
+pub mcf-parts_text : (p : Parts) → is_identifier p.id ≡ true → first_field_fault p.fields ≡ None
+    → mcf (parts_text p) ≡ Ok p
 unfolding mcf
 mcf-parts_text p name good =
     let front = fault_identifier p.id name in
     let all = pushed_all (with_dollar p.id) p.fields front.0 good in
-    let are : parts (parts_text p) ≡ p = all.1 ∙ ap (λ (q : Parts). record { id = q.id; fields = q.fields ++ p.fields }) front.1 in
+    let are : parts (parts_text p) ≡ p =
+    all.1 ∙ ap (λ (q : Parts). record { id = q.id; fields = q.fields ++ p.fields }) front.1 in
     rw (all.0) (ap Ok are)

@@ -8,7 +8,8 @@ use Rattle.pieces.specs.Pieces.{pieces_at}
 use Rattle.pieces.proofs.Cuts.{cut_of, cut_in_front, join_pieces}
 use Rattle.mcf.specs.declared.error.Error.{Error}
 use Rattle.mcf.specs.declared.error.Error.TheVariants.{DelimiterInvalid, IdentifierInvalid}
-use Rattle.mcf.specs.Grammar.{or_else, unless, first_field_fault, is_delimited, is_identifier, fault, mcf, parts, Parts, parts_of_pieces, parts_or_fault, parts_text, fields_text}
+use Rattle.mcf.specs.Grammar.{or_else, unless, first_field_fault, is_delimited, is_identifier, fault, mcf, parts, Parts}
+use Rattle.mcf.specs.Grammar.{parts_of_pieces, parts_or_fault, parts_text, fields_text}
 
 pub some_none : (e : Error) → Some e ≡ None → ⊥
 some_none e h = cc
@@ -30,8 +31,10 @@ pub record IsValid (s : List ℕ) : Type 0 where
 
 pub valid_of : (s : List ℕ) → fault s ≡ None → IsValid s
 valid_of s h =
-    let both = or_none (unless (is_delimited s) DelimiterInvalid) (or_else (unless (is_identifier (parts s).id) IdentifierInvalid) (first_field_fault (parts s).fields)) h in
-    let behind = or_none (unless (is_identifier (parts s).id) IdentifierInvalid) (first_field_fault (parts s).fields) both.1 in
+    let both = or_none (unless (is_delimited s) DelimiterInvalid)
+    (or_else (unless (is_identifier (parts s).id) IdentifierInvalid) (first_field_fault (parts s).fields)) h in
+    let behind = or_none (unless (is_identifier (parts s).id) IdentifierInvalid) (first_field_fault (parts s).fields)
+    both.1 in
     record {
       delimited = unless_none (is_delimited s) DelimiterInvalid both.0;
       identifier = unless_none (is_identifier (parts s).id) IdentifierInvalid behind.0;
@@ -43,7 +46,8 @@ first_byte b s h =
     let front : (b == 36) ≡ true = grind (arith, nat_tests, h) in
     grind (arith, nat_tests, front)
 
-of_pieces : (pieces rest : List (List ℕ)) (id : List ℕ) (others : List (List ℕ)) → pieces ≡ [] ∷ rest → rest ≡ id ∷ others
+of_pieces : (pieces rest : List (List ℕ)) (id : List ℕ) (others : List (List ℕ)) → pieces ≡ [] ∷ rest
+    → rest ≡ id ∷ others
     → pieces ≡ [] ∷ ((parts_of_pieces pieces).id ∷ (parts_of_pieces pieces).fields)
 of_pieces pieces rest id others is cut = rw (is, cut) refl
 
@@ -53,12 +57,14 @@ pieces_of_valid [] h = absurd (some_none DelimiterInvalid h)
 pieces_of_valid (b ∷ s) h =
     let dollar : b ≡ 36 = first_byte b s (valid_of (b ∷ s) h).delimited in
     let cut = cut_of 36 s in
-    of_pieces (pieces_at 36 (b ∷ s)) (pieces_at 36 s) cut.first cut.others (ap (λ (x : ℕ). pieces_at 36 (x ∷ s)) dollar ∙ cut_in_front 36 s) cut.are
+    of_pieces (pieces_at 36 (b ∷ s)) (pieces_at 36 s) cut.first cut.others
+    (ap (λ (x : ℕ). pieces_at 36 (x ∷ s)) dollar ∙ cut_in_front 36 s) cut.are
 
 -- ---- the text of the parts
 
 -- pieces joined behind a first one
-pub join-fields : (piece : List ℕ) (fields : List (List ℕ)) → join_with_byte 36 (piece ∷ fields) ≡ piece ++ fields_text fields
+pub join-fields : (piece : List ℕ) (fields : List (List ℕ))
+    → join_with_byte 36 (piece ∷ fields) ≡ piece ++ fields_text fields
 join-fields piece [] = sym (append-nil piece)
 join-fields piece (field ∷ fields) = ap (λ (t : List ℕ). piece ++ 36 ∷ t) (join-fields field fields)
 
@@ -72,4 +78,5 @@ unfolding mcf
 parts_text-mcf s p h =
     let is = by_fault (parts s) p (fault s) h in
     let cut = pieces_of_valid s is.0 in
-    ap parts_text (sym is.1) ∙ sym (join-fields [] ((parts s).id ∷ (parts s).fields)) ∙ ap (join_with_byte 36) (sym cut) ∙ join_pieces 36 s
+    ap parts_text (sym is.1) ∙ sym (join-fields [] ((parts s).id ∷ (parts s).fields)) ∙ ap (join_with_byte 36) (sym cut)
+    ∙ join_pieces 36 s

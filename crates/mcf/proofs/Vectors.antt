@@ -2,7 +2,8 @@
 use Rattle.std.specs.Prelude.{◌≡◌, [], ◌∷◌, codes, Ok, Err, refl}
 use Rattle.pieces.specs.Pieces.{pieces_at}
 use Rattle.mcf.specs.Grammar.{mcf}
-use Rattle.mcf.specs.declared.error.Error.TheVariants.{DelimiterInvalid, EncodingInvalid, FieldInvalid, IdentifierInvalid}
+use Rattle.mcf.specs.declared.error.Error.TheVariants.{DelimiterInvalid, EncodingInvalid, FieldInvalid}
+use Rattle.mcf.specs.declared.error.Error.TheVariants.{IdentifierInvalid}
 
 no_text : mcf [] ≡ Err DelimiterInvalid
 unfolding mcf pieces_at
@@ -41,11 +42,16 @@ unfolding mcf pieces_at
 identifier_alone = refl
 
 -- the first vector of "Unix crypt using SHA-256 and SHA-512"
-sha_crypt_text : mcf (codes "$5$saltstring$5B8vYYiY.CVt1RlTTf8KbXBH3hsxY/GNooZaBBGWEc5") ≡ Ok (record { id = codes "5"; fields = codes "saltstring" ∷ codes "5B8vYYiY.CVt1RlTTf8KbXBH3hsxY/GNooZaBBGWEc5" ∷ [] })
+sha_crypt_text : mcf (codes "$5$saltstring$5B8vYYiY.CVt1RlTTf8KbXBH3hsxY/GNooZaBBGWEc5")
+    ≡ Ok (record {
+      id = codes "5";
+      fields = codes "saltstring" ∷ codes "5B8vYYiY.CVt1RlTTf8KbXBH3hsxY/GNooZaBBGWEc5" ∷ [];
+    })
 unfolding mcf pieces_at
 sha_crypt_text = refl
 
 -- every character of a field beside letters and digits
-field_characters : mcf (codes "$x-1$ln=16,r=8,p=1$./+=,-") ≡ Ok (record { id = codes "x-1"; fields = codes "ln=16,r=8,p=1" ∷ codes "./+=,-" ∷ [] })
+field_characters : mcf (codes "$x-1$ln=16,r=8,p=1$./+=,-")
+    ≡ Ok (record { id = codes "x-1"; fields = codes "ln=16,r=8,p=1" ∷ codes "./+=,-" ∷ [] })
 unfolding mcf pieces_at
 field_characters = refl

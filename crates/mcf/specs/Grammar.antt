@@ -1,11 +1,13 @@
 -- The modular crypt format (crypt(5), "hashed passphrases"; the rules on characters are those of the
 -- documentation of Rust's crate mcf): a first fault, or an identifier and fields.
-use Rattle.std.specs.Prelude.{ℕ, Bool, true, false, not, ◌&&◌, ◌||◌, ◌==◌, List, [], ◌∷◌, ◌++◌, nat_eq, Option, Some, None, Result, Ok, Err, if◌then◌else◌, codes}
+use Rattle.std.specs.Prelude.{ℕ, Bool, true, false, not, ◌&&◌, ◌||◌, ◌==◌, List, [], ◌∷◌, ◌++◌, nat_eq, Option, Some}
+use Rattle.std.specs.Prelude.{None, Result, Ok, Err, if◌then◌else◌, codes}
 use Rattle.std.specs.List.{list_all, list_any, starts_with, ends_with}
 use Rattle.std.specs.Char.{is_ascii_lowercase, is_ascii_digit, is_ascii_alphanumeric}
 use Rattle.pieces.specs.Pieces.{pieces_at}
 use Rattle.mcf.specs.declared.error.Error.{Error}
-use Rattle.mcf.specs.declared.error.Error.TheVariants.{DelimiterInvalid, EncodingInvalid, FieldInvalid, IdentifierInvalid}
+use Rattle.mcf.specs.declared.error.Error.TheVariants.{DelimiterInvalid, EncodingInvalid, FieldInvalid}
+use Rattle.mcf.specs.declared.error.Error.TheVariants.{IdentifierInvalid}
 
 -- `$`
 abbrev pub dollar : ℕ

@@ -18,9 +18,11 @@ abbrev pub push : Option Error → List ℕ → List ℕ → Result (Unit {0}) E
 push (Some e) field text = (Err e, text)
 push None field text = (Ok tt, text ++ with_dollar field)
 
--- the field is pushed, or the fault is answered and the text stays; without a fault memory may be wanting, and the text stays
+-- the field is pushed, or the fault is answered and the text stays; without a fault memory may be wanting, and the
+-- text stays
 abbrev pub IsPush : Option Error → List ℕ → List ℕ → Result (Unit {0}) Error → List ℕ → Type 0
-IsPush fault field text answer after = ((answer, after) ≡ push fault field text) ⊎ ((fault ≡ None) × ((answer, after) ≡ push (Some OutOfMemory) field text))
+IsPush fault field text answer after = ((answer, after) ≡ push fault field text)
+    ⊎ ((fault ≡ None) × ((answer, after) ≡ push (Some OutOfMemory) field text))
 
 -- the fault of an encoding that is pushed: there are no bytes
 abbrev pub bytes_fault : List ℕ → Option Error

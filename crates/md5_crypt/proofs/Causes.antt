@@ -8,7 +8,8 @@ use Rattle.stored_check.specs.Verdict.{verdict}
 use Rattle.stored_check.specs.declared.error.StoredError.{StoredError}
 use Rattle.stored_check.specs.declared.error.StoredError.TheVariants.{OutOfMemory}
 use Rattle.stored_check.proofs.Causes.{never_memory}
-use Rattle.md5_crypt.specs.Verdict.{legacy_verdict, magic_of, md5_answer, md5_fields, Md5Fields, parts_answer, stored_answer, text_answer}
+use Rattle.md5_crypt.specs.Verdict.{legacy_verdict, magic_of, md5_answer, md5_fields, Md5Fields, parts_answer}
+use Rattle.md5_crypt.specs.Verdict.{stored_answer, text_answer}
 use Rattle.md5_crypt.specs.declared.error.LegacyError.{LegacyError}
 use Rattle.md5_crypt.specs.declared.error.LegacyError.TheVariants.{Stored}
 use Rattle.md5_crypt.specs.declared.error.Md5Fault.{Md5Fault}

@@ -1,5 +1,6 @@
 -- Where memory may be wanting for a text, it is valid and has another identifier than those of the old schemes.
-use Rattle.std.proofs.Common.{◌≡◌, ℕ, Bool, true, false, List, length, refl, sym, ap, ◌∙◌, Option, Some, None, Result, Ok, Err}
+use Rattle.std.proofs.Common.{◌≡◌, ℕ, Bool, true, false, List, length, refl, sym, ap, ◌∙◌, Option, Some, None, Result}
+use Rattle.std.proofs.Common.{Ok, Err}
 use Rattle.std.specs.Prelude.{◌&&◌, is_none, is_ok, nat_lt, if◌then◌else◌}
 use Rattle.std.proofs.lemmas.Bool.{false≢true}
 use Rattle.mcf.specs.Grammar.{mcf, Parts}
@@ -10,7 +11,8 @@ use Rattle.stored_check.specs.Verdict.{may_lack_memory, parts_need, scheme_of, t
 use Rattle.stored_check.specs.declared.error.StoredError.{StoredError}
 use Rattle.stored_check.specs.declared.error.StoredError.TheVariants.{PasswordTooLong}
 use Rattle.md5_crypt.specs.Run.{has_other_identifier, is_costly}
-use Rattle.md5_crypt.specs.Verdict.{is_other, legacy_may_lack, legacy_verdict, magic_of, parts_answer, stored_answer, text_answer}
+use Rattle.md5_crypt.specs.Verdict.{is_other, legacy_may_lack, legacy_verdict, magic_of, parts_answer, stored_answer}
+use Rattle.md5_crypt.specs.Verdict.{text_answer}
 use Rattle.md5_crypt.specs.declared.error.LegacyError.TheVariants.{Stored}
 use Rattle.md5_crypt.specs.declared.magic.Magic.{Magic}
 

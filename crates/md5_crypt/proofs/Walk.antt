@@ -1,5 +1,6 @@
 -- The verdict by its cases.
-use Rattle.std.proofs.Common.{◌≡◌, ℕ, ◌<◌, ◌≤◌, Bool, true, false, List, length, refl, sym, ap, ◌∙◌, arith, Result, Ok, Err, inl, inr}
+use Rattle.std.proofs.Common.{◌≡◌, ℕ, ◌<◌, ◌≤◌, Bool, true, false, List, length, refl, sym, ap, ◌∙◌, arith, Result, Ok}
+use Rattle.std.proofs.Common.{Err, inl, inr}
 use Rattle.std.specs.Prelude.{nat_lt, nat_eq, Some, None}
 use Rattle.std.specs.Cmp.Lexicographic.{pointwise}
 use Rattle.std.proofs.lemmas.Bool.Decides.{nat_tests}
@@ -15,7 +16,8 @@ use Rattle.stored_check.specs.Verdict.{may_lack_memory, mcf_name, verdict}
 use Rattle.stored_check.specs.declared.error.StoredError.TheVariants.{PasswordTooLong, Mcf}
 use Rattle.md5_crypt.specs.Digest.{md5_crypt_digest}
 use Rattle.md5_crypt.specs.Field.{md5_field}
-use Rattle.md5_crypt.specs.Verdict.{IsLegacyVerdict, legacy_may_lack, legacy_verdict, magic_of, md5_answer, md5_fields, Md5Fields, stored_answer, checked_fields}
+use Rattle.md5_crypt.specs.Verdict.{IsLegacyVerdict, legacy_may_lack, legacy_verdict, magic_of, md5_answer, md5_fields}
+use Rattle.md5_crypt.specs.Verdict.{Md5Fields, stored_answer, checked_fields}
 use Rattle.md5_crypt.specs.declared.error.LegacyError.{LegacyError}
 use Rattle.md5_crypt.specs.declared.error.LegacyError.TheVariants.{Stored}
 use Rattle.md5_crypt.specs.declared.field.TheConstants.{MAP_MD5}

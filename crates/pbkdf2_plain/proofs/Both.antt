@@ -1,5 +1,6 @@
 -- The verdict by two derivations.
-use Rattle.std.proofs.Common.{◌≡◌, ℕ, Bool, true, false, List, length, refl, sym, ap, ap₂, ◌∙◌, Option, Some, None, Result, Ok, Err}
+use Rattle.std.proofs.Common.{◌≡◌, ℕ, Bool, true, false, List, length, refl, sym, ap, ap₂, ◌∙◌, Option, Some, None}
+use Rattle.std.proofs.Common.{Result, Ok, Err}
 use Rattle.std.specs.Prelude.{◌&&◌, nat_lt, is_ok, if◌then◌else◌}
 use Rattle.base64ct.proofs.DecodingLaws.{same_true}
 use Rattle.mcf.specs.Grammar.{mcf, Parts}
@@ -9,7 +10,8 @@ use Rattle.phc.specs.Record.{phc, record_of_layout}
 use Rattle.phc.specs.declared.error.Error as phc_error
 use Rattle.phc.specs.declared.password_hash.PasswordHash.{PasswordHash}
 use Rattle.sha_crypt.specs.Families.{Scheme}
-use Rattle.stored_check.specs.Verdict.{key_answer, may_lack_memory, parts_answer, parts_need, phc_answer, record_needs, same_text, scheme_of, text_answer, text_needs, verdict}
+use Rattle.stored_check.specs.Verdict.{key_answer, may_lack_memory, parts_answer, parts_need, phc_answer, record_needs}
+use Rattle.stored_check.specs.Verdict.{same_text, scheme_of, text_answer, text_needs, verdict}
 use Rattle.stored_check.specs.declared.error.StoredError.{StoredError}
 use Rattle.stored_check.specs.declared.error.StoredError.TheVariants.{PasswordTooLong}
 use Rattle.pbkdf2_plain.specs.Either.{Accepted, Needs, Tag, either_accepted, either_needs, either_tag, has_identifier}
@@ -24,7 +26,8 @@ module _ (first : List ℕ) (accepted_a accepted_b : Accepted) (tag_a tag_b : Ta
   -- by whether the record has the identifier
   of_key : (t : Bool) (r : PasswordHash) (salt hash : Option (List ℕ)) → same_text r.algorithm first ≡ t
       → key_answer A T password r salt hash
-      ≡ (if t then key_answer accepted_a tag_a password r salt hash else key_answer accepted_b tag_b password r salt hash)
+      ≡ (if t then key_answer accepted_a tag_a password r salt hash else key_answer accepted_b tag_b password r salt
+      hash)
   of_key true r None hash is = refl
   of_key true r (Some salt) None is = refl
   of_key true r (Some salt) (Some hash) is = rw is refl
@@ -57,7 +60,8 @@ module _ (first : List ℕ) (accepted_a accepted_b : Accepted) (tag_a tag_b : Ta
   of_parts None p t is = of_phc p.id p.fields t is
 
   of_text : (m : Result Parts mcf_error.Error) → text_answer A T password m
-      ≡ (if has_identifier first m then text_answer accepted_a tag_a password m else text_answer accepted_b tag_b password m)
+      ≡ (if has_identifier first m then text_answer accepted_a tag_a password m else text_answer accepted_b tag_b
+      password m)
   of_text (Err e) = refl
   of_text (Ok p) = of_parts (scheme_of p.id) p (same_text p.id first) refl
 

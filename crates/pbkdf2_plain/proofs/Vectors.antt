@@ -1,5 +1,6 @@
 -- Outside vectors, computed by the definitions.
-use Rattle.std.proofs.Common.{◌≡◌, [], ◌∷◌, ◌++◌, ◌==◌, if◌then◌else◌, codes, refl, ℕ, Bool, true, false, Result, Ok, Err, List}
+use Rattle.std.proofs.Common.{◌≡◌, [], ◌∷◌, ◌++◌, ◌==◌, if◌then◌else◌, codes, refl, ℕ, Bool, true, false, Result, Ok}
+use Rattle.std.proofs.Common.{Err, List}
 use Rattle.std.specs.Str.{is_utf8, chars}
 use lib.Utf8.{encode}
 use Rattle.sha2.specs.Sha256.{sha256, digest_bytes, hash_after, compress, rounds, schedule, first_words}

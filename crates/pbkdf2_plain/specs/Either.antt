@@ -1,6 +1,7 @@
--- The meanings of two key derivations as one: those of the first where the record's identifier is `first`, else those of
--- the second.
-use Rattle.std.specs.Prelude.{◌≡◌, ℕ, ◌&&◌, Bool, true, false, List, length, None, Result, Ok, Err, is_ok, if◌then◌else◌}
+-- The meanings of two key derivations as one: those of the first where the record's identifier is `first`, else those
+-- of the second.
+use Rattle.std.specs.Prelude.{◌≡◌, ℕ, ◌&&◌, Bool, true, false, List, length, None, Result, Ok, Err, is_ok}
+use Rattle.std.specs.Prelude.{if◌then◌else◌}
 use Rattle.mcf.specs.Grammar.{mcf, Parts}
 use Rattle.mcf.specs.declared.error.Error as mcf_error
 use Rattle.phc.specs.declared.password_hash.PasswordHash.{PasswordHash}

@@ -1,5 +1,6 @@
 -- Which bytes the parts of a record consist of.
-use Rattle.std.proofs.Common.{◌≡◌, ℕ, zero, suc, ◌^◌, ◌<◌, Bool, true, false, List, [], ◌∷◌, ◌++◌, length, map, slice_index, refl, sym, ap, ◌∙◌, arith}
+use Rattle.std.proofs.Common.{◌≡◌, ℕ, zero, suc, ◌^◌, ◌<◌, Bool, true, false, List, [], ◌∷◌, ◌++◌, length, map}
+use Rattle.std.proofs.Common.{slice_index, refl, sym, ap, ◌∙◌, arith}
 use Rattle.std.specs.Prelude.{◌==◌, ◌&&◌, nat_le}
 use Rattle.std.specs.List.{list_all}
 use Rattle.std.specs.Char.{is_ascii_digit}
@@ -19,15 +20,18 @@ use Rattle.phc.proofs.Decimals.{own}
 -- a text of bytes among which c is none
 pub lacks : (p : ℕ → Bool) (c : ℕ) → p c ≡ false → (s : List ℕ) → list_all p s ≡ true → LacksByte c s
 lacks p c other [] h i below = absurd (omega (arith, below))
-lacks p c other (b ∷ s) h zero below = λ same. false≢true (sym other ∙ ap p (sym same) ∙ (and_parts (p b) (list_all p s) h).0)
-lacks p c other (b ∷ s) h (suc i) below = lacks p c other s (and_parts (p b) (list_all p s) h).1 i (omega (arith, below))
+lacks p c other (b ∷ s) h zero below =
+    λ same. false≢true (sym other ∙ ap p (sym same) ∙ (and_parts (p b) (list_all p s) h).0)
+lacks p c other (b ∷ s) h (suc i) below =
+    lacks p c other s (and_parts (p b) (list_all p s) h).1 i (omega (arith, below))
 
 not_same : (p : ℕ → Bool) (c b : ℕ) → p c ≡ false → p b ≡ true → (b == c) ≡ false
 not_same p c b other h = by_test (b == c) refl
   where
     by_test : (t : Bool) → (b == c) ≡ t → t ≡ false
     by_test false is = refl
-    by_test true is = let same : b ≡ c = grind (arith, nat_tests, is) in absurd (false≢true (sym other ∙ ap p (sym same) ∙ h))
+    by_test true is = let same : b ≡ c = grind (arith, nat_tests, is) in
+        absurd (false≢true (sym other ∙ ap p (sym same) ∙ h))
 
 -- a text of bytes among which c is none has no c
 pub has_none : (p : ℕ → Bool) (c : ℕ) → p c ≡ false → (s : List ℕ) → list_all p s ≡ true → has c s ≡ false
@@ -44,7 +48,8 @@ all_append p (b ∷ s) t hs ht =
     rw (parts.0) (all_append p s t parts.1 ht)
 
 -- a weaker test
-pub all_weaker : (p q : ℕ → Bool) → ((b : ℕ) → p b ≡ true → q b ≡ true) → (s : List ℕ) → list_all p s ≡ true → list_all q s ≡ true
+pub all_weaker : (p q : ℕ → Bool) → ((b : ℕ) → p b ≡ true → q b ≡ true) → (s : List ℕ) → list_all p s ≡ true
+    → list_all q s ≡ true
 all_weaker p q weaker [] h = refl
 all_weaker p q weaker (b ∷ s) h =
     let parts = and_parts (p b) (list_all p s) h in
@@ -78,4 +83,5 @@ pub encoding_value : (b : List ℕ) → EachBelow 256 b → list_all is_value_by
 unfolding base64.encoding
 encoding_value b below =
     all_append is_value_byte (map (character base64_unpadded) (groups base64_unpadded.low_first b)) []
-    (characters_pass is_value_byte (groups base64_unpadded.low_first b) refl (groups-below base64_unpadded.low_first b below)) refl
+    (characters_pass is_value_byte (groups base64_unpadded.low_first b) refl
+    (groups-below base64_unpadded.low_first b below)) refl

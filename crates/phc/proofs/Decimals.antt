@@ -18,7 +18,8 @@ abbrev pub as_option : {E : Type 0} → Result ℕ E → Option ℕ
 as_option (Ok n) = Some n
 as_option (Err e) = None
 
-when_small : (s : List ℕ) (n : ℕ) → is_plain s ≡ true → 0 < length s → number_after 0 s < 2 ^ 32 → n ≡ number_after 0 s → Some n ≡ decimal_value s
+when_small : (s : List ℕ) (n : ℕ) → is_plain s ≡ true → 0 < length s → number_after 0 s < 2 ^ 32 → n ≡ number_after 0 s
+    → Some n ≡ decimal_value s
 when_small s n plain some small is =
     let one : nat_le 1 (length s) ≡ true = grind (arith, nat_tests) in
     let fits : nat_lt (number_after 0 s) (2 ^ 32) ≡ true = grind (arith, nat_tests) in
@@ -34,11 +35,13 @@ unless_small s true is none =
     let small : number_after 0 s < 2 ^ 32 = grind (arith, nat_tests, parts.1) in
     absurd (none (some, small))
 
-by_answer : {E : Type 0} (s : List ℕ) (r : Result ℕ E) → is_plain s ≡ true → OkIff r ((0 < length s) × (number_after 0 s < 2 ^ 32)) (number_after 0 s) → as_option r ≡ decimal_value s
+by_answer : {E : Type 0} (s : List ℕ) (r : Result ℕ E) → is_plain s ≡ true
+    → OkIff r ((0 < length s) × (number_after 0 s < 2 ^ 32)) (number_after 0 s) → as_option r ≡ decimal_value s
 by_answer s (Ok n) plain h = when_small s n plain h.0.0 h.0.1 h.1
 by_answer s (Err e) plain h = unless_small s _ refl h
 
-pub plain_parsed : {E : Type 0} (s : List ℕ) (r : Result ℕ E) → is_plain s ≡ true → ParsesUnsigned 32 10 s r → as_option r ≡ decimal_value s
+pub plain_parsed : {E : Type 0} (s : List ℕ) (r : Result ℕ E) → is_plain s ≡ true → ParsesUnsigned 32 10 s r
+    → as_option r ≡ decimal_value s
 plain_parsed s r plain h =
     let parts = and_parts (list_all is_ascii_digit s) (not (has_leading_zero s)) plain in
     by_answer s r plain (parse_digits own 32 s r h parts.0)

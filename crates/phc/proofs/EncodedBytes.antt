@@ -1,5 +1,6 @@
 -- Lengths of texts that are encodings of salts and outputs, and how their faults stand with them.
-use Rattle.std.proofs.Common.{◌≡◌, ℕ, ◌+◌, ◌*◌, ◌/◌, ◌≤◌, ◌<◌, ◌⊎◌, true, false, List, [], ◌∷◌, length, refl, sym, ◌∙◌, arith, inl, inr}
+use Rattle.std.proofs.Common.{◌≡◌, ℕ, ◌+◌, ◌*◌, ◌/◌, ◌≤◌, ◌<◌, ◌⊎◌, true, false, List, [], ◌∷◌, length, refl, sym, ◌∙◌}
+use Rattle.std.proofs.Common.{arith, inl, inr}
 use Rattle.std.specs.Prelude.{Option, Some, None, is_some, nat_le, nat_lt, ◌==◌}
 use Rattle.std.specs.Str.{IsUtf8}
 use Rattle.std.proofs.lemmas.Bool.Decides.{nat_tests}
@@ -9,7 +10,8 @@ use Rattle.base64ct.specs.Counts.{comparison_count}
 use Rattle.base64ct.specs.Encoding.{EachBelow, byte_count, decoded_len, longest_input}
 use Rattle.base64ct.specs.declared.errors.Error.TheVariants.{InvalidEncoding}
 use Rattle.base64ct.proofs.Ascii.{encoding_ascii}
-use Rattle.base64ct.proofs.DecodingLaws.{decoding-Some, decoding-encoding, length-decodable, length-decoding, decoded_len-unpadded}
+use Rattle.base64ct.proofs.DecodingLaws.{decoding-Some, decoding-encoding, length-decodable, length-decoding}
+use Rattle.base64ct.proofs.DecodingLaws.{decoded_len-unpadded}
 use Rattle.phc.proofs.PairTexts.{both, holds}
 use Rattle.phc.specs.Encoded.{decoding, encoding}
 use Rattle.phc.specs.Grammar.{salt_fault, unless}
@@ -23,10 +25,12 @@ pub decoded_length : (t b : List ℕ) → decoding t ≡ Some b → length b ≡
 decoded_length t b is = length-decoding base64_unpadded t b refl is ∙ decoded_len-unpadded base64_unpadded t refl
 
 pub encoded_length : (b : List ℕ) → EachBelow 256 b → length (encoding b) ≡ (4 * length b + 2) / 3
-encoded_length b small = length-decodable base64_unpadded (encoding b) b refl (decoding-encoding base64_unpadded b refl small)
+encoded_length b small =
+    length-decodable base64_unpadded (encoding b) b refl (decoding-encoding base64_unpadded b refl small)
 
 -- a text that has room is compared once
-pub compared : (t : List ℕ) (n : ℕ) → 0 < length t → decoded_len base64_unpadded t ≤ n → comparison_count base64_unpadded t n ≡ 4
+pub compared : (t : List ℕ) (n : ℕ) → 0 < length t → decoded_len base64_unpadded t ≤ n
+    → comparison_count base64_unpadded t n ≡ 4
 compared t n some room =
     let fits : nat_lt n (decoded_len base64_unpadded t) ≡ false = grind (arith, nat_tests, room) in
     let nonempty : (length t == 0) ≡ false = grind (arith, nat_tests, some) in
@@ -49,15 +53,24 @@ pub record SaltBytes (t : List ℕ) : Type 0 where
 
 pub salt_bytes : (t : List ℕ) → salt_fault t ≡ None → SaltBytes t
 salt_bytes t h =
-    let one = both (unless (nat_le 11 (length t)) SaltTooShort) (unless (nat_le (length t) 64) SaltTooLong ∷ (unless (is_some (decoding t)) (Base64 InvalidEncoding) ∷ [])) h in
-    let two = both (unless (nat_le (length t) 64) SaltTooLong) (unless (is_some (decoding t)) (Base64 InvalidEncoding) ∷ []) one.1 in
+    let one = both (unless (nat_le 11 (length t)) SaltTooShort)
+    (unless (nat_le (length t) 64) SaltTooLong ∷ (unless (is_some (decoding t)) (Base64 InvalidEncoding) ∷ [])) h in
+    let two = both (unless (nat_le (length t) 64) SaltTooLong)
+    (unless (is_some (decoding t)) (Base64 InvalidEncoding) ∷ []) one.1 in
     let three = both (unless (is_some (decoding t)) (Base64 InvalidEncoding)) [] two.1 in
     let least : 11 ≤ length t = grind (arith, nat_tests, holds (nat_le 11 (length t)) SaltTooShort one.0) in
     let most : length t ≤ 64 = grind (arith, nat_tests, holds (nat_le (length t) 64) SaltTooLong two.0) in
     let is = found (decoding t) (holds (is_some (decoding t)) (Base64 InvalidEncoding) three.0) in
     let parts = decoding-Some base64_unpadded t is.0 is.1 in
     let size = decoded_length t is.0 is.1 in
-    record { bytes = is.0; decoded = is.1; small = parts.0; text = parts.1; least = omega (arith, size, least); most = omega (arith, size, most) }
+    record {
+      bytes = is.0;
+      decoded = is.1;
+      small = parts.0;
+      text = parts.1;
+      least = omega (arith, size, least);
+      most = omega (arith, size, most);
+    }
 
 -- the encoding of 8 to 48 bytes is the text of a salt
 pub salt_text : (b : List ℕ) → EachBelow 256 b → 8 ≤ length b → length b ≤ 48 → salt_fault (encoding b) ≡ None
@@ -68,19 +81,22 @@ salt_text b small least most =
     rw (long, short, decoding-encoding base64_unpadded b refl small) refl
 
 pub salt_utf8 : (t : List ℕ) → salt_fault t ≡ None → IsUtf8 t
-salt_utf8 t h = let salt = salt_bytes t h in rw salt.text (IsUtf8-from_ascii _ (encoding_ascii base64_unpadded salt.bytes refl))
+salt_utf8 t h = let salt = salt_bytes t h in
+    rw salt.text (IsUtf8-from_ascii _ (encoding_ascii base64_unpadded salt.bytes refl))
 
 some_same : (a b : List ℕ) → Some a ≡ Some b → a ≡ b
 some_same a b h = cc
 
 -- the bytes of the text of a salt are those of a salt
-pub salt_of_text : (t b : List ℕ) → salt_fault t ≡ None → decoding t ≡ Some b → (8 ≤ length b) × (length b ≤ 48) × (t ≡ encoding b)
+pub salt_of_text : (t b : List ℕ) → salt_fault t ≡ None → decoding t ≡ Some b
+    → (8 ≤ length b) × (length b ≤ 48) × (t ≡ encoding b)
 salt_of_text t b h is =
     let salt = salt_bytes t h in
     let same : salt.bytes ≡ b = some_same salt.bytes b (sym salt.decoded ∙ is) in
     (rw same at salt.least, rw same at salt.most, rw same at salt.text)
 
 -- bytes with enough room are encoded
-pub encoded_fits : (b : List ℕ) (n : ℕ) → EachBelow 256 b → length b ≤ 48 → 64 ≤ n → ((longest_input < length b) ⊎ (n < length (encoding b))) → ⊥
+pub encoded_fits : (b : List ℕ) (n : ℕ) → EachBelow 256 b → length b ≤ 48 → 64 ≤ n
+    → ((longest_input < length b) ⊎ (n < length (encoding b))) → ⊥
 encoded_fits b n small most room (inl long) = omega (arith, long, most)
 encoded_fits b n small most room (inr short) = omega (arith, encoded_length b small, short, most, room)

@@ -1,6 +1,8 @@
 -- A printable record is read back from its text, and every record that is read is printable.
-use Rattle.std.proofs.Common.{◌≡◌, ◌≢◌, ℕ, zero, suc, ◌+◌, ◌*◌, ◌/◌, ◌^◌, ◌<◌, ◌≤◌, Bool, true, false, List, [], ◌∷◌, ◌++◌, length, drop, get_or, refl, sym, ap, ◌∙◌, arith, append_assoc, Ok}
-use Rattle.std.specs.Prelude.{◌==◌, ◌&&◌, ◌||◌, not, nat_eq, nat_le, nat_lt, Option, Some, None, IfSome, is_some, is_none, codes, if◌then◌else◌}
+use Rattle.std.proofs.Common.{◌≡◌, ◌≢◌, ℕ, zero, suc, ◌+◌, ◌*◌, ◌/◌, ◌^◌, ◌<◌, ◌≤◌, Bool, true, false, List, [], ◌∷◌}
+use Rattle.std.proofs.Common.{◌++◌, length, drop, get_or, refl, sym, ap, ◌∙◌, arith, append_assoc, Ok}
+use Rattle.std.specs.Prelude.{◌==◌, ◌&&◌, ◌||◌, not, nat_eq, nat_le, nat_lt, Option, Some, None, IfSome, is_some}
+use Rattle.std.specs.Prelude.{is_none, codes, if◌then◌else◌}
 use Rattle.std.specs.Option.{option_and_then, option_map}
 use Rattle.std.specs.Fmt.{decimal, digits}
 use Rattle.std.specs.List.{list_all, starts_with}
@@ -16,9 +18,13 @@ use Rattle.base64ct.specs.Alphabets.{base64_unpadded}
 use Rattle.base64ct.specs.Encoding.{EachBelow}
 use Rattle.base64ct.proofs.DecodingLaws.{decoding-encoding, length-decodable}
 use Rattle.phc.specs.Encoded.{decoding, encoding}
-use Rattle.phc.specs.Grammar.{Layout, pieces_behind, decimal_value, fault_of, fault_of_layout, read_first, has, has_leading_zero, hash_fault, is_name, is_name_byte, is_value_byte, layout, number_after, pairs_of, params_text, salt_fault, text_fault, value_or_fault, version_digits, version_fault}
+use Rattle.phc.specs.Grammar.{Layout, pieces_behind, decimal_value, fault_of, fault_of_layout, read_first, has}
+use Rattle.phc.specs.Grammar.{has_leading_zero, hash_fault, is_name, is_name_byte, is_value_byte, layout, number_after}
+use Rattle.phc.specs.Grammar.{pairs_of, params_text, salt_fault, text_fault, value_or_fault, version_digits}
+use Rattle.phc.specs.Grammar.{version_fault}
 use Rattle.phc.specs.Params.{Pairs, pair_text, pairs_text}
-use Rattle.phc.specs.Record.{IsRecord, bytes_part, hash_part, is_lone_v, is_pair, is_printable, params_part, phc, phc_of_pieces, phc_text, record_of_layout, record_text, version_part}
+use Rattle.phc.specs.Record.{IsRecord, bytes_part, hash_part, is_lone_v, is_pair, is_printable, params_part, phc}
+use Rattle.phc.specs.Record.{phc_of_pieces, phc_text, record_of_layout, record_text, version_part}
 use Rattle.phc.specs.declared.password_hash.PasswordHash.{PasswordHash}
 use Rattle.phc.proofs.Characters.{all_append, all_weaker, decimal_digits, encoding_value, has_none, lacks, name_bytes}
 use Rattle.phc.proofs.Decimals.{own}
@@ -45,7 +51,8 @@ hash_pieces (Some salt) hash = bytes_pieces hash
 
 shown_append : (ps qs : List (List ℕ)) → shown (ps ++ qs) ≡ shown ps ++ shown qs
 shown_append [] qs = refl
-shown_append (p ∷ ps) qs = ap (λ (t : List ℕ). 36 ∷ (p ++ t)) (shown_append ps qs) ∙ ap (λ (t : List ℕ). 36 ∷ t) (sym (append_assoc p (shown ps) (shown qs)))
+shown_append (p ∷ ps) qs = ap (λ (t : List ℕ). 36 ∷ (p ++ t)) (shown_append ps qs)
+    ∙ ap (λ (t : List ℕ). 36 ∷ t) (sym (append_assoc p (shown ps) (shown qs)))
 
 version_shown : (version : Option ℕ) → version_part version ≡ shown (version_pieces version)
 version_shown None = refl
@@ -66,17 +73,21 @@ hash_shown (Some salt) hash = bytes_shown hash
 abbrev pieces_of : PasswordHash → List (List ℕ)
 pieces_of r = version_pieces r.version ++ (params_pieces r.params ++ (bytes_pieces r.salt ++ hash_pieces r.salt r.hash))
 
-four : (front v p s h : List ℕ) (vq pq sq hq : List (List ℕ)) → v ≡ shown vq → p ≡ shown pq → s ≡ shown sq → h ≡ shown hq
+four : (front v p s h : List ℕ) (vq pq sq hq : List (List ℕ)) → v ≡ shown vq → p ≡ shown pq → s ≡ shown sq
+    → h ≡ shown hq
     → (((front ++ v) ++ p) ++ s) ++ h ≡ front ++ shown (vq ++ (pq ++ (sq ++ hq)))
 four front v p s h vq pq sq hq ev ep es eh =
     rw (ev, ep, es, eh, shown_append vq (pq ++ (sq ++ hq)), shown_append pq (sq ++ hq), shown_append sq hq)
-    (append_assoc ((front ++ shown vq) ++ shown pq) (shown sq) (shown hq) ∙ append_assoc (front ++ shown vq) (shown pq) (shown sq ++ shown hq) ∙ append_assoc front (shown vq) (shown pq ++ (shown sq ++ shown hq)))
+    (append_assoc ((front ++ shown vq) ++ shown pq) (shown sq) (shown hq)
+    ∙ append_assoc (front ++ shown vq) (shown pq) (shown sq ++ shown hq)
+    ∙ append_assoc front (shown vq) (shown pq ++ (shown sq ++ shown hq)))
 
 -- the text of a record is its identifier and its pieces
 text_of_pieces : (r : PasswordHash) → record_text r ≡ 36 ∷ (r.algorithm ++ shown (pieces_of r))
 unfolding record_text
 text_of_pieces r =
-    four (36 ∷ r.algorithm) (version_part r.version) (params_part r.params) (bytes_part r.salt) (hash_part r.salt r.hash)
+    four (36 ∷ r.algorithm) (version_part r.version) (params_part r.params) (bytes_part r.salt)
+    (hash_part r.salt r.hash)
     (version_pieces r.version) (params_pieces r.params) (bytes_pieces r.salt) (hash_pieces r.salt r.hash)
     (version_shown r.version) (params_shown r.params) (bytes_shown r.salt) (hash_shown r.salt r.hash)
 
@@ -100,11 +111,13 @@ in_params b h = rw h refl
 pair_in_params : (p : List ℕ × List ℕ) → is_pair p ≡ true → list_all is_params_byte (pair_text p) ≡ true
 pair_in_params p h = all_weaker is_pair_byte is_params_byte in_params (pair_text p) (pair_bytes p h)
 
-params_bytes : (p : List ℕ × List ℕ) (ps : Pairs) → list_all is_pair (p ∷ ps) ≡ true → list_all is_params_byte (pairs_text (p ∷ ps)) ≡ true
+params_bytes : (p : List ℕ × List ℕ) (ps : Pairs) → list_all is_pair (p ∷ ps) ≡ true
+    → list_all is_params_byte (pairs_text (p ∷ ps)) ≡ true
 params_bytes p [] h = pair_in_params p (and_parts (is_pair p) true h).0
 params_bytes p (q ∷ ps) h =
     let parts = and_parts (is_pair p) (list_all is_pair (q ∷ ps)) h in
-    all_append is_params_byte (pair_text p) (44 ∷ pairs_text (q ∷ ps)) (pair_in_params p parts.0) (params_bytes q ps parts.1)
+    all_append is_params_byte (pair_text p) (44 ∷ pairs_text (q ∷ ps)) (pair_in_params p parts.0)
+    (params_bytes q ps parts.1)
 
 append_lacks : (ps qs : List (List ℕ)) → EachLacks 36 ps → EachLacks 36 qs → EachLacks 36 (ps ++ qs)
 append_lacks [] qs hp hq = hq
@@ -128,9 +141,11 @@ hash_lacks (Some salt) hash h = bytes_lacks hash h
 
 -- ---- the version
 
-pair_start : (name value : List ℕ) → is_name name ≡ true → pointwise nat_eq name (codes "v") ≡ false → starts_with nat_eq (name ++ 61 ∷ value) (codes "v=") ≡ false
+pair_start : (name value : List ℕ) → is_name name ≡ true → pointwise nat_eq name (codes "v") ≡ false
+    → starts_with nat_eq (name ++ 61 ∷ value) (codes "v=") ≡ false
 pair_start [] value name other = refl
-pair_start (b ∷ []) value name other = let differ : (b == 118) ≡ false = grind (arith, nat_tests, other) in grind (arith, nat_tests, differ)
+pair_start (b ∷ []) value name other = let differ : (b == 118) ≡ false = grind (arith, nat_tests, other) in
+    grind (arith, nat_tests, differ)
 pair_start (b ∷ (c ∷ name)) value h other =
     let bytes = and_parts (is_name_byte b) (list_all is_name_byte (c ∷ name)) (name_bytes (b ∷ (c ∷ name)) h) in
     let byte = (and_parts (is_name_byte c) (list_all is_name_byte name) bytes.1).0 in
@@ -151,13 +166,16 @@ has_cut c [] t = let same : (c == c) ≡ true = grind (arith, nat_tests) in rw s
 has_cut c (b ∷ s) t = or_true (b == c) (has c (s ++ c ∷ t)) (has_cut c s t)
 
 -- parameters are no version, but for one single pair named `v`
-params_no_version : (p : List ℕ × List ℕ) (ps : Pairs) → list_all is_pair (p ∷ ps) ≡ true → is_lone_v (p ∷ ps) ≡ false → version_digits (pairs_text (p ∷ ps)) ≡ None
+params_no_version : (p : List ℕ × List ℕ) (ps : Pairs) → list_all is_pair (p ∷ ps) ≡ true → is_lone_v (p ∷ ps) ≡ false
+    → version_digits (pairs_text (p ∷ ps)) ≡ None
 params_no_version p [] h lone = by_test (has 44 (pair_text p))
   where
     name : is_name p.0 ≡ true
     name = (pair_parts p.0 p.1 (and_parts (is_pair p) true h).0).0
 
-    by_test : (test : Bool) → (if test then None else (if starts_with nat_eq (pair_text p) (codes "v=") then Some (drop 2 (pair_text p)) else None)) ≡ None
+    by_test : (test : Bool)
+        → (if test then None else
+        (if starts_with nat_eq (pair_text p) (codes "v=") then Some (drop 2 (pair_text p)) else None)) ≡ None
     by_test true = refl
     by_test false = rw (pair_start p.0 p.1 name lone) refl
 params_no_version p (q ∷ ps) h lone = rw (has_cut 44 (pair_text p) (pairs_text (q ∷ ps))) refl
@@ -178,18 +196,22 @@ value_start (b ∷ (c ∷ s)) h =
 value_no_version : (s : List ℕ) → list_all is_value_byte s ≡ true → version_digits s ≡ None
 value_no_version s h = rw (has_none is_value_byte 44 refl s h, value_start s h) refl
 
-no_version : (ps : Pairs) (salt hash : Option (List ℕ)) → list_all is_pair ps ≡ true → is_lone_v ps ≡ false → IfSome salt (λ b. EachBelow 256 b)
+no_version : (ps : Pairs) (salt hash : Option (List ℕ)) → list_all is_pair ps ≡ true → is_lone_v ps ≡ false
+    → IfSome salt (λ b. EachBelow 256 b)
     → read_first version_digits (params_pieces ps ++ (bytes_pieces salt ++ hash_pieces salt hash)) ≡ None
 no_version [] None hash h lone below = refl
 no_version [] (Some b) hash h lone below = value_no_version (encoding b) (encoding_value b below)
 no_version (p ∷ ps) salt hash h lone below = params_no_version p ps h lone
 
-version_first : (version : Option ℕ) (more : List (List ℕ)) → IfSome version (λ n. n < 2 ^ 32) → (version ≡ None → read_first version_digits more ≡ None)
+version_first : (version : Option ℕ) (more : List (List ℕ)) → IfSome version (λ n. n < 2 ^ 32)
+    → (version ≡ None → read_first version_digits more ≡ None)
     → read_first version_digits (version_pieces version ++ more) ≡ option_map decimal version
 version_first None more h none = none refl
-version_first (Some n) more h none = rw (has_none is_version_byte 44 refl (codes "v=" ++ decimal n) (version_bytes n h)) refl
+version_first (Some n) more h none =
+    rw (has_none is_version_byte 44 refl (codes "v=" ++ decimal n) (version_bytes n h)) refl
 
-version_behind : (version : Option ℕ) (more : List (List ℕ)) → pieces_behind (option_map decimal version) (version_pieces version ++ more) ≡ more
+version_behind : (version : Option ℕ) (more : List (List ℕ))
+    → pieces_behind (option_map decimal version) (version_pieces version ++ more) ≡ more
 version_behind None more = refl
 version_behind (Some n) more = refl
 
@@ -223,11 +245,13 @@ params_behind (p ∷ ps) more = refl
 
 -- ---- salt and hash
 
-salt_first : (salt hash : Option (List ℕ)) → first (bytes_pieces salt ++ hash_pieces salt hash) ≡ option_map encoding salt
+salt_first : (salt hash : Option (List ℕ))
+    → first (bytes_pieces salt ++ hash_pieces salt hash) ≡ option_map encoding salt
 salt_first None hash = refl
 salt_first (Some b) hash = refl
 
-hash_next : (salt hash : Option (List ℕ)) → (is_some hash && is_none salt) ≡ false → first (drop 1 (bytes_pieces salt ++ hash_pieces salt hash)) ≡ option_map encoding hash
+hash_next : (salt hash : Option (List ℕ)) → (is_some hash && is_none salt) ≡ false
+    → first (drop 1 (bytes_pieces salt ++ hash_pieces salt hash)) ≡ option_map encoding hash
 hash_next None None h = refl
 hash_next None (Some x) h = absurd (false≢true (sym h))
 hash_next (Some b) None h = refl
@@ -245,10 +269,17 @@ layout_is : (pieces after_version after_params : List (List ℕ)) (version param
     → read_first params_text after_version ≡ params → pieces_behind params after_version ≡ after_params
     → first after_params ≡ salt → first (drop 1 after_params) ≡ hash → drop 1 (drop 1 after_params) ≡ []
     → layout pieces ≡ record { version = version; params = params; salt = salt; hash = hash; rest = [] }
-layout_is pieces after_version after_params version params salt hash e1 e2 e3 e4 e5 e6 e7 = rw (e1, e2, e3, e4, e5, e6, e7) refl
+layout_is pieces after_version after_params version params salt hash e1 e2 e3 e4 e5 e6 e7 =
+    rw (e1, e2, e3, e4, e5, e6, e7) refl
 
 abbrev layout_of : PasswordHash → Layout
-layout_of r = record { version = option_map decimal r.version; params = params_piece r.params; salt = option_map encoding r.salt; hash = option_map encoding r.hash; rest = [] }
+layout_of r = record {
+  version = option_map decimal r.version;
+  params = params_piece r.params;
+  salt = option_map encoding r.salt;
+  hash = option_map encoding r.hash;
+  rest = [];
+}
 
 printable_parts : (a b c d : Bool) → (not (a && b) && not (c && d)) ≡ true → ((a && b) ≡ false) × (c ≡ true → d ≡ false)
 printable_parts false b false d h = (refl, λ e. absurd (false≢true e))
@@ -259,7 +290,8 @@ printable_parts true false true false h = (refl, λ e. refl)
 printable_parts true false true true h = absurd (false≢true h)
 printable_parts true true c d h = absurd (false≢true h)
 
-some_below : (n m : ℕ) (o : Option (List ℕ)) → IfSome o (λ b. EachBelow 256 b × (n ≤ length b) × (length b ≤ m)) → IfSome o (λ b. EachBelow 256 b)
+some_below : (n m : ℕ) (o : Option (List ℕ)) → IfSome o (λ b. EachBelow 256 b × (n ≤ length b) × (length b ≤ m))
+    → IfSome o (λ b. EachBelow 256 b)
 some_below n m None h = tt
 some_below n m (Some b) h = h.0
 
@@ -267,9 +299,11 @@ layout_of_printed : (r : PasswordHash) → IsRecord r → is_printable r ≡ tru
 layout_of_printed r valid printable =
     let parts = printable_parts (is_some r.hash) (is_none r.salt) (is_none r.version) (is_lone_v r.params) printable in
     let below = some_below 8 48 r.salt valid.salt in
-    layout_is (pieces_of r) (params_pieces r.params ++ (bytes_pieces r.salt ++ hash_pieces r.salt r.hash)) (bytes_pieces r.salt ++ hash_pieces r.salt r.hash)
+    layout_is (pieces_of r) (params_pieces r.params ++ (bytes_pieces r.salt ++ hash_pieces r.salt r.hash))
+    (bytes_pieces r.salt ++ hash_pieces r.salt r.hash)
     (option_map decimal r.version) (params_piece r.params) (option_map encoding r.salt) (option_map encoding r.hash)
-    (version_first r.version (params_pieces r.params ++ (bytes_pieces r.salt ++ hash_pieces r.salt r.hash)) valid.version
+    (version_first r.version (params_pieces r.params ++ (bytes_pieces r.salt ++ hash_pieces r.salt r.hash))
+    valid.version
     (λ none. no_version r.params r.salt r.hash valid.pairs (parts.1 (ap is_none none)) below))
     (version_behind r.version (params_pieces r.params ++ (bytes_pieces r.salt ++ hash_pieces r.salt r.hash)))
     (params_first r.params r.salt r.hash below)
@@ -299,18 +333,21 @@ decimal_read n h =
     let fits : nat_lt n (2 ^ 32) ≡ true = grind (arith, nat_tests, h) in
     rw (decimal_digits n h, leading n h, one, value, fits) refl
 
-version_none : (version : Option ℕ) → IfSome version (λ n. n < 2 ^ 32) → fault_of version_fault (option_map decimal version) ≡ None
+version_none : (version : Option ℕ) → IfSome version (λ n. n < 2 ^ 32)
+    → fault_of version_fault (option_map decimal version) ≡ None
 version_none None h = refl
 version_none (Some n) h =
     let bounds : length (decimal n) ≤ 10 = length-decimal-le 10 n (omega arith) (omega (arith, h)) (omega (arith, h)) in
     let short : nat_le (length (decimal n)) 64 ≡ true = grind (arith, nat_tests, bounds) in
     rw (short, decimal_read n h) refl
 
-version_read : (version : Option ℕ) → IfSome version (λ n. n < 2 ^ 32) → option_and_then decimal_value (option_map decimal version) ≡ version
+version_read : (version : Option ℕ) → IfSome version (λ n. n < 2 ^ 32)
+    → option_and_then decimal_value (option_map decimal version) ≡ version
 version_read None h = refl
 version_read (Some n) h = decimal_read n h
 
-params_none : (ps : Pairs) → list_all is_pair ps ≡ true → length (pairs_text ps) ≤ 127 → fault_of text_fault (params_piece ps) ≡ None
+params_none : (ps : Pairs) → list_all is_pair ps ≡ true → length (pairs_text ps) ≤ 127
+    → fault_of text_fault (params_piece ps) ≡ None
 params_none [] h short = refl
 params_none (p ∷ ps) h short = (valid_pairs (p ∷ ps) h short).0
 
@@ -324,7 +361,8 @@ bytes_read b below = decoding-encoding base64_unpadded b refl below
 encoding_len : (b : List ℕ) → EachBelow 256 b → length (encoding b) ≡ (4 * length b + 2) / 3
 encoding_len b below = length-decodable base64_unpadded (encoding b) b refl (bytes_read b below)
 
-salt_none : (salt : Option (List ℕ)) → IfSome salt (λ b. EachBelow 256 b × (8 ≤ length b) × (length b ≤ 48)) → fault_of salt_fault (option_map encoding salt) ≡ None
+salt_none : (salt : Option (List ℕ)) → IfSome salt (λ b. EachBelow 256 b × (8 ≤ length b) × (length b ≤ 48))
+    → fault_of salt_fault (option_map encoding salt) ≡ None
 salt_none None h = refl
 salt_none (Some b) h =
     let long : 11 ≤ length (encoding b) = omega (arith, encoding_len b h.0, h.1) in
@@ -333,7 +371,8 @@ salt_none (Some b) h =
     let two : nat_le (length (encoding b)) 64 ≡ true = grind (arith, nat_tests, short) in
     rw (one, two, bytes_read b h.0) refl
 
-hash_none : (hash : Option (List ℕ)) → IfSome hash (λ b. EachBelow 256 b × (10 ≤ length b) × (length b ≤ 64)) → fault_of hash_fault (option_map encoding hash) ≡ None
+hash_none : (hash : Option (List ℕ)) → IfSome hash (λ b. EachBelow 256 b × (10 ≤ length b) × (length b ≤ 64))
+    → fault_of hash_fault (option_map encoding hash) ≡ None
 hash_none None h = refl
 hash_none (Some b) h =
     let short : length (encoding b) ≤ 86 = omega (arith, encoding_len b h.0, h.2) in
@@ -341,7 +380,8 @@ hash_none (Some b) h =
     let long : nat_le 10 (length b) ≡ true = grind (arith, nat_tests, h.1) in
     rw (one, bytes_read b h.0, long) refl
 
-field_read : (n m : ℕ) (b : Option (List ℕ)) → IfSome b (λ b. EachBelow 256 b × (n ≤ length b) × (length b ≤ m)) → option_and_then decoding (option_map encoding b) ≡ b
+field_read : (n m : ℕ) (b : Option (List ℕ)) → IfSome b (λ b. EachBelow 256 b × (n ≤ length b) × (length b ≤ m))
+    → option_and_then decoding (option_map encoding b) ≡ b
 field_read n m None h = refl
 field_read n m (Some b) h = bytes_read b h.0
 
@@ -349,26 +389,45 @@ field_read n m (Some b) h = bytes_read b h.0
 
 no_fault : (r : PasswordHash) → IsRecord r → fault_of_layout r.algorithm (layout_of r) ≡ None
 no_fault r valid =
-    rw (valid.algorithm, version_none r.version valid.version, params_none r.params valid.pairs valid.params, salt_none r.salt valid.salt, hash_none r.hash valid.hash) refl
+    rw (
+      valid.algorithm,
+      version_none r.version valid.version,
+      params_none r.params valid.pairs valid.params,
+      salt_none r.salt valid.salt,
+      hash_none r.hash valid.hash,
+    ) refl
 
 same_record : (r : PasswordHash) → IsRecord r → record_of_layout r.algorithm (layout_of r) ≡ r
 same_record r valid =
-    rw (version_read r.version valid.version, params_read r.params valid.pairs valid.params, field_read 8 48 r.salt valid.salt, field_read 10 64 r.hash valid.hash) refl
+    rw (
+      version_read r.version valid.version,
+      params_read r.params valid.pairs valid.params,
+      field_read 8 48 r.salt valid.salt,
+      field_read 10 64 r.hash valid.hash,
+    ) refl
 
 pieces_of_printed : (r : PasswordHash) → IsRecord r → pieces_at 36 (record_text r) ≡ [] ∷ (r.algorithm ∷ pieces_of r)
 pieces_of_printed r valid =
-    let lack = append_lacks (version_pieces r.version) (params_pieces r.params ++ (bytes_pieces r.salt ++ hash_pieces r.salt r.hash)) (version_lacks r.version valid.version)
-    (append_lacks (params_pieces r.params) (bytes_pieces r.salt ++ hash_pieces r.salt r.hash) (params_lacks r.params valid.pairs)
-    (append_lacks (bytes_pieces r.salt) (hash_pieces r.salt r.hash) (bytes_lacks r.salt (some_below 8 48 r.salt valid.salt)) (hash_lacks r.salt r.hash (some_below 10 64 r.hash valid.hash)))) in
+    let lack = append_lacks (version_pieces r.version)
+    (params_pieces r.params ++ (bytes_pieces r.salt ++ hash_pieces r.salt r.hash))
+    (version_lacks r.version valid.version)
+    (append_lacks (params_pieces r.params) (bytes_pieces r.salt ++ hash_pieces r.salt r.hash)
+    (params_lacks r.params valid.pairs)
+    (append_lacks (bytes_pieces r.salt) (hash_pieces r.salt r.hash)
+    (bytes_lacks r.salt (some_below 8 48 r.salt valid.salt))
+    (hash_lacks r.salt r.hash (some_below 10 64 r.hash valid.hash)))) in
     ap (pieces_at 36) (text_of_pieces r)
     ∙ cut_in_front 36 (r.algorithm ++ shown (pieces_of r))
     ∙ ap (λ (t : List ℕ). [] ∷ pieces_at 36 t) (sym (join_shown r.algorithm (pieces_of r)))
-    ∙ ap (λ (ps : List (List ℕ)). [] ∷ ps) (cut_joined 36 r.algorithm (pieces_of r) (lacks is_name_byte 36 refl r.algorithm (name_bytes r.algorithm valid.algorithm)) lack)
+    ∙ ap (λ (ps : List (List ℕ)). [] ∷ ps)
+    (cut_joined 36 r.algorithm (pieces_of r)
+    (lacks is_name_byte 36 refl r.algorithm (name_bytes r.algorithm valid.algorithm)) lack)
 
 read_of_pieces : (r : PasswordHash) → IsRecord r → is_printable r ≡ true → phc r.algorithm (pieces_of r) ≡ Ok r
 unfolding phc
 read_of_pieces r valid printable =
-    ap (λ (l : Layout). value_or_fault (record_of_layout r.algorithm l) (fault_of_layout r.algorithm l)) (layout_of_printed r valid printable)
+    ap (λ (l : Layout). value_or_fault (record_of_layout r.algorithm l) (fault_of_layout r.algorithm l))
+    (layout_of_printed r valid printable)
     ∙ ap (value_or_fault (record_of_layout r.algorithm (layout_of r))) (no_fault r valid) ∙ ap Ok (same_record r valid)
 
 -- a printable record is read back from its text

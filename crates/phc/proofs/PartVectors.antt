@@ -3,9 +3,12 @@ use Rattle.std.specs.Prelude.{◌≡◌, [], ◌∷◌, replicate, length, codes
 use Rattle.std.specs.declared.cmp.Ordering.TheVariants.{Less, Greater}
 use Rattle.pieces.specs.Pieces.{pieces_at}
 use Rattle.phc.specs.Grammar.{decimal_value}
-use Rattle.phc.specs.Params.{Pairs, add, add_bytes, add_each, add_named, added_or_kept, get, pairs_text, params_or_fault}
+use Rattle.phc.specs.Params.{Pairs, add, add_bytes, add_each, add_named, added_or_kept, get, pairs_text}
+use Rattle.phc.specs.Params.{params_or_fault}
 use Rattle.phc.specs.Parts.{output_of_bytes, salt_of_bytes}
-use Rattle.phc.specs.declared.error.Error.TheVariants.{OutputSize, ParamNameDuplicated, ParamNameInvalid, ParamValueInvalid, ParamValueTooLong, ParamsMaxExceeded, SaltTooLong, SaltTooShort}
+use Rattle.phc.specs.declared.error.Error.TheVariants.{OutputSize, ParamNameDuplicated, ParamNameInvalid}
+use Rattle.phc.specs.declared.error.Error.TheVariants.{ParamValueInvalid, ParamValueTooLong, ParamsMaxExceeded}
+use Rattle.phc.specs.declared.error.Error.TheVariants.{SaltTooLong, SaltTooShort}
 
 -- ---- decimals
 

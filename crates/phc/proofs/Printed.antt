@@ -1,6 +1,8 @@
 -- An accepted text prints back.
-use Rattle.std.proofs.Common.{◌≡◌, ℕ, ◌^◌, ◌<◌, Bool, true, false, List, [], ◌∷◌, ◌++◌, length, take, drop, get_or, map, refl, sym, ap, ◌∙◌, arith, append_assoc, take-append-drop, Result, Ok, Err}
-use Rattle.std.specs.Prelude.{◌&&◌, not, nat_eq, nat_le, nat_lt, Option, Some, None, is_some, unwrap_or, codes, if◌then◌else◌}
+use Rattle.std.proofs.Common.{◌≡◌, ℕ, ◌^◌, ◌<◌, Bool, true, false, List, [], ◌∷◌, ◌++◌, length, take, drop, get_or, map}
+use Rattle.std.proofs.Common.{refl, sym, ap, ◌∙◌, arith, append_assoc, take-append-drop, Result, Ok, Err}
+use Rattle.std.specs.Prelude.{◌&&◌, not, nat_eq, nat_le, nat_lt, Option, Some, None, is_some, unwrap_or, codes}
+use Rattle.std.specs.Prelude.{if◌then◌else◌}
 use Rattle.std.specs.Option.{option_and_then}
 use Rattle.std.specs.Fmt.{decimal}
 use Rattle.std.specs.List.{list_all, starts_with, join_with_byte}
@@ -14,12 +16,17 @@ use Rattle.pieces.proofs.Cuts.{cut_of, join_pieces}
 use Rattle.base64ct.specs.Alphabets.{base64_unpadded}
 use Rattle.base64ct.proofs.DecodingLaws.{decoding-Some, same_true}
 use Rattle.phc.specs.Encoded.{decoding}
-use Rattle.phc.specs.Grammar.{first_fault, unless, name_fault, fault_of, version_fault, text_fault, salt_fault, hash_fault, pairs_of, pair_of, text_pairs, decimal_value, fault_of_layout, layout, value_or_fault, version_digits, params_text, read_first, pieces_behind, has, is_plain, has_leading_zero, number_after}
+use Rattle.phc.specs.Grammar.{first_fault, unless, name_fault, fault_of, version_fault, text_fault, salt_fault}
+use Rattle.phc.specs.Grammar.{hash_fault, pairs_of, pair_of, text_pairs, decimal_value, fault_of_layout, layout}
+use Rattle.phc.specs.Grammar.{value_or_fault, version_digits, params_text, read_first, pieces_behind, has, is_plain}
+use Rattle.phc.specs.Grammar.{has_leading_zero, number_after}
 use Rattle.phc.specs.Params.{Pairs, pairs_text}
 use Rattle.phc.specs.PairsOfText.{pairs_text-text_pairs}
-use Rattle.phc.specs.Record.{record_of_layout, phc, phc_of_pieces, phc_text, version_part, params_part, bytes_part, hash_part, record_text}
+use Rattle.phc.specs.Record.{record_of_layout, phc, phc_of_pieces, phc_text, version_part, params_part, bytes_part}
+use Rattle.phc.specs.Record.{hash_part, record_text}
 use Rattle.phc.specs.declared.error.Error.{Error}
-use Rattle.phc.specs.declared.error.Error.TheVariants.{Base64, MissingField, ParamValueInvalid, ParamValueTooLong, SaltTooShort, SaltTooLong, TrailingData}
+use Rattle.phc.specs.declared.error.Error.TheVariants.{Base64, MissingField, ParamValueInvalid, ParamValueTooLong}
+use Rattle.phc.specs.declared.error.Error.TheVariants.{SaltTooShort, SaltTooLong, TrailingData}
 use Rattle.base64ct.specs.declared.errors.Error.TheVariants.{InvalidEncoding, InvalidLength}
 use Rattle.phc.specs.declared.password_hash.PasswordHash.{PasswordHash}
 use Rattle.phc.proofs.Decimals.{own}
@@ -42,7 +49,8 @@ none_some e h = cc
 some_same : {A : Type 0} (a b : A) → Some a ≡ Some b → a ≡ b
 some_same a b h = cc
 
-both : (e : Option Error) (faults : List (Option Error)) → first_fault (e ∷ faults) ≡ None → (e ≡ None) × (first_fault faults ≡ None)
+both : (e : Option Error) (faults : List (Option Error)) → first_fault (e ∷ faults) ≡ None
+    → (e ≡ None) × (first_fault faults ≡ None)
 both None faults h = (refl, h)
 both (Some e) faults h = absurd (some_none e h)
 
@@ -58,13 +66,15 @@ false_true x = cc
 version_text : (q digits : List ℕ) → version_digits q ≡ Some digits → q ≡ codes "v=" ++ digits
 version_text q digits h = by_tests (has 44 q) (starts_with nat_eq q (codes "v=")) refl h
   where
-    by_tests : (comma starts : Bool) → starts_with nat_eq q (codes "v=") ≡ starts → (if comma then None else (if starts then Some (drop 2 q) else None)) ≡ Some digits → q ≡ codes "v=" ++ digits
+    by_tests : (comma starts : Bool) → starts_with nat_eq q (codes "v=") ≡ starts
+        → (if comma then None else (if starts then Some (drop 2 q) else None)) ≡ Some digits → q ≡ codes "v=" ++ digits
     by_tests true starts is e = absurd (none_some digits e)
     by_tests false false is e = absurd (none_some digits e)
     by_tests false true is e =
         let front : codes "v=" ≡ take 2 q = same_true (codes "v=") (take 2 q) is in
         let rest : drop 2 q ≡ digits = some_same (drop 2 q) digits e in
-        sym (take-append-drop 2 q) ∙ ap (λ (x : List ℕ). x ++ drop 2 q) (sym front) ∙ ap (λ (x : List ℕ). codes "v=" ++ x) rest
+        sym (take-append-drop 2 q) ∙ ap (λ (x : List ℕ). x ++ drop 2 q) (sym front)
+        ∙ ap (λ (x : List ℕ). codes "v=" ++ x) rest
 
 lone_zero : (ds : List ℕ) → not (has_leading_zero ds) ≡ true → get_or ds 0 0 ≡ 48 → length ds ≡ 1
 lone_zero [] h z = absurd (omega (arith, z))
@@ -72,12 +82,15 @@ lone_zero (d ∷ []) h z = refl
 lone_zero (d ∷ e ∷ ds) h z = let same : d ≡ 48 = z in absurd (grind (arith, nat_tests, h, same))
 
 decimal_back : (digits : List ℕ) (n : ℕ) → decimal_value digits ≡ Some n → decimal n ≡ digits
-decimal_back digits n h = by_test (is_plain digits && nat_le 1 (length digits) && nat_lt (number_after 0 digits) (2 ^ 32)) refl h
+decimal_back digits n h =
+    by_test (is_plain digits && nat_le 1 (length digits) && nat_lt (number_after 0 digits) (2 ^ 32)) refl h
   where
-    by_test : (t : Bool) → (is_plain digits && nat_le 1 (length digits) && nat_lt (number_after 0 digits) (2 ^ 32)) ≡ t → (if t then Some (number_after 0 digits) else None) ≡ Some n → decimal n ≡ digits
+    by_test : (t : Bool) → (is_plain digits && nat_le 1 (length digits) && nat_lt (number_after 0 digits) (2 ^ 32)) ≡ t
+        → (if t then Some (number_after 0 digits) else None) ≡ Some n → decimal n ≡ digits
     by_test false is e = absurd (none_some n e)
     by_test true is e =
-        let outer = and_parts (is_plain digits && nat_le 1 (length digits)) (nat_lt (number_after 0 digits) (2 ^ 32)) is in
+        let outer = and_parts (is_plain digits && nat_le 1 (length digits)) (nat_lt (number_after 0 digits) (2 ^ 32))
+        is in
         let inner = and_parts (is_plain digits) (nat_le 1 (length digits)) outer.0 in
         let plain = and_parts (list_all is_ascii_digit digits) (not (has_leading_zero digits)) inner.0 in
         let some : 0 < length digits = grind (arith, nat_tests, inner.1) in
@@ -85,20 +98,24 @@ decimal_back digits n h = by_test (is_plain digits && nat_le 1 (length digits) &
         ap decimal (sym (some_same (number_after 0 digits) n e))
         ∙ decimal-digits_value own digits plain.0 some (lone_zero digits plain.1) (omega (arith, small))
 
-version_case : (q : List ℕ) (qs : List (List ℕ)) (r : Option (List ℕ)) → version_digits q ≡ r → fault_of version_fault r ≡ None
+version_case : (q : List ℕ) (qs : List (List ℕ)) (r : Option (List ℕ)) → version_digits q ≡ r
+    → fault_of version_fault r ≡ None
     → shown (q ∷ qs) ≡ version_part (option_and_then decimal_value r) ++ shown (pieces_behind r (q ∷ qs))
 version_case q qs None is h = refl
 version_case q qs (Some digits) is h = by_value (decimal_value digits) refl
   where
     by_value : (n : Option ℕ) → decimal_value digits ≡ n → shown (q ∷ qs) ≡ version_part n ++ shown qs
     by_value None e =
-        let tests = both (unless (nat_le (length digits) 64) ParamValueTooLong) (unless (is_some (decimal_value digits)) ParamValueInvalid ∷ []) h in
-        let some = holds (is_some (decimal_value digits)) ParamValueInvalid (both (unless (is_some (decimal_value digits)) ParamValueInvalid) [] tests.1).0 in
+        let tests = both (unless (nat_le (length digits) 64) ParamValueTooLong)
+        (unless (is_some (decimal_value digits)) ParamValueInvalid ∷ []) h in
+        let some = holds (is_some (decimal_value digits)) ParamValueInvalid
+        (both (unless (is_some (decimal_value digits)) ParamValueInvalid) [] tests.1).0 in
         absurd (false_true (ap is_some (sym e) ∙ some))
     by_value (Some n) e = rw (version_text q digits is, decimal_back digits n e) refl
 
 version_shown : (pieces : List (List ℕ)) → fault_of version_fault (read_first version_digits pieces) ≡ None
-    → shown pieces ≡ version_part (option_and_then decimal_value (read_first version_digits pieces)) ++ shown (pieces_behind (read_first version_digits pieces) pieces)
+    → shown pieces ≡ version_part (option_and_then decimal_value (read_first version_digits pieces))
+    ++ shown (pieces_behind (read_first version_digits pieces) pieces)
 version_shown [] h = refl
 version_shown (q ∷ qs) h = version_case q qs (version_digits q) refl h
 
@@ -110,55 +127,73 @@ some_pairs ps p others is = rw is refl
 pairs_shown : (b : ℕ) (s : List ℕ) → text_fault (b ∷ s) ≡ None → params_part (text_pairs (b ∷ s)) ≡ 36 ∷ (b ∷ s)
 pairs_shown b s h =
     let cut = cut_of 44 (b ∷ s) in
-    some_pairs (text_pairs (b ∷ s)) (pair_of (pieces_at 61 cut.first)) (map pair_of (map (pieces_at 61) cut.others)) (ap (λ (ps : List (List ℕ)). map pair_of (map (pieces_at 61) ps)) cut.are)
+    some_pairs (text_pairs (b ∷ s)) (pair_of (pieces_at 61 cut.first)) (map pair_of (map (pieces_at 61) cut.others))
+    (ap (λ (ps : List (List ℕ)). map pair_of (map (pieces_at 61) ps)) cut.are)
     ∙ ap (λ (t : List ℕ). 36 ∷ t) (pairs_text-text_pairs (b ∷ s) h)
 
-params_case : (q : List ℕ) (qs : List (List ℕ)) (test : Bool) → has 61 q ≡ test → fault_of text_fault (if test then Some q else None) ≡ None
-    → shown (q ∷ qs) ≡ params_part (pairs_of (if test then Some q else None)) ++ shown (pieces_behind (if test then Some q else None) (q ∷ qs))
+params_case : (q : List ℕ) (qs : List (List ℕ)) (test : Bool) → has 61 q ≡ test
+    → fault_of text_fault (if test then Some q else None) ≡ None
+    → shown (q ∷ qs) ≡ params_part (pairs_of (if test then Some q else None))
+    ++ shown (pieces_behind (if test then Some q else None) (q ∷ qs))
 params_case q qs false is h = refl
 params_case [] qs true is h = absurd (false_true is)
 params_case (b ∷ q) qs true is h = ap (λ (t : List ℕ). t ++ shown qs) (sym (pairs_shown b q h))
 
 params_shown : (pieces : List (List ℕ)) → fault_of text_fault (read_first params_text pieces) ≡ None
-    → shown pieces ≡ params_part (pairs_of (read_first params_text pieces)) ++ shown (pieces_behind (read_first params_text pieces) pieces)
+    → shown pieces ≡ params_part (pairs_of (read_first params_text pieces))
+    ++ shown (pieces_behind (read_first params_text pieces) pieces)
 params_shown [] h = refl
 params_shown (q ∷ qs) h = params_case q qs (has 61 q) refl h
 
 -- ---- salt and hash
 
-bytes_case : (q : List ℕ) (qs : List (List ℕ)) (r : Option (List ℕ)) → decoding q ≡ r → is_some r ≡ true → shown (q ∷ qs) ≡ bytes_part r ++ shown qs
+bytes_case : (q : List ℕ) (qs : List (List ℕ)) (r : Option (List ℕ)) → decoding q ≡ r → is_some r ≡ true
+    → shown (q ∷ qs) ≡ bytes_part r ++ shown qs
 bytes_case q qs None is some = absurd (false_true some)
 bytes_case q qs (Some b) is some = ap (λ (t : List ℕ). 36 ∷ (t ++ shown qs)) (decoding-Some base64_unpadded q b is).1
 
-salt_shown : (pieces : List (List ℕ)) → fault_of salt_fault (first pieces) ≡ None → shown pieces ≡ bytes_part (option_and_then decoding (first pieces)) ++ shown (drop 1 pieces)
+salt_shown : (pieces : List (List ℕ)) → fault_of salt_fault (first pieces) ≡ None
+    → shown pieces ≡ bytes_part (option_and_then decoding (first pieces)) ++ shown (drop 1 pieces)
 salt_shown [] h = refl
 salt_shown (q ∷ qs) h =
-    let one = both (unless (nat_le 11 (length q)) SaltTooShort) (unless (nat_le (length q) 64) SaltTooLong ∷ (unless (is_some (decoding q)) (Base64 InvalidEncoding) ∷ [])) h in
-    let two = both (unless (nat_le (length q) 64) SaltTooLong) (unless (is_some (decoding q)) (Base64 InvalidEncoding) ∷ []) one.1 in
+    let one = both (unless (nat_le 11 (length q)) SaltTooShort)
+    (unless (nat_le (length q) 64) SaltTooLong ∷ (unless (is_some (decoding q)) (Base64 InvalidEncoding) ∷ [])) h in
+    let two = both (unless (nat_le (length q) 64) SaltTooLong)
+    (unless (is_some (decoding q)) (Base64 InvalidEncoding) ∷ []) one.1 in
     let three = both (unless (is_some (decoding q)) (Base64 InvalidEncoding)) [] two.1 in
     bytes_case q qs (decoding q) refl (holds (is_some (decoding q)) (Base64 InvalidEncoding) three.0)
 
-hash_shown : (pieces : List (List ℕ)) → fault_of hash_fault (first pieces) ≡ None → shown pieces ≡ bytes_part (option_and_then decoding (first pieces)) ++ shown (drop 1 pieces)
+hash_shown : (pieces : List (List ℕ)) → fault_of hash_fault (first pieces) ≡ None
+    → shown pieces ≡ bytes_part (option_and_then decoding (first pieces)) ++ shown (drop 1 pieces)
 hash_shown [] h = refl
 hash_shown (q ∷ qs) h =
-    let one = both (unless (nat_le (length q) 86) (Base64 InvalidLength)) (unless (is_some (decoding q)) (Base64 InvalidEncoding) ∷ (unless (nat_le 10 (length (unwrap_or (decoding q) []))) _ ∷ [])) h in
-    let two = both (unless (is_some (decoding q)) (Base64 InvalidEncoding)) (unless (nat_le 10 (length (unwrap_or (decoding q) []))) _ ∷ []) one.1 in
+    let one = both (unless (nat_le (length q) 86) (Base64 InvalidLength))
+    (unless (is_some (decoding q)) (Base64 InvalidEncoding)
+    ∷ (unless (nat_le 10 (length (unwrap_or (decoding q) []))) _ ∷ [])) h in
+    let two = both (unless (is_some (decoding q)) (Base64 InvalidEncoding))
+    (unless (nat_le 10 (length (unwrap_or (decoding q) []))) _ ∷ []) one.1 in
     bytes_case q qs (decoding q) refl (holds (is_some (decoding q)) (Base64 InvalidEncoding) two.0)
 
 salt_found : (q : List ℕ) → salt_fault q ≡ None → is_some (decoding q) ≡ true
 salt_found q h =
-    let one = both (unless (nat_le 11 (length q)) SaltTooShort) (unless (nat_le (length q) 64) SaltTooLong ∷ (unless (is_some (decoding q)) (Base64 InvalidEncoding) ∷ [])) h in
-    let two = both (unless (nat_le (length q) 64) SaltTooLong) (unless (is_some (decoding q)) (Base64 InvalidEncoding) ∷ []) one.1 in
+    let one = both (unless (nat_le 11 (length q)) SaltTooShort)
+    (unless (nat_le (length q) 64) SaltTooLong ∷ (unless (is_some (decoding q)) (Base64 InvalidEncoding) ∷ [])) h in
+    let two = both (unless (nat_le (length q) 64) SaltTooLong)
+    (unless (is_some (decoding q)) (Base64 InvalidEncoding) ∷ []) one.1 in
     let three = both (unless (is_some (decoding q)) (Base64 InvalidEncoding)) [] two.1 in
     holds (is_some (decoding q)) (Base64 InvalidEncoding) three.0
 
 -- a hash stands behind a salt
-behind_salt : (pieces : List (List ℕ)) → fault_of salt_fault (first pieces) ≡ None → fault_of hash_fault (first (drop 1 pieces)) ≡ None
-    → shown (drop 1 pieces) ≡ hash_part (option_and_then decoding (first pieces)) (option_and_then decoding (first (drop 1 pieces))) ++ shown (drop 1 (drop 1 pieces))
+behind_salt : (pieces : List (List ℕ)) → fault_of salt_fault (first pieces) ≡ None
+    → fault_of hash_fault (first (drop 1 pieces)) ≡ None
+    → shown (drop 1 pieces)
+    ≡ hash_part (option_and_then decoding (first pieces)) (option_and_then decoding (first (drop 1 pieces)))
+    ++ shown (drop 1 (drop 1 pieces))
 behind_salt [] hs hh = refl
 behind_salt (q ∷ qs) hs hh = by_salt (decoding q) refl (salt_found q hs)
   where
-    by_salt : (r : Option (List ℕ)) → decoding q ≡ r → is_some r ≡ true → shown qs ≡ hash_part r (option_and_then decoding (first qs)) ++ shown (drop 1 qs)
+    by_salt : (r : Option (List ℕ)) → decoding q ≡ r → is_some r ≡ true
+        → shown qs ≡ hash_part r (option_and_then decoding (first qs)) ++ shown (drop 1 qs)
     by_salt None is some = absurd (false_true some)
     by_salt (Some b) is some = hash_shown qs hh
 
@@ -168,11 +203,13 @@ nothing_shown (q ∷ qs) h = absurd (false_true h)
 
 -- ---- the whole
 
-join_five : (front v p s h v' p' s' h' r : List ℕ) → v' ≡ v ++ p' → p' ≡ p ++ s' → s' ≡ s ++ h' → h' ≡ h ++ r → r ≡ [] → (((front ++ v) ++ p) ++ s) ++ h ≡ front ++ v'
+join_five : (front v p s h v' p' s' h' r : List ℕ) → v' ≡ v ++ p' → p' ≡ p ++ s' → s' ≡ s ++ h' → h' ≡ h ++ r → r ≡ []
+    → (((front ++ v) ++ p) ++ s) ++ h ≡ front ++ v'
 join_five front v p s h v' p' s' h' r ev ep es eh er =
     rw (ev, ep, es, eh, er, append-nil, append_assoc, append_assoc, append_assoc) refl
 
-layout_printed : (id : List ℕ) (pieces : List (List ℕ)) → fault_of_layout id (layout pieces) ≡ None → record_text (record_of_layout id (layout pieces)) ≡ 36 ∷ (id ++ shown pieces)
+layout_printed : (id : List ℕ) (pieces : List (List ℕ)) → fault_of_layout id (layout pieces) ≡ None
+    → record_text (record_of_layout id (layout pieces)) ≡ 36 ∷ (id ++ shown pieces)
 unfolding record_text
 layout_printed id pieces h =
     let l = layout pieces in
@@ -187,10 +224,13 @@ layout_printed id pieces h =
     let five = both (fault_of hash_fault (first (drop 1 after_params))) _ four.1 in
     let six = both (unless (is_nil (drop 1 (drop 1 after_params))) TrailingData) _ five.1 in
     let end = holds (is_nil (drop 1 (drop 1 after_params))) TrailingData six.0 in
-    join_five (36 ∷ id) _ _ _ _ (shown pieces) (shown after_version) (shown after_params) (shown (drop 1 after_params)) (shown (drop 1 (drop 1 after_params)))
-    (version_shown pieces two.0) (params_shown after_version three.0) (salt_shown after_params four.0) (behind_salt after_params four.0 five.0) (nothing_shown (drop 1 (drop 1 after_params)) end)
+    join_five (36 ∷ id) _ _ _ _ (shown pieces) (shown after_version) (shown after_params) (shown (drop 1 after_params))
+    (shown (drop 1 (drop 1 after_params)))
+    (version_shown pieces two.0) (params_shown after_version three.0) (salt_shown after_params four.0)
+    (behind_salt after_params four.0 five.0) (nothing_shown (drop 1 (drop 1 after_params)) end)
 
-accepted : (id : List ℕ) (pieces : List (List ℕ)) (r : PasswordHash) (f : Option Error) → fault_of_layout id (layout pieces) ≡ f → value_or_fault (record_of_layout id (layout pieces)) f ≡ Ok r
+accepted : (id : List ℕ) (pieces : List (List ℕ)) (r : PasswordHash) (f : Option Error)
+    → fault_of_layout id (layout pieces) ≡ f → value_or_fault (record_of_layout id (layout pieces)) f ≡ Ok r
     → record_text r ≡ 36 ∷ (id ++ shown pieces)
 accepted id pieces r None is h = rw (← ok_same _ _ h) (layout_printed id pieces is)
   where
@@ -201,7 +241,8 @@ accepted id pieces r (Some e) is h = absurd (err_ok h)
     err_ok : Err e ≡ Ok r → ⊥
     err_ok x = cc
 
-of_pieces : (pieces : List (List ℕ)) (r : PasswordHash) → phc_of_pieces pieces ≡ Ok r → record_text r ≡ join_with_byte 36 pieces
+of_pieces : (pieces : List (List ℕ)) (r : PasswordHash) → phc_of_pieces pieces ≡ Ok r
+    → record_text r ≡ join_with_byte 36 pieces
 unfolding phc
 of_pieces [] r h = absurd (err_ok h)
   where
@@ -212,7 +253,8 @@ of_pieces ([] ∷ []) r h = absurd (err_ok h)
     err_ok : Err MissingField ≡ Ok r → ⊥
     err_ok x = cc
 of_pieces ([] ∷ id ∷ pieces) r h =
-    accepted id pieces r (fault_of_layout id (layout pieces)) refl h ∙ ap (λ (t : List ℕ). 36 ∷ t) (sym (join_shown id pieces))
+    accepted id pieces r (fault_of_layout id (layout pieces)) refl h
+    ∙ ap (λ (t : List ℕ). 36 ∷ t) (sym (join_shown id pieces))
 of_pieces ((b ∷ front) ∷ others) r h = absurd (err_ok h)
   where
     err_ok : Err MissingField ≡ Ok r → ⊥

@@ -1,6 +1,8 @@
 -- A record that is read is printable, and its parts are valid.
-use Rattle.std.proofs.Common.{◌≡◌, ℕ, ◌+◌, ◌*◌, ◌/◌, ◌^◌, ◌<◌, ◌≤◌, Bool, true, false, List, [], ◌∷◌, ◌++◌, length, drop, refl, sym, ap, ◌∙◌, arith, Result, Ok, Err}
-use Rattle.std.specs.Prelude.{◌&&◌, not, map, nat_eq, nat_le, nat_lt, Option, Some, None, IfSome, is_some, is_none, codes, unwrap_or, if◌then◌else◌}
+use Rattle.std.proofs.Common.{◌≡◌, ℕ, ◌+◌, ◌*◌, ◌/◌, ◌^◌, ◌<◌, ◌≤◌, Bool, true, false, List, [], ◌∷◌, ◌++◌, length}
+use Rattle.std.proofs.Common.{drop, refl, sym, ap, ◌∙◌, arith, Result, Ok, Err}
+use Rattle.std.specs.Prelude.{◌&&◌, not, map, nat_eq, nat_le, nat_lt, Option, Some, None, IfSome, is_some, is_none}
+use Rattle.std.specs.Prelude.{codes, unwrap_or, if◌then◌else◌}
 use Rattle.std.specs.Option.{option_and_then}
 use Rattle.std.specs.List.{list_all, starts_with}
 use Rattle.std.specs.Cmp.Lexicographic.{pointwise}
@@ -13,12 +15,17 @@ use Rattle.base64ct.proofs.DecodingLaws.{decoding-Some, length-decodable, same_t
 use Rattle.base64ct.specs.declared.errors.Error.TheVariants.{InvalidEncoding, InvalidLength}
 use Rattle.std.specs.declared.cmp.Ordering.TheVariants.{Less}
 use Rattle.phc.specs.Encoded.{decoding}
-use Rattle.phc.specs.Grammar.{pieces_behind, cut_pairs, decimal_value, fault_of, fault_of_layout, read_first, has, hash_fault, is_name, is_plain, layout, name_fault, number_after, pair_fault, pairs_of, params_text, salt_fault, text_fault, text_pairs, unless, value_or_fault, version_digits, version_fault}
+use Rattle.phc.specs.Grammar.{pieces_behind, cut_pairs, decimal_value, fault_of, fault_of_layout, read_first, has}
+use Rattle.phc.specs.Grammar.{hash_fault, is_name, is_plain, layout, name_fault, number_after, pair_fault, pairs_of}
+use Rattle.phc.specs.Grammar.{params_text, salt_fault, text_fault, text_pairs, unless, value_or_fault, version_digits}
+use Rattle.phc.specs.Grammar.{version_fault}
 use Rattle.phc.specs.Params.{Pairs, pair_text, pairs_text}
 use Rattle.phc.specs.PairsOfText.{pairs_text-text_pairs}
 use Rattle.phc.specs.Record.{IsRecord, is_lone_v, is_pair, is_printable, phc, phc_of_pieces, phc_text, record_of_layout}
 use Rattle.phc.specs.declared.error.Error.{Error}
-use Rattle.phc.specs.declared.error.Error.TheVariants.{Base64, MissingField, OutputSize, ParamNameInvalid, ParamValueInvalid, ParamValueTooLong, ParamsMaxExceeded, SaltTooLong, SaltTooShort}
+use Rattle.phc.specs.declared.error.Error.TheVariants.{Base64, MissingField, OutputSize, ParamNameInvalid}
+use Rattle.phc.specs.declared.error.Error.TheVariants.{ParamValueInvalid, ParamValueTooLong, ParamsMaxExceeded}
+use Rattle.phc.specs.declared.error.Error.TheVariants.{SaltTooLong, SaltTooShort}
 use Rattle.phc.specs.declared.password_hash.PasswordHash.{PasswordHash}
 use Rattle.phc.proofs.Characters.{has_none}
 use Rattle.phc.proofs.PairTexts.{both, holds, is_pair_byte, pair_bytes, pairs_valid}
@@ -38,26 +45,33 @@ some_not_none (Some a) h = refl
 
 salt_decoded : (q : List ℕ) → salt_fault q ≡ None → is_some (decoding q) ≡ true
 salt_decoded q h =
-    let one = both (unless (nat_le 11 (length q)) SaltTooShort) (unless (nat_le (length q) 64) SaltTooLong ∷ (unless (is_some (decoding q)) (Base64 InvalidEncoding) ∷ [])) h in
-    let two = both (unless (nat_le (length q) 64) SaltTooLong) (unless (is_some (decoding q)) (Base64 InvalidEncoding) ∷ []) one.1 in
-    holds (is_some (decoding q)) (Base64 InvalidEncoding) (both (unless (is_some (decoding q)) (Base64 InvalidEncoding)) [] two.1).0
+    let one = both (unless (nat_le 11 (length q)) SaltTooShort)
+    (unless (nat_le (length q) 64) SaltTooLong ∷ (unless (is_some (decoding q)) (Base64 InvalidEncoding) ∷ [])) h in
+    let two = both (unless (nat_le (length q) 64) SaltTooLong)
+    (unless (is_some (decoding q)) (Base64 InvalidEncoding) ∷ []) one.1 in
+    holds (is_some (decoding q)) (Base64 InvalidEncoding)
+    (both (unless (is_some (decoding q)) (Base64 InvalidEncoding)) [] two.1).0
 
 hash_behind_salt : (pieces : List (List ℕ)) → fault_of salt_fault (first pieces) ≡ None
-    → (is_some (option_and_then decoding (first (drop 1 pieces))) && is_none (option_and_then decoding (first pieces))) ≡ false
+    → (is_some (option_and_then decoding (first (drop 1 pieces))) && is_none (option_and_then decoding (first pieces)))
+    ≡ false
 hash_behind_salt [] h = refl
 hash_behind_salt (q ∷ qs) h =
     rw (some_not_none (decoding q) (salt_decoded q h)) (and_false (is_some (option_and_then decoding (first qs))))
 
 -- ---- one single pair named `v` is a version
 
-lone_version : (q : List ℕ) (p : List ℕ × List ℕ) → q ≡ pair_text p → is_pair p ≡ true → pointwise nat_eq p.0 (codes "v") ≡ true → version_digits q ≡ Some p.1
+lone_version : (q : List ℕ) (p : List ℕ × List ℕ) → q ≡ pair_text p → is_pair p ≡ true
+    → pointwise nat_eq p.0 (codes "v") ≡ true → version_digits q ≡ Some p.1
 lone_version q p is valid lone =
     let name : p.0 ≡ codes "v" = same_true p.0 (codes "v") lone in
-    let none : has 44 q ≡ false = has_none is_pair_byte 44 refl q (ap (list_all is_pair_byte) is ∙ pair_bytes p valid) in
+    let none : has 44 q ≡ false =
+    has_none is_pair_byte 44 refl q (ap (list_all is_pair_byte) is ∙ pair_bytes p valid) in
     let text : q ≡ codes "v=" ++ p.1 = is ∙ ap (λ (n : List ℕ). n ++ 61 ∷ p.1) name in
     rw none (ap (λ (t : List ℕ). if starts_with nat_eq t (codes "v=") then Some (drop 2 t) else None) text)
 
-lone_pairs : (q : List ℕ) (ps : Pairs) → text_pairs q ≡ ps → text_fault q ≡ None → version_digits q ≡ None → is_lone_v ps ≡ false
+lone_pairs : (q : List ℕ) (ps : Pairs) → text_pairs q ≡ ps → text_fault q ≡ None → version_digits q ≡ None
+    → is_lone_v ps ≡ false
 lone_pairs q [] is h none = refl
 lone_pairs q (p ∷ (other ∷ ps)) is h none = refl
 lone_pairs q (p ∷ []) is h none = by_test (pointwise nat_eq p.0 (codes "v")) refl
@@ -74,23 +88,30 @@ lone_pairs q (p ∷ []) is h none = by_test (pointwise nat_eq p.0 (codes "v")) r
 
 decimal_found : (digits : List ℕ) → version_fault digits ≡ None → is_some (decimal_value digits) ≡ true
 decimal_found digits h =
-    let one = both (unless (nat_le (length digits) 64) ParamValueTooLong) (unless (is_some (decimal_value digits)) ParamValueInvalid ∷ []) h in
-    holds (is_some (decimal_value digits)) ParamValueInvalid (both (unless (is_some (decimal_value digits)) ParamValueInvalid) [] one.1).0
+    let one = both (unless (nat_le (length digits) 64) ParamValueTooLong)
+    (unless (is_some (decimal_value digits)) ParamValueInvalid ∷ []) h in
+    holds (is_some (decimal_value digits)) ParamValueInvalid
+    (both (unless (is_some (decimal_value digits)) ParamValueInvalid) [] one.1).0
 
-params_case : (q : List ℕ) (test : Bool) → version_digits q ≡ None → fault_of text_fault (if test then Some q else None) ≡ None
+params_case : (q : List ℕ) (test : Bool) → version_digits q ≡ None
+    → fault_of text_fault (if test then Some q else None) ≡ None
     → is_lone_v (pairs_of (if test then Some q else None)) ≡ false
 params_case q false none h = refl
 params_case q true none h = lone_pairs q (text_pairs q) refl h none
 
 version_case : (q : List ℕ) (qs : List (List ℕ)) (version : Option (List ℕ)) → version_digits q ≡ version
-    → fault_of version_fault version ≡ None → fault_of text_fault (read_first params_text (pieces_behind version (q ∷ qs))) ≡ None
-    → (is_none (option_and_then decimal_value version) && is_lone_v (pairs_of (read_first params_text (pieces_behind version (q ∷ qs))))) ≡ false
+    → fault_of version_fault version ≡ None
+    → fault_of text_fault (read_first params_text (pieces_behind version (q ∷ qs))) ≡ None
+    → (is_none (option_and_then decimal_value version)
+    && is_lone_v (pairs_of (read_first params_text (pieces_behind version (q ∷ qs))))) ≡ false
 version_case q qs (Some digits) is v h = rw (some_not_none (decimal_value digits) (decimal_found digits v)) refl
 version_case q qs None is v h = params_case q (has 61 q) is h
 
 no_lone_v : (pieces : List (List ℕ)) → fault_of version_fault (read_first version_digits pieces) ≡ None
     → fault_of text_fault (read_first params_text (pieces_behind (read_first version_digits pieces) pieces)) ≡ None
-    → (is_none (option_and_then decimal_value (read_first version_digits pieces)) && is_lone_v (pairs_of (read_first params_text (pieces_behind (read_first version_digits pieces) pieces)))) ≡ false
+    → (is_none (option_and_then decimal_value (read_first version_digits pieces))
+    && is_lone_v (pairs_of (read_first params_text (pieces_behind (read_first version_digits pieces) pieces))))
+    ≡ false
 no_lone_v [] v h = refl
 no_lone_v (q ∷ qs) v h = version_case q qs (version_digits q) refl v h
 
@@ -98,12 +119,15 @@ no_lone_v (q ∷ qs) v h = version_case q qs (version_digits q) refl v h
 
 version_bound : (digits : Option (List ℕ)) → IfSome (option_and_then decimal_value digits) (λ n. n < 2 ^ 32)
 version_bound None = tt
-version_bound (Some digits) = by_test (is_plain digits && nat_le 1 (length digits) && nat_lt (number_after 0 digits) (2 ^ 32)) refl
+version_bound (Some digits) =
+    by_test (is_plain digits && nat_le 1 (length digits) && nat_lt (number_after 0 digits) (2 ^ 32)) refl
   where
     by_test : (t : Bool) → (is_plain digits && nat_le 1 (length digits) && nat_lt (number_after 0 digits) (2 ^ 32)) ≡ t
         → IfSome (if t then Some (number_after 0 digits) else None) (λ n. n < 2 ^ 32)
     by_test false is = tt
-    by_test true is = let small = (and_parts (is_plain digits && nat_le 1 (length digits)) (nat_lt (number_after 0 digits) (2 ^ 32)) is).1 in grind (arith, nat_tests, small)
+    by_test true is = let small =
+        (and_parts (is_plain digits && nat_le 1 (length digits)) (nat_lt (number_after 0 digits) (2 ^ 32)) is).1 in
+        grind (arith, nat_tests, small)
 
 pairs_are : (text : Option (List ℕ)) → fault_of text_fault text ≡ None → list_all is_pair (pairs_of text) ≡ true
 pairs_are None h = refl
@@ -112,7 +136,8 @@ pairs_are (Some s) h = pairs_valid s h
 pub text_bound : (s : List ℕ) → text_fault s ≡ None → length s ≤ 127
 text_bound [] h = omega arith
 text_bound (b ∷ s) h =
-    let short = holds (nat_le (length (b ∷ s)) 127) ParamsMaxExceeded (both (unless (nat_le (length (b ∷ s)) 127) ParamsMaxExceeded) (map_faults (b ∷ s)) h).0 in
+    let short = holds (nat_le (length (b ∷ s)) 127) ParamsMaxExceeded
+    (both (unless (nat_le (length (b ∷ s)) 127) ParamsMaxExceeded) (map_faults (b ∷ s)) h).0 in
     grind (arith, nat_tests, short)
   where
     map_faults : List ℕ → List (Option Error)
@@ -122,10 +147,13 @@ params_bound : (text : Option (List ℕ)) → fault_of text_fault text ≡ None 
 params_bound None h = omega arith
 params_bound (Some s) h = rw (pairs_text-text_pairs s h) (text_bound s h)
 
-salt_bounds : (q b : List ℕ) → decoding q ≡ Some b → salt_fault q ≡ None → EachBelow 256 b × (8 ≤ length b) × (length b ≤ 48)
+salt_bounds : (q b : List ℕ) → decoding q ≡ Some b → salt_fault q ≡ None
+    → EachBelow 256 b × (8 ≤ length b) × (length b ≤ 48)
 salt_bounds q b is h =
-    let one = both (unless (nat_le 11 (length q)) SaltTooShort) (unless (nat_le (length q) 64) SaltTooLong ∷ (unless (is_some (decoding q)) (Base64 InvalidEncoding) ∷ [])) h in
-    let two = both (unless (nat_le (length q) 64) SaltTooLong) (unless (is_some (decoding q)) (Base64 InvalidEncoding) ∷ []) one.1 in
+    let one = both (unless (nat_le 11 (length q)) SaltTooShort)
+    (unless (nat_le (length q) 64) SaltTooLong ∷ (unless (is_some (decoding q)) (Base64 InvalidEncoding) ∷ [])) h in
+    let two = both (unless (nat_le (length q) 64) SaltTooLong)
+    (unless (is_some (decoding q)) (Base64 InvalidEncoding) ∷ []) one.1 in
     let long = holds (nat_le 11 (length q)) SaltTooShort one.0 in
     let short = holds (nat_le (length q) 64) SaltTooLong two.0 in
     let least : 11 ≤ length q = grind (arith, nat_tests, long) in
@@ -133,31 +161,40 @@ salt_bounds q b is h =
     let size : length q ≡ (4 * length b + 2) / 3 = length-decodable base64_unpadded q b refl is in
     ((decoding-Some base64_unpadded q b is).0, omega (arith, least, size), omega (arith, most, size))
 
-salt_case : (q : List ℕ) (r : Option (List ℕ)) → decoding q ≡ r → salt_fault q ≡ None → IfSome r (λ b. EachBelow 256 b × (8 ≤ length b) × (length b ≤ 48))
+salt_case : (q : List ℕ) (r : Option (List ℕ)) → decoding q ≡ r → salt_fault q ≡ None
+    → IfSome r (λ b. EachBelow 256 b × (8 ≤ length b) × (length b ≤ 48))
 salt_case q None is h = tt
 salt_case q (Some b) is h = salt_bounds q b is h
 
-salt_valid : (piece : Option (List ℕ)) → fault_of salt_fault piece ≡ None → IfSome (option_and_then decoding piece) (λ b. EachBelow 256 b × (8 ≤ length b) × (length b ≤ 48))
+salt_valid : (piece : Option (List ℕ)) → fault_of salt_fault piece ≡ None
+    → IfSome (option_and_then decoding piece) (λ b. EachBelow 256 b × (8 ≤ length b) × (length b ≤ 48))
 salt_valid None h = tt
 salt_valid (Some q) h = salt_case q (decoding q) refl h
 
-hash_bounds : (q b : List ℕ) → decoding q ≡ Some b → hash_fault q ≡ None → EachBelow 256 b × (10 ≤ length b) × (length b ≤ 64)
+hash_bounds : (q b : List ℕ) → decoding q ≡ Some b → hash_fault q ≡ None
+    → EachBelow 256 b × (10 ≤ length b) × (length b ≤ 64)
 hash_bounds q b is h =
-    let one = both (unless (nat_le (length q) 86) (Base64 InvalidLength)) (unless (is_some (decoding q)) (Base64 InvalidEncoding) ∷ (unless (nat_le 10 (length (unwrap_or (decoding q) []))) (OutputSize Less 10) ∷ [])) h in
-    let two = both (unless (is_some (decoding q)) (Base64 InvalidEncoding)) (unless (nat_le 10 (length (unwrap_or (decoding q) []))) (OutputSize Less 10) ∷ []) one.1 in
+    let one = both (unless (nat_le (length q) 86) (Base64 InvalidLength))
+    (unless (is_some (decoding q)) (Base64 InvalidEncoding)
+    ∷ (unless (nat_le 10 (length (unwrap_or (decoding q) []))) (OutputSize Less 10) ∷ [])) h in
+    let two = both (unless (is_some (decoding q)) (Base64 InvalidEncoding))
+    (unless (nat_le 10 (length (unwrap_or (decoding q) []))) (OutputSize Less 10) ∷ []) one.1 in
     let three = both (unless (nat_le 10 (length (unwrap_or (decoding q) []))) (OutputSize Less 10)) [] two.1 in
     let short = holds (nat_le (length q) 86) (Base64 InvalidLength) one.0 in
-    let long : nat_le 10 (length b) ≡ true = ap (λ (o : Option (List ℕ)). nat_le 10 (length (unwrap_or o []))) (sym is) ∙ holds (nat_le 10 (length (unwrap_or (decoding q) []))) (OutputSize Less 10) three.0 in
+    let long : nat_le 10 (length b) ≡ true = ap (λ (o : Option (List ℕ)). nat_le 10 (length (unwrap_or o []))) (sym is)
+    ∙ holds (nat_le 10 (length (unwrap_or (decoding q) []))) (OutputSize Less 10) three.0 in
     let least : 10 ≤ length b = grind (arith, nat_tests, long) in
     let most : length q ≤ 86 = grind (arith, nat_tests, short) in
     let size : length q ≡ (4 * length b + 2) / 3 = length-decodable base64_unpadded q b refl is in
     ((decoding-Some base64_unpadded q b is).0, least, omega (arith, most, size))
 
-hash_case : (q : List ℕ) (r : Option (List ℕ)) → decoding q ≡ r → hash_fault q ≡ None → IfSome r (λ b. EachBelow 256 b × (10 ≤ length b) × (length b ≤ 64))
+hash_case : (q : List ℕ) (r : Option (List ℕ)) → decoding q ≡ r → hash_fault q ≡ None
+    → IfSome r (λ b. EachBelow 256 b × (10 ≤ length b) × (length b ≤ 64))
 hash_case q None is h = tt
 hash_case q (Some b) is h = hash_bounds q b is h
 
-hash_valid : (piece : Option (List ℕ)) → fault_of hash_fault piece ≡ None → IfSome (option_and_then decoding piece) (λ b. EachBelow 256 b × (10 ≤ length b) × (length b ≤ 64))
+hash_valid : (piece : Option (List ℕ)) → fault_of hash_fault piece ≡ None
+    → IfSome (option_and_then decoding piece) (λ b. EachBelow 256 b × (10 ≤ length b) × (length b ≤ 64))
 hash_valid None h = tt
 hash_valid (Some q) h = hash_case q (decoding q) refl h
 
@@ -171,7 +208,8 @@ pub record IsRead (r : PasswordHash) : Type 0 where
 two_tests : (a b : Bool) → a ≡ false → b ≡ false → (not a && not b) ≡ true
 two_tests a b ea eb = rw (ea, eb) refl
 
-read_layout : (id : List ℕ) (pieces : List (List ℕ)) → fault_of_layout id (layout pieces) ≡ None → IsRead (record_of_layout id (layout pieces))
+read_layout : (id : List ℕ) (pieces : List (List ℕ)) → fault_of_layout id (layout pieces) ≡ None
+    → IsRead (record_of_layout id (layout pieces))
 read_layout id pieces h =
     let version = read_first version_digits pieces in
     let after_version = pieces_behind version pieces in
@@ -194,7 +232,8 @@ read_layout id pieces h =
       printable = two_tests _ _ (hash_behind_salt after_params four.0) (no_lone_v pieces two.0 three.0);
     }
 
-accepted : (id : List ℕ) (pieces : List (List ℕ)) (r : PasswordHash) (fault : Option Error) → fault_of_layout id (layout pieces) ≡ fault
+accepted : (id : List ℕ) (pieces : List (List ℕ)) (r : PasswordHash) (fault : Option Error)
+    → fault_of_layout id (layout pieces) ≡ fault
     → value_or_fault (record_of_layout id (layout pieces)) fault ≡ Ok r → IsRead r
 accepted id pieces r None is h = rw (← ok_same _ _ h) (read_layout id pieces is)
   where
@@ -222,6 +261,7 @@ read_is s r h = of_pieces (pieces_at 36 s) r h
 
 -- ---- what the types of the parts promise
 
-pub bytes_told : (n m : ℕ) (o : Option (List ℕ)) (s b : List ℕ) → o ≡ Some s → b ≡ s → EachBelow 256 b → n ≤ length b → length b ≤ m
+pub bytes_told : (n m : ℕ) (o : Option (List ℕ)) (s b : List ℕ) → o ≡ Some s → b ≡ s → EachBelow 256 b → n ≤ length b
+    → length b ≤ m
     → IfSome o (λ b. EachBelow 256 b × (n ≤ length b) × (length b ≤ m))
 bytes_told n m o s b is same small least most = rw (is, ← same) (small, least, most)

@@ -23,7 +23,8 @@ use Rattle.phc.proofs.PairTexts.{some_none}
 
 pub all_ascii : (P : ℕ → Bool) → ((b : ℕ) → P b ≡ true → b < 128) → (s : List ℕ) → list_all P s ≡ true → IsAscii s
 all_ascii P small [] h = IsAscii-nil
-all_ascii P small (b ∷ s) h = let parts = and_parts (P b) (list_all P s) h in IsAscii-cons b s (small b parts.0) (all_ascii P small s parts.1)
+all_ascii P small (b ∷ s) h = let parts = and_parts (P b) (list_all P s) h in
+    IsAscii-cons b s (small b parts.0) (all_ascii P small s parts.1)
 
 -- ---- names and values
 
@@ -66,7 +67,8 @@ value_ascii s h = all_ascii is_value_byte value_byte_ascii s (value_parts s h).1
 -- ---- decimals and encodings are values
 
 pub digits_utf8 : (s : List ℕ) → list_all is_ascii_digit s ≡ true → IsUtf8 s
-digits_utf8 s h = IsUtf8-from_ascii s (all_ascii is_value_byte value_byte_ascii s (all_weaker is_ascii_digit is_value_byte digit_is_value s h))
+digits_utf8 s h = IsUtf8-from_ascii s
+    (all_ascii is_value_byte value_byte_ascii s (all_weaker is_ascii_digit is_value_byte digit_is_value s h))
 
 pub digits_value : (s : List ℕ) → list_all is_ascii_digit s ≡ true → length s ≤ 64 → value_fault s ≡ None
 digits_value s h short = value_from s short (all_weaker is_ascii_digit is_value_byte digit_is_value s h)
@@ -75,4 +77,5 @@ pub decimal_length : (n : ℕ) → n < 2 ^ 32 → length (decimal n) ≤ 10
 decimal_length n small = length-decimal-le 10 n (omega (arith, small)) (omega (arith, small)) (omega arith)
 
 pub encoding_is_value : (b : List ℕ) → EachBelow 256 b → length b ≤ 48 → value_fault (encoding b) ≡ None
-encoding_is_value b small short = value_from (encoding b) (omega (arith, encoded_length b small, short)) (encoding_value b small)
+encoding_is_value b small short =
+    value_from (encoding b) (omega (arith, encoded_length b small, short)) (encoding_value b small)

@@ -2,7 +2,9 @@
 -- By the limits of `phc` 0.6.1 it is narrower than the format's (a salt is a canonical encoding of 11 to 64 characters,
 -- a hash of 10 bytes to 86 characters, parameters have at most 127 characters), and wider: a parameter may be named
 -- `v`, a name may stand twice, and a value may be empty.
-use Rattle.std.specs.Prelude.{ℕ, ◌+◌, ◌*◌, ◌-◌, ◌^◌, Bool, true, false, not, ◌&&◌, ◌||◌, List, [], ◌∷◌, ◌==◌, nat_eq, nat_lt, nat_le, length, drop, Option, Some, None, is_some, unwrap_or, Result, Ok, Err, if◌then◌else◌, codes, map}
+use Rattle.std.specs.Prelude.{ℕ, ◌+◌, ◌*◌, ◌-◌, ◌^◌, Bool, true, false, not, ◌&&◌, ◌||◌, List, [], ◌∷◌, ◌==◌, nat_eq}
+use Rattle.std.specs.Prelude.{nat_lt, nat_le, length, drop, Option, Some, None, is_some, unwrap_or, Result, Ok, Err}
+use Rattle.std.specs.Prelude.{if◌then◌else◌, codes, map}
 use Rattle.std.specs.List.{list_all, list_any, starts_with}
 use Rattle.std.specs.Char.{is_ascii_lowercase, is_ascii_digit, is_ascii_alphanumeric}
 use Rattle.std.specs.declared.cmp.Ordering.TheVariants.{Less}
@@ -10,7 +12,9 @@ use Rattle.pieces.specs.Pieces.{pieces_at, first, is_nil, behind}
 use Rattle.base64ct.specs.declared.errors.Error.TheVariants.{InvalidEncoding, InvalidLength}
 use Rattle.phc.specs.Encoded.{decoding}
 use Rattle.phc.specs.declared.error.Error.{Error}
-use Rattle.phc.specs.declared.error.Error.TheVariants.{Base64, OutputSize, ParamNameInvalid, ParamValueInvalid, ParamValueTooLong, ParamsMaxExceeded, SaltTooShort, SaltTooLong, TrailingData}
+use Rattle.phc.specs.declared.error.Error.TheVariants.{Base64, OutputSize, ParamNameInvalid, ParamValueInvalid}
+use Rattle.phc.specs.declared.error.Error.TheVariants.{ParamValueTooLong, ParamsMaxExceeded, SaltTooShort, SaltTooLong}
+use Rattle.phc.specs.declared.error.Error.TheVariants.{TrailingData}
 
 -- ---- names, values and decimals
 
@@ -75,7 +79,8 @@ name_fault s = unless (is_name s) ParamNameInvalid
 
 -- the fault of a value
 abbrev pub value_fault : List ℕ → Option Error
-value_fault s = first_fault (unless (nat_le (length s) 64) ParamValueTooLong ∷ (unless (has_value_bytes s) ParamValueInvalid ∷ []))
+value_fault s = first_fault
+    (unless (nat_le (length s) 64) ParamValueTooLong ∷ (unless (has_value_bytes s) ParamValueInvalid ∷ []))
 
 -- ---- which piece is what
 
@@ -111,15 +116,23 @@ pieces_behind (Some piece) pieces = drop 1 pieces
 -- the pieces from the salt on
 abbrev pub layout_from_salt : Option (List ℕ) → Option (List ℕ) → List (List ℕ) → Layout
 layout_from_salt version params pieces =
-    record { version = version; params = params; salt = first pieces; hash = first (drop 1 pieces); rest = drop 1 (drop 1 pieces) }
+    record {
+      version = version;
+      params = params;
+      salt = first pieces;
+      hash = first (drop 1 pieces);
+      rest = drop 1 (drop 1 pieces);
+    }
 
 -- the pieces from the parameters on
 abbrev pub layout_from_params : Option (List ℕ) → List (List ℕ) → Layout
-layout_from_params version pieces = layout_from_salt version (read_first params_text pieces) (pieces_behind (read_first params_text pieces) pieces)
+layout_from_params version pieces =
+    layout_from_salt version (read_first params_text pieces) (pieces_behind (read_first params_text pieces) pieces)
 
 -- the pieces behind the identifier
 abbrev pub layout : List (List ℕ) → Layout
-layout pieces = layout_from_params (read_first version_digits pieces) (pieces_behind (read_first version_digits pieces) pieces)
+layout pieces = layout_from_params (read_first version_digits pieces)
+    (pieces_behind (read_first version_digits pieces) pieces)
 
 -- ---- the parts
 

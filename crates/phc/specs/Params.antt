@@ -1,12 +1,15 @@
 -- Parameters as a list of pairs of a name and a value (the PHC string format, "Specification").
-use Rattle.std.specs.Prelude.{ℕ, List, [], ◌∷◌, ◌++◌, nat_eq, nat_lt, length, map, Option, Some, None, is_none, is_some, Result, Ok, Err, if◌then◌else◌}
+use Rattle.std.specs.Prelude.{ℕ, List, [], ◌∷◌, ◌++◌, nat_eq, nat_lt, length, map, Option, Some, None, is_none, is_some}
+use Rattle.std.specs.Prelude.{Result, Ok, Err, if◌then◌else◌}
 use Rattle.std.specs.List.{join_with_byte}
 use Rattle.std.specs.Cmp.Lexicographic.{pointwise}
 use Rattle.phc.specs.Encoded.{encoding}
 use Rattle.pieces.specs.Pieces.{pieces_at}
-use Rattle.phc.specs.Grammar.{first_fault, is_empty, is_name, pair_fault, text_pairs, text_fault, value_fault, value_or_fault}
+use Rattle.phc.specs.Grammar.{first_fault, is_empty, is_name, pair_fault, text_pairs, text_fault, value_fault}
+use Rattle.phc.specs.Grammar.{value_or_fault}
 use Rattle.phc.specs.declared.error.Error.{Error}
-use Rattle.phc.specs.declared.error.Error.TheVariants.{ParamNameDuplicated, ParamNameInvalid, ParamValueInvalid, ParamValueTooLong, ParamsMaxExceeded}
+use Rattle.phc.specs.declared.error.Error.TheVariants.{ParamNameDuplicated, ParamNameInvalid, ParamValueInvalid}
+use Rattle.phc.specs.declared.error.Error.TheVariants.{ParamValueTooLong, ParamsMaxExceeded}
 
 -- names and values, in their order
 abbrev pub Pairs : Type 0
@@ -37,7 +40,8 @@ get (p ∷ ps) name = if pointwise nat_eq p.0 name then Some p.1 else get ps nam
 abbrev pub add : Pairs → List ℕ → List ℕ → Result Pairs Error
 add ps name value =
     if is_some (get ps name) then Err ParamNameDuplicated
-    else (if nat_lt 127 (length (pairs_text (ps ++ (name, value) ∷ []))) then Err ParamsMaxExceeded else Ok (ps ++ (name, value) ∷ []))
+    else (if nat_lt 127 (length (pairs_text (ps ++ (name, value) ∷ []))) then Err ParamsMaxExceeded else Ok
+    (ps ++ (name, value) ∷ []))
 
 -- the text with one more pair behind it
 abbrev pub appended : List ℕ → List ℕ → List ℕ → List ℕ
@@ -49,7 +53,8 @@ with_name name after = if is_name name then after else Err ParamNameInvalid
 
 -- one more pair of two texts, or why not
 abbrev pub add_named : Pairs → List ℕ → List ℕ → Result Pairs Error
-add_named ps name value = with_name name (if is_none (value_fault value) then add ps name value else Err ParamValueInvalid)
+add_named ps name value =
+    with_name name (if is_none (value_fault value) then add ps name value else Err ParamValueInvalid)
 
 -- one more pair whose value is the encoding of bytes, or why not
 abbrev pub add_bytes : Pairs → List ℕ → List ℕ → Result Pairs Error

@@ -1,5 +1,5 @@
--- What the makers of salts and outputs answer: a salt has 8 to 48 bytes, an output 10 to 64 (the crate phc 0.6.1, within
--- the PHC string format), each in Base64 without padding.
+-- What the makers of salts and outputs answer: a salt has 8 to 48 bytes, an output 10 to 64 (the crate phc 0.6.1,
+-- within the PHC string format), each in Base64 without padding.
 use Rattle.std.specs.Prelude.{ℕ, List, [], nat_lt, length, unwrap_or, Result, Ok, Err, if◌then◌else◌}
 use Rattle.std.specs.declared.cmp.Ordering.TheVariants.{Less, Greater}
 use Rattle.phc.specs.Encoded.{decoding}
@@ -27,7 +27,8 @@ output_of_bytes b =
 
 -- 8 to 48 bytes
 abbrev pub salt_of_bytes : List ℕ → Result (List ℕ) Error
-salt_of_bytes b = if nat_lt (length b) 8 then Err SaltTooShort else (if nat_lt 48 (length b) then Err SaltTooLong else Ok b)
+salt_of_bytes b = if nat_lt (length b) 8 then Err SaltTooShort else
+    (if nat_lt 48 (length b) then Err SaltTooLong else Ok b)
 
 -- what a closure left, or its refusal
 abbrev pub after_init : Result (Unit {0}) Error → List ℕ → Result (List ℕ) Error

@@ -1,5 +1,6 @@
 -- Records: what a whole text says, and how a record prints.
-use Rattle.std.specs.Prelude.{◌≡◌, ℕ, ◌^◌, ◌<◌, ◌≤◌, Bool, true, false, not, ◌&&◌, List, [], ◌∷◌, ◌++◌, nat_eq, nat_le, length, Option, Some, None, is_some, is_none, IfSome, Result, Err, codes, if◌then◌else◌}
+use Rattle.std.specs.Prelude.{◌≡◌, ℕ, ◌^◌, ◌<◌, ◌≤◌, Bool, true, false, not, ◌&&◌, List, [], ◌∷◌, ◌++◌, nat_eq, nat_le}
+use Rattle.std.specs.Prelude.{length, Option, Some, None, is_some, is_none, IfSome, Result, Err, codes, if◌then◌else◌}
 use Rattle.std.specs.Option.{option_and_then}
 use Rattle.std.specs.Fmt.{decimal}
 use Rattle.std.specs.List.{list_all}
@@ -7,7 +8,8 @@ use Rattle.base64ct.specs.Encoding.{EachBelow}
 use Rattle.std.specs.Cmp.Lexicographic.{pointwise}
 use Rattle.pieces.specs.Pieces.{pieces_at}
 use Rattle.phc.specs.Encoded.{decoding, encoding}
-use Rattle.phc.specs.Grammar.{Layout, layout, fault_of_layout, pairs_of, decimal_value, value_or_fault, is_empty, is_name, has_value_bytes}
+use Rattle.phc.specs.Grammar.{Layout, layout, fault_of_layout, pairs_of, decimal_value, value_or_fault, is_empty}
+use Rattle.phc.specs.Grammar.{is_name, has_value_bytes}
 use Rattle.phc.specs.Params.{Pairs, pairs_text}
 use Rattle.phc.specs.declared.error.Error.{Error}
 use Rattle.phc.specs.declared.error.Error.TheVariants.{MissingField}
@@ -61,7 +63,8 @@ hash_part (Some salt) hash = bytes_part hash
 
 -- `$id[$v=version][$params][$salt[$hash]]`
 unfoldable pub record_text : PasswordHash → List ℕ
-record_text r = 36 ∷ r.algorithm ++ version_part r.version ++ params_part r.params ++ bytes_part r.salt ++ hash_part r.salt r.hash
+record_text r = 36 ∷ r.algorithm ++ version_part r.version ++ params_part r.params ++ bytes_part r.salt
+    ++ hash_part r.salt r.hash
 
 -- ---- which records are read back
 
@@ -69,7 +72,8 @@ record_text r = 36 ∷ r.algorithm ++ version_part r.version ++ params_part r.pa
 abbrev pub is_pair : List ℕ × List ℕ → Bool
 is_pair p = is_name p.0 && nat_le (length p.1) 64 && has_value_bytes p.1
 
--- what the types of the parts promise: a name, a number of 32 bits, names and values in at most 127 characters, 8 to 48 bytes, 10 to 64 bytes
+-- what the types of the parts promise: a name, a number of 32 bits, names and values in at most 127 characters, 8 to
+-- 48 bytes, 10 to 64 bytes
 pub record IsRecord (r : PasswordHash) : Type 0 where
   pub algorithm : is_name r.algorithm ≡ true
   pub version : IfSome r.version (λ n. n < 2 ^ 32)

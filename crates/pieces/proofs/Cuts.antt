@@ -52,11 +52,13 @@ cut_true c b s pieces same cut = record {
   join = ap (λ t. c ∷ t) cut.join ∙ ap (λ n. n ∷ s) (sym same);
 }
 
-push_first : (c b : ℕ) (first : List ℕ) (others : List (List ℕ)) → join_with_byte c ((b ∷ first) ∷ others) ≡ b ∷ join_with_byte c (first ∷ others)
+push_first : (c b : ℕ) (first : List ℕ) (others : List (List ℕ))
+    → join_with_byte c ((b ∷ first) ∷ others) ≡ b ∷ join_with_byte c (first ∷ others)
 push_first c b first [] = refl
 push_first c b first (piece ∷ others) = refl
 
-cut_false : (c b : ℕ) (s : List ℕ) (pieces : List (List ℕ)) → Cut c s pieces → Cut c (b ∷ s) (before_pieces false b pieces)
+cut_false : (c b : ℕ) (s : List ℕ) (pieces : List (List ℕ)) → Cut c s pieces
+    → Cut c (b ∷ s) (before_pieces false b pieces)
 cut_false c b s pieces cut = record {
   first = b ∷ cut.first;
   others = cut.others;
@@ -64,7 +66,8 @@ cut_false c b s pieces cut = record {
   join = push_first c b cut.first cut.others ∙ ap (λ t. b ∷ t) cut.join;
 }
 
-cut_cases : (c b : ℕ) (s : List ℕ) (pieces : List (List ℕ)) (test : Bool) → (b == c) ≡ test → Cut c s pieces → Cut c (b ∷ s) (before_pieces test b pieces)
+cut_cases : (c b : ℕ) (s : List ℕ) (pieces : List (List ℕ)) (test : Bool) → (b == c) ≡ test → Cut c s pieces
+    → Cut c (b ∷ s) (before_pieces test b pieces)
 cut_cases c b s pieces true is cut = cut_true c b s pieces (grind (arith, nat_tests, is)) cut
 cut_cases c b s pieces false is cut = cut_false c b s pieces cut
 
@@ -79,7 +82,8 @@ join_pieces c s = ap (join_with_byte c) (cut_of c s).are ∙ (cut_of c s).join
 
 -- ---- texts that are put together
 
-before_append : (test : Bool) (b : ℕ) (ps qs : List (List ℕ)) (first : List ℕ) (others : List (List ℕ)) → ps ≡ first ∷ others
+before_append : (test : Bool) (b : ℕ) (ps qs : List (List ℕ)) (first : List ℕ) (others : List (List ℕ))
+    → ps ≡ first ∷ others
     → before_pieces test b (ps ++ qs) ≡ before_pieces test b ps ++ qs
 before_append true b ps qs first others is = refl
 before_append false b ps qs first others is = rw is refl
@@ -90,14 +94,16 @@ unfolding pieces_at
 cut_append c [] t = rw (same_byte c) refl
 cut_append c (b ∷ s) t =
     let cut = cut_of c s in
-    ap (before_pieces (b == c) b) (cut_append c s t) ∙ before_append (b == c) b (pieces_at c s) (pieces_at c t) cut.first cut.others cut.are
+    ap (before_pieces (b == c) b) (cut_append c s t)
+    ∙ before_append (b == c) b (pieces_at c s) (pieces_at c t) cut.first cut.others cut.are
 
 -- pieces without c, joined and cut again, are these pieces
 pub cut_joined : (c : ℕ) (first : List ℕ) (others : List (List ℕ)) → LacksByte c first → EachLacks c others
     → pieces_at c (join_with_byte c (first ∷ others)) ≡ first ∷ others
 cut_joined c first [] lacks each = one_piece c first lacks
 cut_joined c first (piece ∷ pieces) lacks each =
-    first_cut c first (join_with_byte c (piece ∷ pieces)) lacks ∙ ap (λ (ps : List (List ℕ)). first ∷ ps) (cut_joined c piece pieces each.0 each.1)
+    first_cut c first (join_with_byte c (piece ∷ pieces)) lacks
+    ∙ ap (λ (ps : List (List ℕ)). first ∷ ps) (cut_joined c piece pieces each.0 each.1)
 
 -- a text cut at the first place of c
 pub cut_at : (c : ℕ) (text : List ℕ) (at : ℕ) → at < length text → LacksBelow c text at → slice_index text at ≡ c →

@@ -1,5 +1,6 @@
 -- What `strip_prefix` gives, and that a text has a piece.
-use Rattle.std.proofs.Common.{◌≡◌, ℕ, ◌+◌, Bool, true, false, List, [], ◌∷◌, length, drop, refl, sym, subst, ap, ◌∙◌, eqb-true, arith}
+use Rattle.std.proofs.Common.{◌≡◌, ℕ, ◌+◌, Bool, true, false, List, [], ◌∷◌, length, drop, refl, sym, subst, ap, ◌∙◌}
+use Rattle.std.proofs.Common.{eqb-true, arith}
 use Rattle.std.specs.Prelude.{◌==◌, Option, Some, None, MatchOption}
 use Rattle.std.specs.Borrow.{Bor}
 use Rattle.std.specs.Str.Pattern.{FindsTextPrefix}
@@ -16,7 +17,8 @@ pub left_some : (c : ℕ) (text : List ℕ) → false ≡ is_nil (pieces_at c te
 left_some c text = sym (ap is_nil (cut_of c text).are)
 
 pub behind_is : (text front : List ℕ) (r : Option (Bor (List ℕ)))
-    → MatchOption r (FindsTextPrefix front text None) (λ x. (n : ℕ) × FindsTextPrefix front text (Some n) × (x.now ≡ drop n text) × (length x.now + n ≡ length text))
+    → MatchOption r (FindsTextPrefix front text None) (λ x. (n : ℕ) × FindsTextPrefix front text (Some n)
+    × (x.now ≡ drop n text) × (length x.now + n ≡ length text))
     → lent r ≡ behind text front
 behind_is text front None h = let no = starts_text false front text h in rw (← no) refl
 behind_is text front (Some x) h =
@@ -28,14 +30,17 @@ none_some : (body : List ℕ) → None ≡ Some body → ⊥
 none_some body h = cc
 
 -- what stands behind the cut with which a text begins
-pub behind_cut : (c : ℕ) (text body : List ℕ) → behind text (c ∷ []) ≡ Some body → pieces_at c text ≡ [] ∷ pieces_at c body
+pub behind_cut : (c : ℕ) (text body : List ℕ) → behind text (c ∷ []) ≡ Some body
+    → pieces_at c text ≡ [] ∷ pieces_at c body
 behind_cut c [] body is = cc
 behind_cut c (b ∷ text) body is = by_test (c == b) refl is
   where
-    by_test : (t : Bool) → (c == b) ≡ t → behind (b ∷ text) (c ∷ []) ≡ Some body → pieces_at c (b ∷ text) ≡ [] ∷ pieces_at c body
+    by_test : (t : Bool) → (c == b) ≡ t → behind (b ∷ text) (c ∷ []) ≡ Some body
+        → pieces_at c (b ∷ text) ≡ [] ∷ pieces_at c body
     by_test true same is =
         let e : b ≡ c = sym (eqb-true _ _ same) in
-        let front : behind (c ∷ text) (c ∷ []) ≡ Some body = subst (λ (x : ℕ). behind (x ∷ text) (c ∷ []) ≡ Some body) e is in
+        let front : behind (c ∷ text) (c ∷ []) ≡ Some body =
+        subst (λ (x : ℕ). behind (x ∷ text) (c ∷ []) ≡ Some body) e is in
         let found : behind (c ∷ text) (c ∷ []) ≡ Some text = rw (same_byte c) refl in
         let rest : Some text ≡ Some body = sym found ∙ front in
         let inner : text ≡ body = cc in

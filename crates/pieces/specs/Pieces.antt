@@ -1,6 +1,7 @@
 -- Texts as lists of bytes, cut into pieces at a byte. Formats that join their fields by one character
 -- (crypt(5), the PHC string format) are read through these words.
-use Rattle.std.specs.Prelude.{◌≢◌, ℕ, ◌<◌, ⊤, Bool, true, false, List, [], ◌∷◌, ◌==◌, Option, Some, None, length, slice_index, drop, nat_eq, if◌then◌else◌}
+use Rattle.std.specs.Prelude.{◌≢◌, ℕ, ◌<◌, ⊤, Bool, true, false, List, [], ◌∷◌, ◌==◌, Option, Some, None, length}
+use Rattle.std.specs.Prelude.{slice_index, drop, nat_eq, if◌then◌else◌}
 use Rattle.std.specs.List.{starts_with}
 use Rattle.std.specs.Borrow.{Bor}
 

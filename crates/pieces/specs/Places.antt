@@ -8,7 +8,9 @@ LacksBelow c bytes n = (i : ℕ) → i < n → slice_index bytes i ≢ c
 
 -- r is the first place where c stands
 abbrev pub IsFirstPlace : ℕ → List ℕ → Option ℕ → Type 0
-IsFirstPlace c bytes r = MatchOption r (LacksBelow c bytes (length bytes)) (λ at. (at < length bytes) × LacksBelow c bytes at × (slice_index bytes at ≡ c))
+IsFirstPlace c bytes r =
+    MatchOption r (LacksBelow c bytes (length bytes))
+    (λ at. (at < length bytes) × LacksBelow c bytes at × (slice_index bytes at ≡ c))
 
 -- no byte at a place from i to below n is c
 abbrev pub LacksBetween : ℕ → List ℕ → ℕ → ℕ → Type 0
@@ -16,7 +18,8 @@ LacksBetween c bytes i n = (k : ℕ) → i ≤ k → k < n → slice_index bytes
 
 -- r is the last place below n where c stands
 abbrev pub IsLastBelow : ℕ → List ℕ → ℕ → Option ℕ → Type 0
-IsLastBelow c bytes n r = MatchOption r (LacksBelow c bytes n) (λ at. (at < n) × LacksBetween c bytes (at + 1) n × (slice_index bytes at ≡ c))
+IsLastBelow c bytes n r =
+    MatchOption r (LacksBelow c bytes n) (λ at. (at < n) × LacksBetween c bytes (at + 1) n × (slice_index bytes at ≡ c))
 
 -- r is the last place where c stands
 abbrev pub IsLastPlace : ℕ → List ℕ → Option ℕ → Type 0

@@ -25,11 +25,13 @@ abbrev fresh_of : List ℕ → List ℕ → List ℕ
 fresh_of password salt_is = made_text (codes "14") (codes "8") (codes "1") 14 8 1 password salt_is
 
 -- it is the text that scrypt makes with the bytes of the salt
-is_made : (password salt salt_is : List ℕ) → salt ≡ encoding salt_is → decoding salt ≡ Some salt_is → fresh password salt ≡ fresh_of password salt_is
+is_made : (password salt salt_is : List ℕ) → salt ≡ encoding salt_is → decoding salt ≡ Some salt_is
+    → fresh password salt ≡ fresh_of password salt_is
 unfolding fresh record_text
 is_made password salt salt_is text decodes =
     let k : List ℕ = scrypt password salt_is (2 ^ 14) 8 1 32 in
-    let key_is : fresh_key password salt ≡ k = ap (λ (o : Option (List ℕ)). scrypt password (unwrap_or o []) (2 ^ 14) 8 1 32) decodes in
+    let key_is : fresh_key password salt ≡ k =
+    ap (λ (o : Option (List ℕ)). scrypt password (unwrap_or o []) (2 ^ 14) 8 1 32) decodes in
     ap (λ (t : List ℕ). codes "$scrypt$ln=14,r=8,p=1$" ++ (salt ++ 36 ∷ encoding t)) key_is
     ∙ ap (λ (t : List ℕ). codes "$scrypt$ln=14,r=8,p=1$" ++ (t ++ 36 ∷ encoding k)) text
 

@@ -1,5 +1,6 @@
 -- A line is answered as its reply over the table says.
-use Rattle.std.proofs.Common.{◌≡◌, ℕ, ◌≤◌, ◌<◌, Bool, true, false, List, [], ◌∷◌, length, refl, sym, ap, ◌∙◌, arith, inl, inr, Option, Some, None, Result, Ok, Err}
+use Rattle.std.proofs.Common.{◌≡◌, ℕ, ◌≤◌, ◌<◌, Bool, true, false, List, [], ◌∷◌, length, refl, sym, ap, ◌∙◌, arith}
+use Rattle.std.proofs.Common.{inl, inr, Option, Some, None, Result, Ok, Err}
 use Rattle.std.specs.Prelude.{◌≢◌, nat_le, nat_lt, is_ok}
 use Rattle.std.proofs.lemmas.Bool.Decides.{nat_tests}
 use Rattle.mcf.specs.Grammar as mcf
@@ -11,7 +12,8 @@ use Rattle.stored_check.specs.declared.error.StoredError.TheVariants as stored
 use Rattle.stored_check.proofs.Causes.{never_memory}
 use Rattle.scrypt_plain.specs.Profile.{accepted, key}
 use Rattle.pw_file.specs.Verdicts.{verdict_on}
-use Rattle.pw_file.specs.Answers.{IsAnswer, bad_text, check_answer, check_may_lack, checked, done_or_fault, first_fault, has_room, set_answer, unless, upgrade_answer, with_salt, upgrade_may_lack}
+use Rattle.pw_file.specs.Answers.{IsAnswer, bad_text, check_answer, check_may_lack, checked, done_or_fault, first_fault}
+use Rattle.pw_file.specs.Answers.{has_room, set_answer, unless, upgrade_answer, with_salt, upgrade_may_lack}
 use Rattle.pw_file.specs.Calls.{is_want, rows_after_set, rows_after_upgrade}
 use Rattle.pw_file.specs.Commands as of
 use Rattle.pw_file.specs.History.{Lists, Reply, Rows, Says, change_of, is_done, is_upgraded, text_in}
@@ -27,7 +29,9 @@ use Rattle.pw_file.proofs.Calls.{no_change, unchanged}
 
 -- ---- want of memory is no answer of the definitions
 
-set_cases : (a : Bool) (b : Option mcf_error.Error) (c : Bool) → is_want (done_or_fault (first_fault (unless a refused.TextTooLong ∷ (bad_text b ∷ (unless c refused.Full ∷ []))))) ≡ false
+set_cases : (a : Bool) (b : Option mcf_error.Error) (c : Bool)
+    → is_want (done_or_fault (first_fault (unless a refused.TextTooLong ∷ (bad_text b ∷ (unless c refused.Full ∷ [])))))
+    ≡ false
 set_cases false b c = refl
 set_cases true (Some e) c = refl
 set_cases true None false = refl
@@ -53,24 +57,28 @@ check_known : (had : Option (List ℕ)) (password : List ℕ) → is_want (check
 check_known None password = refl
 check_known (Some text) password = verdict_known password text
 
-salt_cases : (fault : Option phc_error.Error) (answer : Result Bool FileError) → is_want answer ≡ false → is_want (with_salt fault answer) ≡ false
+salt_cases : (fault : Option phc_error.Error) (answer : Result Bool FileError) → is_want answer ≡ false
+    → is_want (with_salt fault answer) ≡ false
 salt_cases (Some e) answer known = refl
 salt_cases None answer known = known
 
 upgrade_known : (had : Option (List ℕ)) (password salt : List ℕ) → is_want (upgrade_answer had password salt) ≡ false
 upgrade_known None password salt = refl
-upgrade_known (Some text) password salt = salt_cases (salt_fault salt) (checked (verdict_on password text)) (verdict_known password text)
+upgrade_known (Some text) password salt =
+    salt_cases (salt_fault salt) (checked (verdict_on password text)) (verdict_known password text)
 
 -- ---- replies
 
 short_line : (line : List ℕ) → length line ≤ 8192 → nat_lt 8192 (length line) ≡ false
 short_line line h = grind (arith, nat_tests, h)
 
-reply_is : (table : Rows) (line : List ℕ) (c : Option of.Command) → length line ≤ 8192 → of.command line ≡ c → table_reply table line ≡ reply_by (text_in table) (length table) table c
+reply_is : (table : Rows) (line : List ℕ) (c : Option of.Command) → length line ≤ 8192 → of.command line ≡ c
+    → table_reply table line ≡ reply_by (text_in table) (length table) table c
 unfolding table_reply
 reply_is table line c short is = rw (short_line line short, is) refl
 
-costly_is : (table : Rows) (line : List ℕ) (c : Option of.Command) → length line ≤ 8192 → of.command line ≡ c → table_is_costly table line ≡ is_costly_by (text_in table) (length table) c
+costly_is : (table : Rows) (line : List ℕ) (c : Option of.Command) → length line ≤ 8192 → of.command line ≡ c
+    → table_is_costly table line ≡ is_costly_by (text_in table) (length table) c
 unfolding table_is_costly
 costly_is table line c short is = rw (short_line line short, is) refl
 
@@ -85,12 +93,15 @@ module _ (old : Rows) (line : List ℕ) where
   after_is : (r : Reply) → table_reply old line ≡ r → table_after old line ≡ changed old (change_of (of.command line) r)
   after_is r is = ap (λ (reply : Reply). changed old (change_of (of.command line) reply)) is
 
-  says : {A : Type 0} (answer : Result A FileError) (word : Word) (new : Rows) → is_want answer ≡ false → table_reply old line ≡ Says word
-      → new ≡ changed old (change_of (of.command line) (Says word)) → AnswersLineOver old line new (line_reply answer word)
+  says : {A : Type 0} (answer : Result A FileError) (word : Word) (new : Rows) → is_want answer ≡ false
+      → table_reply old line ≡ Says word
+      → new ≡ changed old (change_of (of.command line) (Says word))
+      → AnswersLineOver old line new (line_reply answer word)
   says answer word new known is next = rw known (sym is, next ∙ sym (after_is (Says word) is))
 
   -- a reply that says of no change
-  stays : (word : Word) → is_done (Says word) ≡ false → is_upgraded (Says word) ≡ false → old ≡ changed old (change_of (of.command line) (Says word))
+  stays : (word : Word) → is_done (Says word) ≡ false → is_upgraded (Says word) ≡ false
+      → old ≡ changed old (change_of (of.command line) (Says word))
   stays word a b = rw (unchanged (of.command line) word a b) refl
 
   refusal : (e : FileError) → old ≡ changed old (change_of (of.command line) (Says (error_word e)))
@@ -103,12 +114,16 @@ module _ (old : Rows) (line : List ℕ) where
   set_next user new (Ok done) is = rw is refl
   set_next user new (Err e) is = refusal e
 
-  pub set_answered : (user new : List ℕ) (after : Rows) (answer : Result (Unit {0}) FileError) → Asks line (of.Set user new)
-      → IsAnswer (set_answer (text_in old user) (length old) new) (is_ok (set_answer (text_in old user) (length old) new)) answer
-      → after ≡ rows_after_set old user new answer → AnswersLineOver old line after (line_reply answer (set_word answer))
+  pub set_answered : (user new : List ℕ) (after : Rows) (answer : Result (Unit {0}) FileError)
+      → Asks line (of.Set user new)
+      → IsAnswer (set_answer (text_in old user) (length old) new)
+      (is_ok (set_answer (text_in old user) (length old) new)) answer
+      → after ≡ rows_after_set old user new answer
+      → AnswersLineOver old line after (line_reply answer (set_word answer))
   set_answered user new after answer asks (inl is) rows =
       let known : is_want answer ≡ false = ap is_want is ∙ set_known (text_in old user) (length old) new in
-      let word : table_reply old line ≡ Says (set_word answer) = reply_is old line _ asks.0 asks.1 ∙ ap (λ (a : Result (Unit {0}) FileError). Says (set_word a)) (sym is) in
+      let word : table_reply old line ≡ Says (set_word answer) =
+      reply_is old line _ asks.0 asks.1 ∙ ap (λ (a : Result (Unit {0}) FileError). Says (set_word a)) (sym is) in
       says answer (set_word answer) after known word (rows ∙ set_next user new answer asks.1)
   set_answered user new after answer asks (inr (want, may)) rows =
       let same : after ≡ old = rows ∙ ap (rows_after_set old user new) want in
@@ -117,16 +132,19 @@ module _ (old : Rows) (line : List ℕ) where
 
   -- ---- check
 
-  check_next : (answer : Result Bool FileError) → old ≡ changed old (change_of (of.command line) (Says (check_word answer)))
+  check_next : (answer : Result Bool FileError)
+      → old ≡ changed old (change_of (of.command line) (Says (check_word answer)))
   check_next (Ok true) = stays Match refl refl
   check_next (Ok false) = stays Mismatch refl refl
   check_next (Err e) = refusal e
 
   pub check_answered : (user password : List ℕ) (answer : Result Bool FileError) → Asks line (of.Check user password)
-      → IsAnswer (check_answer (text_in old user) password) (check_may_lack (text_in old user) password) answer → AnswersLineOver old line old (line_reply answer (check_word answer))
+      → IsAnswer (check_answer (text_in old user) password) (check_may_lack (text_in old user) password) answer
+      → AnswersLineOver old line old (line_reply answer (check_word answer))
   check_answered user password answer asks (inl is) =
       let known : is_want answer ≡ false = ap is_want is ∙ check_known (text_in old user) password in
-      let word : table_reply old line ≡ Says (check_word answer) = reply_is old line _ asks.0 asks.1 ∙ ap (λ (a : Result Bool FileError). Says (check_word a)) (sym is) in
+      let word : table_reply old line ≡ Says (check_word answer) =
+      reply_is old line _ asks.0 asks.1 ∙ ap (λ (a : Result Bool FileError). Says (check_word a)) (sym is) in
       says answer (check_word answer) old known word (check_next answer)
   check_answered user password answer asks (inr (want, may)) =
       let costly : table_is_costly old line ≡ true = costly_is old line _ asks.0 asks.1 ∙ may in
@@ -134,18 +152,24 @@ module _ (old : Rows) (line : List ℕ) where
 
   -- ---- upgrade
 
-  upgrade_next : (user salt password : List ℕ) (answer : Result Bool FileError) → of.command line ≡ Some (of.Upgrade user salt password)
-      → rows_after_upgrade old user password salt answer ≡ changed old (change_of (of.command line) (Says (upgrade_word answer)))
+  upgrade_next : (user salt password : List ℕ) (answer : Result Bool FileError)
+      → of.command line ≡ Some (of.Upgrade user salt password)
+      → rows_after_upgrade old user password salt answer
+      ≡ changed old (change_of (of.command line) (Says (upgrade_word answer)))
   upgrade_next user salt password (Ok true) is = rw is refl
   upgrade_next user salt password (Ok false) is = stays Mismatch refl refl
   upgrade_next user salt password (Err e) is = refusal e
 
-  pub upgrade_answered : (user salt password : List ℕ) (after : Rows) (answer : Result Bool FileError) → Asks line (of.Upgrade user salt password)
-      → IsAnswer (upgrade_answer (text_in old user) password salt) (upgrade_may_lack (text_in old user) password salt) answer
-      → after ≡ rows_after_upgrade old user password salt answer → AnswersLineOver old line after (line_reply answer (upgrade_word answer))
+  pub upgrade_answered : (user salt password : List ℕ) (after : Rows) (answer : Result Bool FileError)
+      → Asks line (of.Upgrade user salt password)
+      → IsAnswer (upgrade_answer (text_in old user) password salt) (upgrade_may_lack (text_in old user) password salt)
+      answer
+      → after ≡ rows_after_upgrade old user password salt answer
+      → AnswersLineOver old line after (line_reply answer (upgrade_word answer))
   upgrade_answered user salt password after answer asks (inl is) rows =
       let known : is_want answer ≡ false = ap is_want is ∙ upgrade_known (text_in old user) password salt in
-      let word : table_reply old line ≡ Says (upgrade_word answer) = reply_is old line _ asks.0 asks.1 ∙ ap (λ (a : Result Bool FileError). Says (upgrade_word a)) (sym is) in
+      let word : table_reply old line ≡ Says (upgrade_word answer) =
+      reply_is old line _ asks.0 asks.1 ∙ ap (λ (a : Result Bool FileError). Says (upgrade_word a)) (sym is) in
       says answer (upgrade_word answer) after known word (rows ∙ upgrade_next user salt password answer asks.1)
   upgrade_answered user salt password after answer asks (inr (want, may)) rows =
       let same : after ≡ old = rows ∙ ap (rows_after_upgrade old user password salt) want in
@@ -160,10 +184,12 @@ module _ (old : Rows) (line : List ℕ) where
       let none : change_of (of.command line) (Lists old) ≡ None = rw asks.1 refl in
       (sym is, sym (after_is (Lists old) is ∙ ap (changed old) none))
 
-  word_answered : (word : Word) → table_reply old line ≡ Says word → is_done (Says word) ≡ false → is_upgraded (Says word) ≡ false → AnswersLineOver old line old (Some (replies.Word word))
+  word_answered : (word : Word) → table_reply old line ≡ Says word → is_done (Says word) ≡ false
+      → is_upgraded (Says word) ≡ false → AnswersLineOver old line old (Some (replies.Word word))
   word_answered word is a b = (sym is, stays word a b ∙ sym (after_is (Says word) is))
 
-  pub bad_answered : length line ≤ 8192 → of.command line ≡ None → AnswersLineOver old line old (Some (replies.Word BadCommand))
+  pub bad_answered : length line ≤ 8192 → of.command line ≡ None
+      → AnswersLineOver old line old (Some (replies.Word BadCommand))
   bad_answered short none = word_answered BadCommand (reply_is old line None short none) refl refl
 
   pub long_answered : 8192 < length line → AnswersLineOver old line old (Some (replies.Word TooLong))

@@ -1,6 +1,8 @@
 -- What the calls of the table rest on.
-use Rattle.std.proofs.Common.{◌≡◌, ◌⊎◌, ℕ, suc, ◌+◌, ◌≤◌, ◌<◌, Bool, true, false, List, [], ◌∷◌, ◌++◌, length, cond, refl, sym, ap, ◌∙◌, arith, inl, inr, Option, Some, None, Result, Ok, Err, Bor}
-use Rattle.std.specs.Prelude.{◌&&◌, ◌||◌, MatchOption, String, string_bytes, codes, is_ok, is_some, nat_le, nat_lt, not, unwrap_or, ◌^◌, if◌then◌else◌}
+use Rattle.std.proofs.Common.{◌≡◌, ◌⊎◌, ℕ, suc, ◌+◌, ◌≤◌, ◌<◌, Bool, true, false, List, [], ◌∷◌, ◌++◌, length, cond}
+use Rattle.std.proofs.Common.{refl, sym, ap, ◌∙◌, arith, inl, inr, Option, Some, None, Result, Ok, Err, Bor}
+use Rattle.std.specs.Prelude.{◌&&◌, ◌||◌, MatchOption, String, string_bytes, codes, is_ok, is_some, nat_le, nat_lt, not}
+use Rattle.std.specs.Prelude.{unwrap_or, ◌^◌, if◌then◌else◌}
 use Rattle.std.specs.Option.{option_map}
 use Rattle.std.specs.List.{after_first, before_first, list_any, position_or_len}
 use Rattle.std.specs.Str.{is_utf8}
@@ -22,7 +24,8 @@ use Rattle.stored_check.specs.declared.error.StoredError.{StoredError}
 use Rattle.stored_check.specs.declared.error.StoredError.TheVariants as stored
 use Rattle.scrypt_plain.specs.Profile.{accepted, key, needs_memory}
 use Rattle.pw_file.specs.Verdicts.{fresh, fresh_key, verdict_on}
-use Rattle.pw_file.specs.Answers.{IsAnswer, bad_text, check_answer, check_may_lack, checked, first_fault, has_room, set_fault, unless, upgrade_answer, is_match, upgrade_may_lack}
+use Rattle.pw_file.specs.Answers.{IsAnswer, bad_text, check_answer, check_may_lack, checked, first_fault, has_room}
+use Rattle.pw_file.specs.Answers.{set_fault, unless, upgrade_answer, is_match, upgrade_may_lack}
 use Rattle.pw_file.specs.Commands.{by_cut, command, cut_at_tab, is_tab}
 use Rattle.pw_file.specs.History.{Rows, text_in}
 use Rattle.pw_file.specs.Table.{rows_of}
@@ -39,9 +42,11 @@ past_feed b false n m is h = (refl, omega (arith, h))
 
 no_tab : (s : List ℕ) → position_or_len is_tab s ≡ length s → list_any is_tab s ≡ false
 no_tab [] h = refl
-no_tab (b ∷ s) h = let parts = past_feed b (is_tab b) (position_or_len is_tab s) (length s) refl h in rw (parts.0) (no_tab s parts.1)
+no_tab (b ∷ s) h = let parts = past_feed b (is_tab b) (position_or_len is_tab s) (length s) refl h in
+    rw (parts.0) (no_tab s parts.1)
 
-tab_cases : (b : ℕ) (t : Bool) (s : List ℕ) → cond (not t) (1 + position_or_len is_tab s) 0 < suc (length s) → (position_or_len is_tab s < length s → list_any is_tab s ≡ true) → (t || list_any is_tab s) ≡ true
+tab_cases : (b : ℕ) (t : Bool) (s : List ℕ) → cond (not t) (1 + position_or_len is_tab s) 0 < suc (length s)
+    → (position_or_len is_tab s < length s → list_any is_tab s ≡ true) → (t || list_any is_tab s) ≡ true
 tab_cases b true s h rest = refl
 tab_cases b false s h rest = rest (omega (arith, h))
 
@@ -50,7 +55,9 @@ some_tab [] h = absurd (omega (arith, h))
 some_tab (b ∷ s) h = tab_cases b (is_tab b) s h (some_tab s)
 
 pub split_is : (s : List ℕ) (r : Option (Bor (List ℕ) × Bor (List ℕ)))
-    → MatchOption r (position_or_len is_tab s ≡ length s) (λ x. (x.0.now ≡ before_first is_tab s) × (x.1.now ≡ after_first is_tab s) × (position_or_len is_tab s < length s))
+    → MatchOption r (position_or_len is_tab s ≡ length s)
+    (λ x. (x.0.now ≡ before_first is_tab s) × (x.1.now ≡ after_first is_tab s)
+    × (position_or_len is_tab s < length s))
     → option_map (λ (cut : Bor (List ℕ) × Bor (List ℕ)). (cut.0.now, cut.1.now)) r ≡ cut_at_tab s
 split_is s None h = rw (no_tab s h) refl
 split_is s (Some x) h = rw (some_tab s h.2, h.0, h.1) refl
@@ -70,18 +77,23 @@ is_some_map f None = refl
 is_some_map f (Some a) = refl
 
 -- there is room for the entry
-pub put_room : {A : Type 0} (entries : List (List ℕ × String A)) (rows : Rows) (user : List ℕ) (text : String A) → rows_of entries ≡ rows → has_room (text_in rows user) (length rows) ≡ true
+pub put_room : {A : Type 0} (entries : List (List ℕ × String A)) (rows : Rows) (user : List ℕ) (text : String A)
+    → rows_of entries ≡ rows → has_room (text_in rows user) (length rows) ≡ true
     → length entries ≤ 4096 → length (insert_entry same_text entries user text) ≤ 4096
 put_room entries rows user text is room few =
     let size : length rows ≡ length entries = ap length (sym is) ∙ rows_length entries in
-    let more = set_few rows user (string_bytes text) (text_in rows user) (length rows) refl refl room (omega (arith, size, few)) in
-    let same : length (insert_entry same_text entries user text) ≡ length (insert_entry same_text rows user (string_bytes text)) =
-    sym (rows_length (insert_entry same_text entries user text)) ∙ ap length (rows_inserted entries user text) ∙ ap (λ (r : Rows). length (insert_entry same_text r user (string_bytes text))) is in
+    let more = set_few rows user (string_bytes text) (text_in rows user) (length rows) refl refl room
+    (omega (arith, size, few)) in
+    let same : length (insert_entry same_text entries user text)
+    ≡ length (insert_entry same_text rows user (string_bytes text)) =
+    sym (rows_length (insert_entry same_text entries user text)) ∙ ap length (rows_inserted entries user text)
+    ∙ ap (λ (r : Rows). length (insert_entry same_text r user (string_bytes text))) is in
     omega (arith, more, same)
 
 -- ---- set
 
-room_cases : (a : Bool) (b : Option mcf_error.Error) (c : Bool) → None ≡ first_fault (unless a refused.TextTooLong ∷ (bad_text b ∷ (unless c refused.Full ∷ []))) → c ≡ true
+room_cases : (a : Bool) (b : Option mcf_error.Error) (c : Bool)
+    → None ≡ first_fault (unless a refused.TextTooLong ∷ (bad_text b ∷ (unless c refused.Full ∷ []))) → c ≡ true
 room_cases true None true h = refl
 room_cases true None false h = absurd cc
 room_cases true (Some e) c h = absurd cc
@@ -99,7 +111,8 @@ checked_ok : (r : Result Bool StoredError) (b : Bool) → Ok b ≡ checked r →
 checked_ok (Ok x) b h = refl
 checked_ok (Err e) b h = absurd cc
 
-length_cases : (t : Bool) (rest : Result Bool StoredError) → is_ok (if t then Err stored.PasswordTooLong else rest) ≡ true → t ≡ false
+length_cases : (t : Bool) (rest : Result Bool StoredError)
+    → is_ok (if t then Err stored.PasswordTooLong else rest) ≡ true → t ≡ false
 length_cases false rest h = refl
 length_cases true rest h = absurd (false≢true h)
 
@@ -109,7 +122,8 @@ verdict_short password text h =
     let test = length_cases (nat_lt 4096 (length password)) (text_answer accepted key password (mcf.mcf text)) h in
     grind (arith, nat_tests, test)
 
-answer_short : (had : Option (List ℕ)) (password : List ℕ) (b : Bool) → Ok b ≡ check_answer had password → length password ≤ 4096
+answer_short : (had : Option (List ℕ)) (password : List ℕ) (b : Bool) → Ok b ≡ check_answer had password
+    → length password ≤ 4096
 answer_short None password b h = absurd cc
 answer_short (Some text) password b h = verdict_short password text (checked_ok (verdict_on password text) b h)
 
@@ -117,13 +131,15 @@ ok_is_no_error : (b : Bool) (e : FileError) → Ok b ≡ Err e → ⊥
 ok_is_no_error b e h = cc
 
 -- a password that was checked has at most 4,096 bytes
-pub checked_short : (had : Option (List ℕ)) (password : List ℕ) (b : Bool) → IsAnswer (check_answer had password) (check_may_lack had password) (Ok b) → length password ≤ 4096
+pub checked_short : (had : Option (List ℕ)) (password : List ℕ) (b : Bool)
+    → IsAnswer (check_answer had password) (check_may_lack had password) (Ok b) → length password ≤ 4096
 checked_short had password b (inl h) = answer_short had password b h
 checked_short had password b (inr h) = absurd (ok_is_no_error b refused.OutOfMemory h.0)
 
 -- ---- upgrade
 
-pub upgrade_is : (had : Option (List ℕ)) (password salt : List ℕ) → salt_fault salt ≡ None → upgrade_answer had password salt ≡ check_answer had password
+pub upgrade_is : (had : Option (List ℕ)) (password salt : List ℕ) → salt_fault salt ≡ None
+    → upgrade_answer had password salt ≡ check_answer had password
 upgrade_is None password salt good = refl
 upgrade_is (Some text) password salt good = rw good refl
 
@@ -131,30 +147,42 @@ checked_is_ok : (r : Result Bool StoredError) → is_ok (checked r) ≡ is_ok r
 checked_is_ok (Ok b) = refl
 checked_is_ok (Err e) = refl
 
-lack_is_ok : (had : Option (List ℕ)) (password : List ℕ) → check_may_lack had password ≡ true → is_ok (check_answer had password) ≡ true
+lack_is_ok : (had : Option (List ℕ)) (password : List ℕ) → check_may_lack had password ≡ true
+    → is_ok (check_answer had password) ≡ true
 unfolding may_lack_memory
 lack_is_ok None password h = absurd (false≢true h)
 lack_is_ok (Some text) password h =
-    checked_is_ok (verdict_on password text) ∙ (and_parts (is_ok (verdict_on password text)) (text_needs needs_memory (mcf.mcf text)) h).0
+    checked_is_ok (verdict_on password text)
+    ∙ (and_parts (is_ok (verdict_on password text)) (text_needs needs_memory (mcf.mcf text)) h).0
 
 or_later : (a b c : Bool) → b ≡ true → c ≡ true → (a || (b && c)) ≡ true
 or_later true b c hb hc = refl
 or_later false b c hb hc = rw (hb, hc) refl
 
 -- an answer of the check is one of the upgrade, where the salt is one
-pub upgrade_as_check : (had : Option (List ℕ)) (password salt : List ℕ) (answer : Result Bool FileError) → salt_fault salt ≡ None
-    → IsAnswer (check_answer had password) (check_may_lack had password) answer → IsAnswer (upgrade_answer had password salt) (upgrade_may_lack had password salt) answer
+pub upgrade_as_check : (had : Option (List ℕ)) (password salt : List ℕ) (answer : Result Bool FileError)
+    → salt_fault salt ≡ None
+    → IsAnswer (check_answer had password) (check_may_lack had password) answer
+    → IsAnswer (upgrade_answer had password salt) (upgrade_may_lack had password salt) answer
 upgrade_as_check had password salt answer good (inl h) = inl (h ∙ sym (upgrade_is had password salt good))
 upgrade_as_check had password salt answer good (inr h) =
-    inr (h.0, or_later (is_match (upgrade_answer had password salt)) (is_ok (upgrade_answer had password salt)) (check_may_lack had password) (ap is_ok (upgrade_is had password salt good) ∙ lack_is_ok had password h.1) h.1)
+    inr (
+      h.0,
+      or_later (is_match (upgrade_answer had password salt)) (is_ok (upgrade_answer had password salt))
+          (check_may_lack had password)
+          (ap is_ok (upgrade_is had password salt good) ∙ lack_is_ok had password h.1) h.1,
+    )
 
 -- where the text matched, the answer is that it did, or want of memory
-pub upgrade_done : (had : Option (List ℕ)) (password salt : List ℕ) (answer : Result Bool FileError) → salt_fault salt ≡ None
-    → IsAnswer (check_answer had password) (check_may_lack had password) (Ok true) → (answer ≡ Ok true) ⊎ (answer ≡ Err refused.OutOfMemory)
+pub upgrade_done : (had : Option (List ℕ)) (password salt : List ℕ) (answer : Result Bool FileError)
+    → salt_fault salt ≡ None
+    → IsAnswer (check_answer had password) (check_may_lack had password) (Ok true)
+    → (answer ≡ Ok true) ⊎ (answer ≡ Err refused.OutOfMemory)
     → IsAnswer (upgrade_answer had password salt) (upgrade_may_lack had password salt) answer
 upgrade_done had password salt answer good (inl h) (inl done) = inl (done ∙ h ∙ sym (upgrade_is had password salt good))
 upgrade_done had password salt answer good (inl h) (inr want) =
-    let matched : is_match (upgrade_answer had password salt) ≡ true = ap is_match (upgrade_is had password salt good ∙ sym h) in
+    let matched : is_match (upgrade_answer had password salt) ≡ true =
+    ap is_match (upgrade_is had password salt good ∙ sym h) in
     inr (want, rw matched refl)
 upgrade_done had password salt answer good (inr h) r = absurd (ok_is_no_error true refused.OutOfMemory h.0)
 
@@ -166,7 +194,8 @@ salt_cases t s (Some e) h = absurd cc
 pub salt_read : (t s : List ℕ) → Ok s ≡ salt_text_or_fault t → (salt_fault t ≡ None) × (s ≡ t)
 salt_read t s h = salt_cases t s (salt_fault t) h
 
-salt_fault_cases : (t : List ℕ) (e : phc_error.Error) (fault : Option phc_error.Error) → Err e ≡ value_or_fault t fault → fault ≡ Some e
+salt_fault_cases : (t : List ℕ) (e : phc_error.Error) (fault : Option phc_error.Error) → Err e ≡ value_or_fault t fault
+    → fault ≡ Some e
 salt_fault_cases t e None h = absurd cc
 salt_fault_cases t e (Some x) h = cc
 
@@ -176,19 +205,26 @@ salt_refused t e h = salt_fault_cases t e (salt_fault t) h
 -- ---- the new text
 
 -- the encoding of 32 bytes has room
-pub key_fits : (bytes : List ℕ) (n : ℕ) → EachBelow 256 bytes → length bytes ≡ 32 → 43 ≤ n → ((longest_input < length bytes) ⊎ (n < length (encoding bytes))) → ⊥
+pub key_fits : (bytes : List ℕ) (n : ℕ) → EachBelow 256 bytes → length bytes ≡ 32 → 43 ≤ n
+    → ((longest_input < length bytes) ⊎ (n < length (encoding bytes))) → ⊥
 key_fits bytes n small size room (inl long) = omega (arith, long, size)
 key_fits bytes n small size room (inr short) = omega (arith, encoded_length bytes small, short, size, room)
 
 -- the text by its parts
-pub fresh_text : (password salt salt_is bytes a b c d : List ℕ) → decoding salt ≡ Some salt_is → bytes ≡ scrypt password salt_is (2 ^ 14) 8 1 32
-    → a ≡ codes "$scrypt$ln=14,r=8,p=1$" → b ≡ a ++ salt → c ≡ b ++ codes "$" → d ≡ c ++ encoding bytes → d ≡ fresh password salt
+pub fresh_text : (password salt salt_is bytes a b c d : List ℕ) → decoding salt ≡ Some salt_is
+    → bytes ≡ scrypt password salt_is (2 ^ 14) 8 1 32
+    → a ≡ codes "$scrypt$ln=14,r=8,p=1$" → b ≡ a ++ salt → c ≡ b ++ codes "$" → d ≡ c ++ encoding bytes
+    → d ≡ fresh password salt
 unfolding fresh
 fresh_text password salt salt_is bytes a b c d decodes key_is first second third fourth =
-    let whole : d ≡ ((codes "$scrypt$ln=14,r=8,p=1$" ++ salt) ++ codes "$") ++ encoding bytes = rw (fourth, third, second, first) refl in
-    let grouped : ((codes "$scrypt$ln=14,r=8,p=1$" ++ salt) ++ codes "$") ++ encoding bytes ≡ codes "$scrypt$ln=14,r=8,p=1$" ++ (salt ++ 36 ∷ encoding bytes) =
-    append_assoc (codes "$scrypt$ln=14,r=8,p=1$" ++ salt) (codes "$") (encoding bytes) ∙ append_assoc (codes "$scrypt$ln=14,r=8,p=1$") salt (codes "$" ++ encoding bytes) in
-    let bytes_are : bytes ≡ fresh_key password salt = key_is ∙ ap (λ (o : Option (List ℕ)). scrypt password (unwrap_or o []) (2 ^ 14) 8 1 32) (sym decodes) in
+    let whole : d ≡ ((codes "$scrypt$ln=14,r=8,p=1$" ++ salt) ++ codes "$") ++ encoding bytes =
+    rw (fourth, third, second, first) refl in
+    let grouped : ((codes "$scrypt$ln=14,r=8,p=1$" ++ salt) ++ codes "$") ++ encoding bytes
+    ≡ codes "$scrypt$ln=14,r=8,p=1$" ++ (salt ++ 36 ∷ encoding bytes) =
+    append_assoc (codes "$scrypt$ln=14,r=8,p=1$" ++ salt) (codes "$") (encoding bytes)
+    ∙ append_assoc (codes "$scrypt$ln=14,r=8,p=1$") salt (codes "$" ++ encoding bytes) in
+    let bytes_are : bytes ≡ fresh_key password salt =
+    key_is ∙ ap (λ (o : Option (List ℕ)). scrypt password (unwrap_or o []) (2 ^ 14) 8 1 32) (sym decodes) in
     whole ∙ grouped ∙ ap (λ (k : List ℕ). codes "$scrypt$ln=14,r=8,p=1$" ++ (salt ++ 36 ∷ encoding k)) bytes_are
 
 same_value : (a b : Bool) → ◌≡◌ {A = Result Bool FileError} (Ok a) (Ok b) → a ≡ b

@@ -1,5 +1,6 @@
 -- The reply to a line, and the output of an input.
-use Rattle.std.specs.Prelude.{ℕ, Bool, true, false, List, [], ◌∷◌, ◌++◌, length, nat_lt, map, fold, codes, Option, None, Some, unwrap_or, Result, Ok, Err, is_ok, if◌then◌else◌}
+use Rattle.std.specs.Prelude.{ℕ, Bool, true, false, List, [], ◌∷◌, ◌++◌, length, nat_lt, map, fold, codes, Option, None}
+use Rattle.std.specs.Prelude.{Some, unwrap_or, Result, Ok, Err, is_ok, if◌then◌else◌}
 use Rattle.std.specs.List.{flat_map}
 use Rattle.line_io.specs.Lines.{lines}
 use Rattle.pw_file.specs.Answers.{set_answer, check_answer, upgrade_answer, check_may_lack, upgrade_may_lack}
@@ -10,7 +11,8 @@ use Rattle.pw_file.specs.History.{Says, Lists}
 use Rattle.pw_file.specs.declared.error.FileError.{FileError}
 use Rattle.pw_file.specs.declared.error.FileError.TheVariants as refused
 use Rattle.pw_file.specs.declared.reply.Word.{Word}
-use Rattle.pw_file.specs.declared.reply.Word.TheVariants.{TooLong, BadCommand, Done, TextLong, BadText, Full, NoUser, BadSalt, Invalid, Match, Mismatch, Upgraded}
+use Rattle.pw_file.specs.declared.reply.Word.TheVariants.{TooLong, BadCommand, Done, TextLong, BadText, Full, NoUser}
+use Rattle.pw_file.specs.declared.reply.Word.TheVariants.{BadSalt, Invalid, Match, Mismatch, Upgraded}
 
 -- ---- words
 
@@ -72,7 +74,8 @@ abbrev pub reply_by : (List ℕ → Option (List ℕ)) → ℕ → Rows → Opti
 reply_by had users listed None = Says BadCommand
 reply_by had users listed (Some (of.Set user new)) = Says (set_word (set_answer (had user) users new))
 reply_by had users listed (Some (of.Check user password)) = Says (check_word (check_answer (had user) password))
-reply_by had users listed (Some (of.Upgrade user salt password)) = Says (upgrade_word (upgrade_answer (had user) password salt))
+reply_by had users listed (Some (of.Upgrade user salt password)) =
+    Says (upgrade_word (upgrade_answer (had user) password salt))
 reply_by had users listed (Some of.Listing) = Lists listed
 
 abbrev pub reply_to : History → Option Command → Reply

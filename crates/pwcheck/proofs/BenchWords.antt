@@ -17,15 +17,19 @@ second (a ∷ b ∷ words) = b
 second (a ∷ []) = []
 second [] = []
 
-pub one_number : (verb : List ℕ) (least most n m : ℕ) (words : List (List ℕ)) → most < 2 ^ 64 → IsNumbered verb least most n words → IsNumbered verb least most m words → n ≡ m
+pub one_number : (verb : List ℕ) (least most n m : ℕ) (words : List (List ℕ)) → most < 2 ^ 64
+    → IsNumbered verb least most n words → IsNumbered verb least most m words → n ≡ m
 unfolding second
 one_number verb least most n m words small hn hm =
     let same : decimal n ≡ decimal m = ap second (sym hn.2 ∙ hm.2) in
-    sym (digits_value-decimal own n (omega (arith, hn.1, small))) ∙ ap (number_after 0) same ∙ digits_value-decimal own m (omega (arith, hm.1, small))
+    sym (digits_value-decimal own n (omega (arith, hn.1, small))) ∙ ap (number_after 0) same
+    ∙ digits_value-decimal own m (omega (arith, hm.1, small))
 
 -- what was done for the number that was found
-pub bench_outcome : (n m status : ℕ) (words : List (List ℕ)) (written written_now : Option (List ℕ)) → IsBench n words → IsBench m words
-    → (status ≡ 0) ⊎ ((status ≡ 4) ⊎ (status ≡ 5)) → (status ≡ 0 → Appends written written_now (summary m)) → (status ≡ 4 → AppendsPrefix written written_now (summary m))
+pub bench_outcome : (n m status : ℕ) (words : List (List ℕ)) (written written_now : Option (List ℕ)) → IsBench n words
+    → IsBench m words
+    → (status ≡ 0) ⊎ ((status ≡ 4) ⊎ (status ≡ 5)) → (status ≡ 0 → Appends written written_now (summary m))
+    → (status ≡ 4 → AppendsPrefix written written_now (summary m))
     → BenchOutcome n status written written_now
 bench_outcome n m status words written written_now hn hm statuses done part =
     let same : m ≡ n = one_number (codes "bench") 1 2000 m n words (omega arith) hm hn in

@@ -1,5 +1,6 @@
 -- Runs that keep their input whole.
-use Rattle.std.proofs.Common.{◌≡◌, ◌≢◌, ℕ, ◌<◌, ◌≤◌, List, [], ◌∷◌, ◌++◌, length, drop, refl, sym, ap, ◌∙◌, subst, arith, Option, None, Some}
+use Rattle.std.proofs.Common.{◌≡◌, ◌≢◌, ℕ, ◌<◌, ◌≤◌, List, [], ◌∷◌, ◌++◌, length, drop, refl, sym, ap, ◌∙◌, subst}
+use Rattle.std.proofs.Common.{arith, Option, None, Some}
 use Rattle.std.specs.Io.KnownBytes.{Consumes, Appends, IsAtEnd}
 use Rattle.std.proofs.lemmas.List.{append-nil, length-append, nil_from_length}
 use Rattle.line_io.specs.Devices.{WhereTold, AppendsPrefix}
@@ -22,11 +23,14 @@ use Rattle.pwcheck.specs.Streams.{Wraps, Unwraps, KeptOutcome}
 -- ---- outcomes
 
 -- nothing is written, as the input isn't there whole, or memory is wanting
-pub kept_stopped : (Gives : List ℕ → List ℕ → Type 0) (status max : ℕ) (a b c d : Option (List ℕ)) (taken : List ℕ) → Consumes a b taken → d ≡ c → 3 ≤ status → status ≤ 6 → status ≢ 4 → (status ≡ 6 → max < length taken)
+pub kept_stopped : (Gives : List ℕ → List ℕ → Type 0) (status max : ℕ) (a b c d : Option (List ℕ)) (taken : List ℕ)
+    → Consumes a b taken → d ≡ c → 3 ≤ status → status ≤ 6 → status ≢ 4 → (status ≡ 6 → max < length taken)
     → WhereTold a b c d (λ held taken added. KeptOutcome Gives status max held taken added)
 kept_stopped Gives status max a b c d taken took same low high other over =
-    subst (λ (e : Option (List ℕ)). WhereTold a b c e (λ held taken added. KeptOutcome Gives status max held taken added)) (sym same)
-    (where_told a b c c taken [] (λ held taken added. KeptOutcome Gives status max held taken added) took (appends_none c) (λ held rest is sum. record {
+    subst (λ (e : Option (List ℕ)).
+    WhereTold a b c e (λ held taken added. KeptOutcome Gives status max held taken added)) (sym same)
+    (where_told a b c c taken [] (λ held taken added. KeptOutcome Gives status max held taken added) took
+    (appends_none c) (λ held rest is sum. record {
       done = λ e. absurd (omega (arith, e, low));
       write_fault = λ e. absurd (other e);
       budget = λ e. omega (arith, over e, ap length sum, length-append taken rest);
@@ -35,7 +39,8 @@ kept_stopped Gives status max a b c d taken took same low high other over =
     }))
 
 -- what was taken is what was held
-all_held : (b : Option (List ℕ)) (held taken rest : List ℕ) → IsAtEnd b → b ≡ Some rest → held ≡ taken ++ rest → taken ≡ held
+all_held : (b : Option (List ℕ)) (held taken rest : List ℕ) → IsAtEnd b → b ≡ Some rest → held ≡ taken ++ rest
+    → taken ≡ held
 all_held None held taken rest end is sum = absurd (wrong is)
   where
     wrong : None ≡ Some rest → ⊥
@@ -45,10 +50,12 @@ all_held (Some xs) held taken rest end is sum =
     sym (sum ∙ ap (λ (l : List ℕ). taken ++ l) none ∙ append-nil taken)
 
 -- all is written
-pub kept_done : (Gives : List ℕ → List ℕ → Type 0) (max : ℕ) (a b c d : Option (List ℕ)) (input output : List ℕ) → Consumes a b input → IsAtEnd b → length input ≤ max → Appends c d output → Gives input output
+pub kept_done : (Gives : List ℕ → List ℕ → Type 0) (max : ℕ) (a b c d : Option (List ℕ)) (input output : List ℕ)
+    → Consumes a b input → IsAtEnd b → length input ≤ max → Appends c d output → Gives input output
     → WhereTold a b c d (λ held taken added. KeptOutcome Gives 0 max held taken added)
 kept_done Gives max a b c d input output took end within wrote gives =
-    where_told a b c d input output (λ held taken added. KeptOutcome Gives 0 max held taken added) took wrote (λ held rest is sum.
+    where_told a b c d input output (λ held taken added. KeptOutcome Gives 0 max held taken added) took wrote
+    (λ held rest is sum.
     let all = all_held b held input rest end is sum in record {
       done = λ _. (omega (arith, ap length all), all, subst (λ (l : List ℕ). Gives l output) all gives);
       write_fault = λ e. absurd (omega (arith, e));
@@ -58,29 +65,42 @@ kept_done Gives max a b c d input output took end within wrote gives =
     })
 
 -- a write failed
-pub kept_fault : (Gives : List ℕ → List ℕ → Type 0) (max : ℕ) (a b c d : Option (List ℕ)) (input output : List ℕ) → Consumes a b input → IsAtEnd b → length input ≤ max → AppendsPrefix c d output → Gives input output
+pub kept_fault : (Gives : List ℕ → List ℕ → Type 0) (max : ℕ) (a b c d : Option (List ℕ)) (input output : List ℕ)
+    → Consumes a b input → IsAtEnd b → length input ≤ max → AppendsPrefix c d output → Gives input output
     → WhereTold a b c d (λ held taken added. KeptOutcome Gives 4 max held taken added)
 kept_fault Gives max a b c d input output took end within (part, rest_out, whole, wrote) gives =
-    where_told a b c d input part (λ held taken added. KeptOutcome Gives 4 max held taken added) took wrote (λ held rest is sum.
+    where_told a b c d input part (λ held taken added. KeptOutcome Gives 4 max held taken added) took wrote
+    (λ held rest is sum.
     let all = all_held b held input rest end is sum in record {
       done = λ e. absurd (omega (arith, e));
-      write_fault = λ _. (omega (arith, ap length all), all, (output, subst (λ (l : List ℕ). Gives l output) all gives, (rest_out, whole)));
+      write_fault = λ _. (
+        omega (arith, ap length all),
+        all,
+        (output, subst (λ (l : List ℕ). Gives l output) all gives, (rest_out, whole)),
+      );
       budget = λ e. absurd (omega (arith, e));
       no_output = λ e. absurd (omega (arith, e));
       nothing = λ _ no_fault. absurd (no_fault refl);
     })
 
 -- the input has no output
-pub kept_none : (Gives : List ℕ → List ℕ → Type 0) (max : ℕ) (a b c d : Option (List ℕ)) (input : List ℕ) → Consumes a b input → IsAtEnd b → length input ≤ max → d ≡ c → ((output : List ℕ) → Gives input output → ⊥)
+pub kept_none : (Gives : List ℕ → List ℕ → Type 0) (max : ℕ) (a b c d : Option (List ℕ)) (input : List ℕ)
+    → Consumes a b input → IsAtEnd b → length input ≤ max → d ≡ c → ((output : List ℕ) → Gives input output → ⊥)
     → WhereTold a b c d (λ held taken added. KeptOutcome Gives 7 max held taken added)
 kept_none Gives max a b c d input took end within same none =
-    subst (λ (e : Option (List ℕ)). WhereTold a b c e (λ held taken added. KeptOutcome Gives 7 max held taken added)) (sym same)
-    (where_told a b c c input [] (λ held taken added. KeptOutcome Gives 7 max held taken added) took (appends_none c) (λ held rest is sum.
+    subst (λ (e : Option (List ℕ)). WhereTold a b c e (λ held taken added. KeptOutcome Gives 7 max held taken added))
+    (sym same)
+    (where_told a b c c input [] (λ held taken added. KeptOutcome Gives 7 max held taken added) took (appends_none c)
+    (λ held rest is sum.
     let all = all_held b held input rest end is sum in record {
       done = λ e. absurd (omega (arith, e));
       write_fault = λ e. absurd (omega (arith, e));
       budget = λ e. absurd (omega (arith, e));
-      no_output = λ _. (omega (arith, ap length all), all, λ output gives. none output (subst (λ (l : List ℕ). Gives l output) (sym all) gives));
+      no_output = λ _. (
+        omega (arith, ap length all),
+        all,
+        λ output gives. none output (subst (λ (l : List ℕ). Gives l output) (sym all) gives),
+      );
       nothing = λ _ _. refl;
     }))
 
@@ -89,38 +109,53 @@ kept_none Gives max a b c d input took end within same none =
 pub wraps_none : (w : ℕ) (input : List ℕ) → 4 ≤ w → length input ≡ 0 → Wraps w input []
 wraps_none w input wide e =
     let none : input ≡ [] = nil_from_length input e in
-    let nothing : encoding base64 input ≡ [] = nil_from_length (encoding base64 input) (omega (arith, ap (λ (l : List ℕ). length (encoding base64 l)) none, length-encoding base64 [] (λ i. omega arith))) in
-    sym (ap (λ (t : List ℕ). wrap t w (10 ∷ [])) nothing ∙ wrap_is w (10 ∷ []) [] (omega arith) ∙ wrap-nil w (10 ∷ []) w)
+    let nothing : encoding base64 input ≡ [] =
+    nil_from_length (encoding base64 input)
+    (omega (
+      arith,
+      ap (λ (l : List ℕ). length (encoding base64 l)) none,
+      length-encoding base64 [] (λ i. omega arith),
+    )) in
+    sym (ap (λ (t : List ℕ). wrap t w (10 ∷ [])) nothing ∙ wrap_is w (10 ∷ []) [] (omega arith)
+    ∙ wrap-nil w (10 ∷ []) w)
 
 pub unwraps_none : (w : ℕ) (input : List ℕ) → length input ≡ 0 → Unwraps w input []
 unwraps_none w [] e = refl
 unwraps_none w (c ∷ cs) e = absurd (omega arith)
 
-pub unwraps_some : (w : ℕ) (input output : List ℕ) → 0 < length input → EachBelow 256 output → Wrapped input w (encoding base64 output) → Unwraps w input output
+pub unwraps_some : (w : ℕ) (input output : List ℕ) → 0 < length input → EachBelow 256 output
+    → Wrapped input w (encoding base64 output) → Unwraps w input output
 unwraps_some w [] output some below wrapped = absurd (omega arith)
 unwraps_some w (c ∷ cs) output some below wrapped = (below, wrapped)
 
-pub unwraps_parts : (w : ℕ) (input output : List ℕ) → 0 < length input → Unwraps w input output → EachBelow 256 output × Wrapped input w (encoding base64 output)
+pub unwraps_parts : (w : ℕ) (input output : List ℕ) → 0 < length input → Unwraps w input output
+    → EachBelow 256 output × Wrapped input w (encoding base64 output)
 unwraps_parts w [] output some u = absurd (omega arith)
 unwraps_parts w (c ∷ cs) output some u = u
 
 -- a text that has an output is opened
-pub unwraps_opened : (w : ℕ) (input output : List ℕ) → 4 ≤ w → 0 < length input → Unwraps w input output → (HoldsOnlyEnds input → ⊥) × IsOpened base64 (layout input (Some w)) (encoding base64 output)
+pub unwraps_opened : (w : ℕ) (input output : List ℕ) → 4 ≤ w → 0 < length input → Unwraps w input output
+    → (HoldsOnlyEnds input → ⊥) × IsOpened base64 (layout input (Some w)) (encoding base64 output)
 unwraps_opened w input output wide some u =
     let parts = unwraps_parts w input output some u in
     let made = opened base64 refl refl input (encoding base64 output) output (Some w) wide parts.1 parts.0 refl in
     (made.0, made.1)
 
 -- what was read to the end is the output
-pub unwraps_read : (w : ℕ) (input t bytes : List ℕ) → 4 ≤ w → 0 < length input → IsOpened base64 (layout input (Some w)) t → AskedAreGood base64 t 0 (length (decoded base64 t)) → bytes ≡ decoded base64 t → Unwraps w input bytes
+pub unwraps_read : (w : ℕ) (input t bytes : List ℕ) → 4 ≤ w → 0 < length input
+    → IsOpened base64 (layout input (Some w)) t → AskedAreGood base64 t 0 (length (decoded base64 t))
+    → bytes ≡ decoded base64 t → Unwraps w input bytes
 unwraps_read w input t bytes wide some made asked is =
     let stands : Wrapped input w t = laid_stands input t (Some w) (wide_pos (Some w) wide) made.1 made.0 in
-    let e : IsEncoding base64 t = all_read base64 t (length (decoded base64 t)) refl made.1 made.2 (omega arith) asked in
+    let e : IsEncoding base64 t =
+    all_read base64 t (length (decoded base64 t)) refl made.1 made.2 (omega arith) asked in
     let same : bytes ≡ e.0 = is ∙ ap (λ (l : List ℕ). decoded base64 l) e.2 ∙ whole_is base64 e.0 refl e.1 in
-    unwraps_some w input bytes some (subst (EachBelow 256) (sym same) e.1) (subst (λ (l : List ℕ). Wrapped input w l) (e.2 ∙ ap (λ (l : List ℕ). encoding base64 l) (sym same)) stands)
+    unwraps_some w input bytes some (subst (EachBelow 256) (sym same) e.1)
+    (subst (λ (l : List ℕ). Wrapped input w l) (e.2 ∙ ap (λ (l : List ℕ). encoding base64 l) (sym same)) stands)
 
 -- where a block is bad there is none
-pub unwraps_bad : (w : ℕ) (input t output : List ℕ) (from n : ℕ) → 4 ≤ w → 0 < length input → IsOpened base64 (layout input (Some w)) t → (AskedAreGood base64 t from n → ⊥) → Unwraps w input output → ⊥
+pub unwraps_bad : (w : ℕ) (input t output : List ℕ) (from n : ℕ) → 4 ≤ w → 0 < length input
+    → IsOpened base64 (layout input (Some w)) t → (AskedAreGood base64 t from n → ⊥) → Unwraps w input output → ⊥
 unwraps_bad w input t output from n wide some made bad u =
     let parts = unwraps_parts w input output some u in
     let other = unwraps_opened w input output wide some u in
@@ -128,9 +163,12 @@ unwraps_bad w input t output from n wide some made bad u =
     bad (all_asked base64 t ((encoding_by_blocks base64 t refl).0 (output, parts.0, sym same)) from n)
 
 -- a vector to which all was appended
-pub unwraps_all : (w : ℕ) (input : List ℕ) (d : Decoded) (old new : List ℕ) → 4 ≤ w → 0 < length input → d.read ≡ 0 → IsOpened base64 (layout input (Some w)) d.text → old ≡ [] → new ≡ old ++ left base64 d
+pub unwraps_all : (w : ℕ) (input : List ℕ) (d : Decoded) (old new : List ℕ) → 4 ≤ w → 0 < length input → d.read ≡ 0
+    → IsOpened base64 (layout input (Some w)) d.text → old ≡ [] → new ≡ old ++ left base64 d
     → AskedAreGood base64 d.text d.read (length (left base64 d)) → Unwraps w input new
 unwraps_all w input d old new wide some start made none sum asked =
     let whole : left base64 d ≡ decoded base64 d.text = ap (λ (k : ℕ). drop k (decoded base64 d.text)) start in
-    let all : AskedAreGood base64 d.text 0 (length (decoded base64 d.text)) = subst (λ (l : List ℕ). AskedAreGood base64 d.text 0 (length l)) whole (subst (λ (k : ℕ). AskedAreGood base64 d.text k (length (left base64 d))) start asked) in
+    let all : AskedAreGood base64 d.text 0 (length (decoded base64 d.text)) =
+    subst (λ (l : List ℕ). AskedAreGood base64 d.text 0 (length l)) whole
+    (subst (λ (k : ℕ). AskedAreGood base64 d.text k (length (left base64 d))) start asked) in
     unwraps_read w input d.text new wide some made all (sum ∙ ap (λ (l : List ℕ). l ++ left base64 d) none ∙ whole)

@@ -1,5 +1,6 @@
 -- What an answer says of its line.
-use Rattle.std.proofs.Common.{◌≡◌, ◌≢◌, ℕ, Bool, true, false, List, [], ◌∷◌, ◌++◌, length, refl, sym, ap, append_assoc, ◌∙◌, inl, inr, Ok, Err}
+use Rattle.std.proofs.Common.{◌≡◌, ◌≢◌, ℕ, Bool, true, false, List, [], ◌∷◌, ◌++◌, length, refl, sym, ap, append_assoc}
+use Rattle.std.proofs.Common.{◌∙◌, inl, inr, Ok, Err}
 use Rattle.std.specs.Prelude.{nat_lt, if◌then◌else◌}
 use Rattle.std.specs.List.{list_any, before_last, after_last}
 use Rattle.std.specs.Str.{is_utf8}
@@ -8,7 +9,8 @@ use Rattle.stored_check.specs.declared.error.StoredError.TheVariants.{OutOfMemor
 use Rattle.stored_check.proofs.Causes.{never_memory}
 use Rattle.scrypt_plain.specs.Profile.{accepted, key}
 use Rattle.line_program.specs.PlainOutput.{is_tab}
-use Rattle.pwcheck.specs.Answer.{IsAnswer, IsTextAnswer, answer, answer_text, answer_word, counts_text, has_verdict, line_may_lack, text_answer}
+use Rattle.pwcheck.specs.Answer.{IsAnswer, IsTextAnswer, answer, answer_text, answer_word, counts_text, has_verdict}
+use Rattle.pwcheck.specs.Answer.{line_may_lack, text_answer}
 use Rattle.pwcheck.specs.declared.answer.Answer.{Answer}
 use Rattle.pwcheck.specs.declared.answer.Answer.TheVariants.{TooLong, BadLine, Checked}
 use Rattle.pwcheck.specs.declared.form.Form.{Form}
@@ -16,7 +18,8 @@ use Rattle.pwcheck.specs.declared.form.Form.TheVariants.{Plain, Counted}
 
 -- ---- from a line to its text
 
-pub of_text : (line : List ℕ) (a : Answer) → nat_lt 8192 (length line) ≡ false → is_utf8 line ≡ true → IsTextAnswer line a → IsAnswer line a
+pub of_text : (line : List ℕ) (a : Answer) → nat_lt 8192 (length line) ≡ false → is_utf8 line ≡ true
+    → IsTextAnswer line a → IsAnswer line a
 unfolding answer line_may_lack
 of_text line a short text h = rw (short, text) h
 
@@ -37,13 +40,15 @@ of_verdict : (password stored : List ℕ) → Known (Checked (verdict accepted k
 of_verdict password stored = λ h. never_memory accepted key password stored (cc h)
 
 known_text : (text : List ℕ) → Known (text_answer text)
-known_text text = by_test (list_any is_tab text) _ _ (of_verdict (before_last is_tab text) (after_last is_tab text)) (λ h. cc)
+known_text text = by_test (list_any is_tab text) _ _ (of_verdict (before_last is_tab text) (after_last is_tab text))
+    (λ h. cc)
 
 known : (line : List ℕ) → Known (answer line)
 unfolding answer
 known line = by_test (nat_lt 8192 (length line)) _ _ (λ h. cc) (by_test (is_utf8 line) _ _ (known_text line) (λ h. cc))
 
-pub lacks_memory : (line : List ℕ) (a : Answer) → IsAnswer line a → a ≡ Checked (Err OutOfMemory) → line_may_lack line ≡ true
+pub lacks_memory : (line : List ℕ) (a : Answer) → IsAnswer line a → a ≡ Checked (Err OutOfMemory)
+    → line_may_lack line ≡ true
 lacks_memory line a (inl is) h = absurd (known line (sym is ∙ h))
 lacks_memory line a (inr lacks) h = lacks.1
 
@@ -53,7 +58,8 @@ is_answer line a (inr lacks) h = absurd (h lacks.0)
 
 -- ---- counts that matter
 
-pub same_text : (form : Form) (a : Answer) (looks looks' sames sames' : ℕ) → (has_verdict a ≡ true → looks ≡ looks') → (has_verdict a ≡ true → sames ≡ sames')
+pub same_text : (form : Form) (a : Answer) (looks looks' sames sames' : ℕ) → (has_verdict a ≡ true → looks ≡ looks')
+    → (has_verdict a ≡ true → sames ≡ sames')
     → answer_text form a looks sames ≡ answer_text form a looks' sames'
 same_text Plain a looks looks' sames sames' hl hs = refl
 same_text Counted (Checked (Ok b)) looks looks' sames sames' hl hs = rw (hl refl, hs refl) refl
@@ -66,4 +72,6 @@ same_text Counted BadLine looks looks' sames sames' hl hs = refl
 pub with_counts : (form : Form) (a : Answer) (looks sames : ℕ) → form ≡ Counted → has_verdict a ≡ true
     → answer_text form a looks sames ≡ answer_word a ++ (counts_text looks sames ++ 10 ∷ [])
 with_counts Plain a looks sames is told = absurd (cc)
-with_counts Counted a looks sames is told = ap (λ (t : Bool). answer_word a ++ (if t then counts_text looks sames else []) ++ 10 ∷ []) told ∙ append_assoc (answer_word a) (counts_text looks sames) (10 ∷ [])
+with_counts Counted a looks sames is told =
+    ap (λ (t : Bool). answer_word a ++ (if t then counts_text looks sames else []) ++ 10 ∷ []) told
+    ∙ append_assoc (answer_word a) (counts_text looks sames) (10 ∷ [])

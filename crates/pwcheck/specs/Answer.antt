@@ -1,5 +1,6 @@
 -- What a line of a password file is answered with.
-use Rattle.std.specs.Prelude.{◌≡◌, ◌⊎◌, ℕ, Bool, true, false, List, [], ◌∷◌, ◌++◌, length, nat_lt, ◌&&◌, codes, if◌then◌else◌, Ok, Err}
+use Rattle.std.specs.Prelude.{◌≡◌, ◌⊎◌, ℕ, Bool, true, false, List, [], ◌∷◌, ◌++◌, length, nat_lt, ◌&&◌, codes}
+use Rattle.std.specs.Prelude.{if◌then◌else◌, Ok, Err}
 use Rattle.std.specs.Fmt.{decimal}
 use Rattle.std.specs.List.{list_any, before_last, after_last}
 use Rattle.std.specs.Str.{is_utf8}
@@ -41,7 +42,8 @@ has_verdict BadLine = false
 -- that it has none
 abbrev pub text_answer : List ℕ → Answer
 text_answer text =
-    if list_any is_tab text then Checked (verdict accepted key (before_last is_tab text) (after_last is_tab text)) else BadLine
+    if list_any is_tab text then Checked (verdict accepted key (before_last is_tab text) (after_last is_tab text)) else
+    BadLine
 
 -- The answer of a line, by the first that holds: more than 8,192 bytes; no UTF-8; no tab; else by its verdict.
 unfoldable pub answer : List ℕ → Answer

@@ -1,5 +1,6 @@
 -- The lines that `bench` makes and checks, and what it writes.
-use Rattle.std.specs.Prelude.{ℕ, zero, suc, ◌+◌, ◌%◌, ◌^◌, ◌==◌, Bool, true, false, not, List, [], ◌∷◌, ◌++◌, replicate, codes, if◌then◌else◌, Some, None, Result, Ok, Err}
+use Rattle.std.specs.Prelude.{ℕ, zero, suc, ◌+◌, ◌%◌, ◌^◌, ◌==◌, Bool, true, false, not, List, [], ◌∷◌, ◌++◌, replicate}
+use Rattle.std.specs.Prelude.{codes, if◌then◌else◌, Some, None, Result, Ok, Err}
 use Rattle.std.specs.Fmt.{decimal}
 use Rattle.std.specs.Int.{w64, to_le_bytes}
 use Rattle.phc.specs.Record.{record_text}
@@ -93,7 +94,8 @@ others n = count_lines is_other n n
 
 abbrev pub summary_text : ℕ → ℕ → ℕ → ℕ → List ℕ
 summary_text n a b c =
-    codes "lines " ++ decimal n ++ codes " match " ++ decimal a ++ codes " mismatch " ++ decimal b ++ codes " other " ++ decimal c ++ codes "\n"
+    codes "lines " ++ decimal n ++ codes " match " ++ decimal a ++ codes " mismatch " ++ decimal b ++ codes " other "
+    ++ decimal c ++ codes "\n"
 
 unfoldable pub summary : ℕ → List ℕ
 summary n = summary_text n (matches n) (mismatches n) (others n)

@@ -1,5 +1,6 @@
 -- A key is a list of bytes.
-use Rattle.std.proofs.Common.{◌≡◌, ℕ, zero, suc, ◌+◌, ◌/◌, ◌%◌, ◌^◌, ◌<◌, List, [], ◌∷◌, ◌++◌, take, slice_index, refl, arith}
+use Rattle.std.proofs.Common.{◌≡◌, ℕ, zero, suc, ◌+◌, ◌/◌, ◌%◌, ◌^◌, ◌<◌, List, [], ◌∷◌, ◌++◌, take, slice_index, refl}
+use Rattle.std.proofs.Common.{arith}
 use Rattle.std.specs.Int.{w32, to_be_bytes, bytes_high_first, byte_at}
 use Rattle.sha2.specs.Sha256.{sha256, digest_bytes}
 use Rattle.scrypt_plain.specs.Hmac.{hmac}
@@ -30,7 +31,9 @@ number_bytes (suc k) n (suc i) = number_bytes k n i
 digest_bytes_below : (h : List ℕ) (n : ℕ) → AreBytes (digest_bytes h n)
 unfolding digest_bytes
 digest_bytes_below h zero i = omega arith
-digest_bytes_below h (suc n) i = bytes_append (digest_bytes h n) (to_be_bytes w32 (slice_index h n)) (digest_bytes_below h n) (number_bytes 4 (slice_index h n)) i
+digest_bytes_below h (suc n) i =
+    bytes_append (digest_bytes h n) (to_be_bytes w32 (slice_index h n)) (digest_bytes_below h n)
+    (number_bytes 4 (slice_index h n)) i
 
 hmac_bytes : (key text : List ℕ) → AreBytes (hmac key text)
 unfolding hmac sha256
@@ -39,8 +42,11 @@ hmac_bytes key text = digest_bytes_below _ 8
 blocks_bytes : (p s : List ℕ) (i : ℕ) → AreBytes (pbkdf2_blocks p s i)
 unfolding pbkdf2_blocks
 blocks_bytes p s zero i = omega arith
-blocks_bytes p s (suc k) i = bytes_append (pbkdf2_blocks p s k) (hmac p (s ++ to_be_bytes w32 (k + 1))) (blocks_bytes p s k) (hmac_bytes p (s ++ to_be_bytes w32 (k + 1))) i
+blocks_bytes p s (suc k) i =
+    bytes_append (pbkdf2_blocks p s k) (hmac p (s ++ to_be_bytes w32 (k + 1))) (blocks_bytes p s k)
+    (hmac_bytes p (s ++ to_be_bytes w32 (k + 1))) i
 
 -- each number of a key is below 256
 pub scrypt_bytes : (password salt : List ℕ) (n r p len : ℕ) → AreBytes (scrypt password salt n r p len)
-scrypt_bytes password salt n r p len = bytes_take len (pbkdf2_blocks password _ ((len + 31) / 32)) (blocks_bytes password _ ((len + 31) / 32))
+scrypt_bytes password salt n r p len =
+    bytes_take len (pbkdf2_blocks password _ ((len + 31) / 32)) (blocks_bytes password _ ((len + 31) / 32))

@@ -40,7 +40,8 @@ module _ (ln r p : ℕ) where
   same_tests false true there back = cc (back refl)
 
   pub test_of_bounds : (b : Bool) → (IsTrue b ↔ InBounds ln r p) → b ≡ within_bounds ln r p
-  test_of_bounds b decides = same_tests b (within_bounds ln r p) (λ h. bounds-within (decides.0 h)) (λ h. decides.1 (within-bounds h))
+  test_of_bounds b decides =
+      same_tests b (within_bounds ln r p) (λ h. bounds-within (decides.0 h)) (λ h. decides.1 (within-bounds h))
 
 -- ---- a record that is accepted
 
@@ -57,7 +58,8 @@ last_three false b c d e f h = cc
 module _ (parsed : PasswordHash) (n : ℕ) (accepted : scrypt_accepts parsed n ≡ true) where
   facts : (is_cost_in_bounds (cost_of parsed) ≡ true) × (nat_le 10 n ≡ true) × (nat_le n 64 ≡ true)
   unfolding scrypt_accepts
-  facts = last_three (pointwise nat_eq parsed.algorithm (codes "scrypt")) (is_none parsed.version) (length parsed.params == 3)
+  facts = last_three (pointwise nat_eq parsed.algorithm (codes "scrypt")) (is_none parsed.version)
+      (length parsed.params == 3)
       (is_cost_in_bounds (cost_of parsed)) (nat_le 10 n) (nat_le n 64) accepted
 
   pub accepted_cost : is_cost_in_bounds (cost_of parsed) ≡ true

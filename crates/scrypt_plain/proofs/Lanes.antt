@@ -1,5 +1,6 @@
 -- Four vectors of four words, lane by lane.
-use Rattle.std.proofs.Common.{◌≡◌, ℕ, zero, suc, ◌<◌, ◌+◌, ◌-◌, ◌*◌, ◌/◌, ◌%◌, ◌^◌, List, [], ◌∷◌, length, slice_index, get_or, Fits, w32, bit_or, bit_xor, arith, refl, sym, ap₂, subst}
+use Rattle.std.proofs.Common.{◌≡◌, ℕ, zero, suc, ◌<◌, ◌+◌, ◌-◌, ◌*◌, ◌/◌, ◌%◌, ◌^◌, List, [], ◌∷◌, length, slice_index}
+use Rattle.std.proofs.Common.{get_or, Fits, w32, bit_or, bit_xor, arith, refl, sym, ap₂, subst}
 use Rattle.std.specs.Simd.Lanes.{zip2, Each1}
 use Rattle.std.proofs.lemmas.Simd.{Each1-get_or}
 use Rattle.std.proofs.lemmas.List.{nil_from_length}
@@ -26,12 +27,16 @@ four_lanes P p (a ∷ b ∷ c ∷ []) h = absurd (omega arith)
 four_lanes P p (a ∷ b ∷ c ∷ d ∷ e ∷ xs) h = absurd (omega arith)
 
 -- a list that is not empty, by its first element and the rest
-next : (P : List ℕ → Type 0) (n : ℕ) → ((x : ℕ) (xs : List ℕ) → length xs ≡ n → P (x ∷ xs)) → (s : List ℕ) → length s ≡ n + 1 → P s
+next : (P : List ℕ → Type 0) (n : ℕ) → ((x : ℕ) (xs : List ℕ) → length xs ≡ n → P (x ∷ xs)) → (s : List ℕ)
+    → length s ≡ n + 1 → P s
 next P n p [] h = absurd (omega arith)
 next P n p (x ∷ xs) h = p x xs (omega arith)
 
 -- what holds of each list of sixteen
-pub sixteen : (P : List ℕ → Type 0) → ((x0 x1 x2 x3 x4 x5 x6 x7 x8 x9 x10 x11 x12 x13 x14 x15 : ℕ) → P (x0 ∷ x1 ∷ x2 ∷ x3 ∷ x4 ∷ x5 ∷ x6 ∷ x7 ∷ x8 ∷ x9 ∷ x10 ∷ x11 ∷ x12 ∷ x13 ∷ x14 ∷ x15 ∷ [])) → (s : List ℕ) → length s ≡ 16 → P s
+pub sixteen : (P : List ℕ → Type 0)
+    → ((x0 x1 x2 x3 x4 x5 x6 x7 x8 x9 x10 x11 x12 x13 x14 x15 : ℕ)
+    → P (x0 ∷ x1 ∷ x2 ∷ x3 ∷ x4 ∷ x5 ∷ x6 ∷ x7 ∷ x8 ∷ x9 ∷ x10 ∷ x11 ∷ x12 ∷ x13 ∷ x14 ∷ x15 ∷ [])) → (s : List ℕ)
+    → length s ≡ 16 → P s
 sixteen P p s0 h0 =
     next (λ (s : List ℕ). P (s)) 15 (λ x0 s1 h1.
     next (λ (s : List ℕ). P (x0 ∷ s)) 14 (λ x1 s2 h2.
@@ -47,24 +52,38 @@ sixteen P p s0 h0 =
     next (λ (s : List ℕ). P (x0 ∷ x1 ∷ x2 ∷ x3 ∷ x4 ∷ x5 ∷ x6 ∷ x7 ∷ x8 ∷ x9 ∷ x10 ∷ s)) 4 (λ x11 s12 h12.
     next (λ (s : List ℕ). P (x0 ∷ x1 ∷ x2 ∷ x3 ∷ x4 ∷ x5 ∷ x6 ∷ x7 ∷ x8 ∷ x9 ∷ x10 ∷ x11 ∷ s)) 3 (λ x12 s13 h13.
     next (λ (s : List ℕ). P (x0 ∷ x1 ∷ x2 ∷ x3 ∷ x4 ∷ x5 ∷ x6 ∷ x7 ∷ x8 ∷ x9 ∷ x10 ∷ x11 ∷ x12 ∷ s)) 2 (λ x13 s14 h14.
-    next (λ (s : List ℕ). P (x0 ∷ x1 ∷ x2 ∷ x3 ∷ x4 ∷ x5 ∷ x6 ∷ x7 ∷ x8 ∷ x9 ∷ x10 ∷ x11 ∷ x12 ∷ x13 ∷ s)) 1 (λ x14 s15 h15.
-    next (λ (s : List ℕ). P (x0 ∷ x1 ∷ x2 ∷ x3 ∷ x4 ∷ x5 ∷ x6 ∷ x7 ∷ x8 ∷ x9 ∷ x10 ∷ x11 ∷ x12 ∷ x13 ∷ x14 ∷ s)) 0 (λ x15 s16 h16.
-    subst (λ (s : List ℕ). P (x0 ∷ x1 ∷ x2 ∷ x3 ∷ x4 ∷ x5 ∷ x6 ∷ x7 ∷ x8 ∷ x9 ∷ x10 ∷ x11 ∷ x12 ∷ x13 ∷ x14 ∷ x15 ∷ s)) (sym (nil_from_length s16 h16)) (p x0 x1 x2 x3 x4 x5 x6 x7 x8 x9 x10 x11 x12 x13 x14 x15)) s15 h15) s14 h14) s13 h13) s12 h12) s11 h11) s10 h10) s9 h9) s8 h8) s7 h7) s6 h6) s5 h5) s4 h4) s3 h3) s2 h2) s1 h1) s0 h0
+    next (λ (s : List ℕ). P (x0 ∷ x1 ∷ x2 ∷ x3 ∷ x4 ∷ x5 ∷ x6 ∷ x7 ∷ x8 ∷ x9 ∷ x10 ∷ x11 ∷ x12 ∷ x13 ∷ s)) 1
+    (λ x14 s15 h15.
+    next (λ (s : List ℕ). P (x0 ∷ x1 ∷ x2 ∷ x3 ∷ x4 ∷ x5 ∷ x6 ∷ x7 ∷ x8 ∷ x9 ∷ x10 ∷ x11 ∷ x12 ∷ x13 ∷ x14 ∷ s)) 0
+    (λ x15 s16 h16.
+    subst (λ (s : List ℕ). P (x0 ∷ x1 ∷ x2 ∷ x3 ∷ x4 ∷ x5 ∷ x6 ∷ x7 ∷ x8 ∷ x9 ∷ x10 ∷ x11 ∷ x12 ∷ x13 ∷ x14 ∷ x15 ∷ s))
+    (sym (nil_from_length s16 h16)) (p x0 x1 x2 x3 x4 x5 x6 x7 x8 x9 x10 x11 x12 x13 x14 x15)) s15 h15) s14 h14) s13
+    h13) s12 h12) s11 h11) s10 h10) s9 h9) s8 h8) s7 h7) s6 h6) s5 h5) s4 h4) s3 h3) s2 h2) s1 h1) s0 h0
 
 -- the rounds, word by word
-column_is : (x0 x1 x2 x3 x4 x5 x6 x7 x8 x9 x10 x11 x12 x13 x14 x15 : ℕ) → column_round (x0 ∷ x1 ∷ x2 ∷ x3 ∷ x4 ∷ x5 ∷ x6 ∷ x7 ∷ x8 ∷ x9 ∷ x10 ∷ x11 ∷ x12 ∷ x13 ∷ x14 ∷ x15 ∷ [])
-    ≡ (quarter_words x0 x4 x8 x12).0 ∷ (quarter_words x5 x9 x13 x1).3 ∷ (quarter_words x10 x14 x2 x6).2 ∷ (quarter_words x15 x3 x7 x11).1
-    ∷ (quarter_words x0 x4 x8 x12).1 ∷ (quarter_words x5 x9 x13 x1).0 ∷ (quarter_words x10 x14 x2 x6).3 ∷ (quarter_words x15 x3 x7 x11).2
-    ∷ (quarter_words x0 x4 x8 x12).2 ∷ (quarter_words x5 x9 x13 x1).1 ∷ (quarter_words x10 x14 x2 x6).0 ∷ (quarter_words x15 x3 x7 x11).3
-    ∷ (quarter_words x0 x4 x8 x12).3 ∷ (quarter_words x5 x9 x13 x1).2 ∷ (quarter_words x10 x14 x2 x6).1 ∷ (quarter_words x15 x3 x7 x11).0 ∷ []
+column_is : (x0 x1 x2 x3 x4 x5 x6 x7 x8 x9 x10 x11 x12 x13 x14 x15 : ℕ)
+    → column_round (x0 ∷ x1 ∷ x2 ∷ x3 ∷ x4 ∷ x5 ∷ x6 ∷ x7 ∷ x8 ∷ x9 ∷ x10 ∷ x11 ∷ x12 ∷ x13 ∷ x14 ∷ x15 ∷ [])
+    ≡ (quarter_words x0 x4 x8 x12).0 ∷ (quarter_words x5 x9 x13 x1).3 ∷ (quarter_words x10 x14 x2 x6).2
+    ∷ (quarter_words x15 x3 x7 x11).1
+    ∷ (quarter_words x0 x4 x8 x12).1 ∷ (quarter_words x5 x9 x13 x1).0 ∷ (quarter_words x10 x14 x2 x6).3
+    ∷ (quarter_words x15 x3 x7 x11).2
+    ∷ (quarter_words x0 x4 x8 x12).2 ∷ (quarter_words x5 x9 x13 x1).1 ∷ (quarter_words x10 x14 x2 x6).0
+    ∷ (quarter_words x15 x3 x7 x11).3
+    ∷ (quarter_words x0 x4 x8 x12).3 ∷ (quarter_words x5 x9 x13 x1).2 ∷ (quarter_words x10 x14 x2 x6).1
+    ∷ (quarter_words x15 x3 x7 x11).0 ∷ []
 unfolding column_round quarter_round quarter_words xor_rotated
 column_is x0 x1 x2 x3 x4 x5 x6 x7 x8 x9 x10 x11 x12 x13 x14 x15 = refl
 
-row_is : (x0 x1 x2 x3 x4 x5 x6 x7 x8 x9 x10 x11 x12 x13 x14 x15 : ℕ) → row_round (x0 ∷ x1 ∷ x2 ∷ x3 ∷ x4 ∷ x5 ∷ x6 ∷ x7 ∷ x8 ∷ x9 ∷ x10 ∷ x11 ∷ x12 ∷ x13 ∷ x14 ∷ x15 ∷ [])
-    ≡ (quarter_words x0 x1 x2 x3).0 ∷ (quarter_words x0 x1 x2 x3).1 ∷ (quarter_words x0 x1 x2 x3).2 ∷ (quarter_words x0 x1 x2 x3).3
-    ∷ (quarter_words x5 x6 x7 x4).3 ∷ (quarter_words x5 x6 x7 x4).0 ∷ (quarter_words x5 x6 x7 x4).1 ∷ (quarter_words x5 x6 x7 x4).2
-    ∷ (quarter_words x10 x11 x8 x9).2 ∷ (quarter_words x10 x11 x8 x9).3 ∷ (quarter_words x10 x11 x8 x9).0 ∷ (quarter_words x10 x11 x8 x9).1
-    ∷ (quarter_words x15 x12 x13 x14).1 ∷ (quarter_words x15 x12 x13 x14).2 ∷ (quarter_words x15 x12 x13 x14).3 ∷ (quarter_words x15 x12 x13 x14).0 ∷ []
+row_is : (x0 x1 x2 x3 x4 x5 x6 x7 x8 x9 x10 x11 x12 x13 x14 x15 : ℕ)
+    → row_round (x0 ∷ x1 ∷ x2 ∷ x3 ∷ x4 ∷ x5 ∷ x6 ∷ x7 ∷ x8 ∷ x9 ∷ x10 ∷ x11 ∷ x12 ∷ x13 ∷ x14 ∷ x15 ∷ [])
+    ≡ (quarter_words x0 x1 x2 x3).0 ∷ (quarter_words x0 x1 x2 x3).1 ∷ (quarter_words x0 x1 x2 x3).2
+    ∷ (quarter_words x0 x1 x2 x3).3
+    ∷ (quarter_words x5 x6 x7 x4).3 ∷ (quarter_words x5 x6 x7 x4).0 ∷ (quarter_words x5 x6 x7 x4).1
+    ∷ (quarter_words x5 x6 x7 x4).2
+    ∷ (quarter_words x10 x11 x8 x9).2 ∷ (quarter_words x10 x11 x8 x9).3 ∷ (quarter_words x10 x11 x8 x9).0
+    ∷ (quarter_words x10 x11 x8 x9).1
+    ∷ (quarter_words x15 x12 x13 x14).1 ∷ (quarter_words x15 x12 x13 x14).2 ∷ (quarter_words x15 x12 x13 x14).3
+    ∷ (quarter_words x15 x12 x13 x14).0 ∷ []
 unfolding row_round quarter_round quarter_words xor_rotated
 row_is x0 x1 x2 x3 x4 x5 x6 x7 x8 x9 x10 x11 x12 x13 x14 x15 = refl
 
@@ -99,7 +118,8 @@ ShiftsRotate k to a b = (j : ℕ) → j < 4
     (zip2 (λ x n. x / 2 ^ n) (zip2 add32 a b) ((32 - k) ∷ (32 - k) ∷ (32 - k) ∷ (32 - k) ∷ [])))) j
     ≡ xor_rotated (slice_index to j) (slice_index a j) (slice_index b j) k
 
-pub shifts_rotate : (k : ℕ) → 0 < k → k < 32 → (to : List ℕ) → length to ≡ 4 → (a : List ℕ) → length a ≡ 4 → (b : List ℕ) → length b ≡ 4 → ShiftsRotate k to a b
+pub shifts_rotate : (k : ℕ) → 0 < k → k < 32 → (to : List ℕ) → length to ≡ 4 → (a : List ℕ) → length a ≡ 4
+    → (b : List ℕ) → length b ≡ 4 → ShiftsRotate k to a b
 unfolding xor_rotated
 shifts_rotate k low high =
     let left : k % 32 ≡ k = omega arith in
@@ -110,9 +130,11 @@ shifts_rotate k low high =
     below_four _ (rw (left, right) refl) (rw (left, right) refl) (rw (left, right) refl) (rw (left, right) refl))))
 
 -- a load of sixteen words, and a store
-pub loaded : (s : List ℕ) → length s ≡ 16 → bytes (lane_words (chunk 0 4 s) (chunk 4 4 s) (chunk 8 4 s) (chunk 12 4 s)) ≡ block_bytes s
+pub loaded : (s : List ℕ) → length s ≡ 16
+    → bytes (lane_words (chunk 0 4 s) (chunk 4 4 s) (chunk 8 4 s) (chunk 12 4 s)) ≡ block_bytes s
 unfolding block_bytes
-loaded = sixteen (λ s. bytes (lane_words (chunk 0 4 s) (chunk 4 4 s) (chunk 8 4 s) (chunk 12 4 s)) ≡ bytes (block_words s))
+loaded = sixteen (λ s. bytes (lane_words (chunk 0 4 s) (chunk 4 4 s) (chunk 8 4 s) (chunk 12 4 s))
+    ≡ bytes (block_words s))
     (λ x0 x1 x2 x3 x4 x5 x6 x7 x8 x9 x10 x11 x12 x13 x14 x15. refl)
 
 abbrev Stored : List ℕ → List ℕ → List ℕ → List ℕ → List ℕ → Type 0
@@ -121,10 +143,12 @@ Stored s a b c d = block_words (put_chunk 12 (put_chunk 8 (put_chunk 4 (put_chun
 pub stored : (s : List ℕ) → length s ≡ 16 → (a : List ℕ) → length a ≡ 4 → (b : List ℕ) → length b ≡ 4
     → (c : List ℕ) → length c ≡ 4 → (d : List ℕ) → length d ≡ 4
     → Stored s a b c d
-stored = sixteen (λ s. (a : List ℕ) → length a ≡ 4 → (b : List ℕ) → length b ≡ 4 → (c : List ℕ) → length c ≡ 4 → (d : List ℕ) → length d ≡ 4 → Stored s a b c d)
+stored = sixteen (λ s. (a : List ℕ) → length a ≡ 4 → (b : List ℕ) → length b ≡ 4 → (c : List ℕ) → length c ≡ 4
+    → (d : List ℕ) → length d ≡ 4 → Stored s a b c d)
     (λ x0 x1 x2 x3 x4 x5 x6 x7 x8 x9 x10 x11 x12 x13 x14 x15.
     let s = x0 ∷ x1 ∷ x2 ∷ x3 ∷ x4 ∷ x5 ∷ x6 ∷ x7 ∷ x8 ∷ x9 ∷ x10 ∷ x11 ∷ x12 ∷ x13 ∷ x14 ∷ x15 ∷ [] in
-    four_lanes (λ a. (b : List ℕ) → length b ≡ 4 → (c : List ℕ) → length c ≡ 4 → (d : List ℕ) → length d ≡ 4 → Stored s a b c d) (λ a0 a1 a2 a3.
+    four_lanes (λ a. (b : List ℕ) → length b ≡ 4 → (c : List ℕ) → length c ≡ 4 → (d : List ℕ) → length d ≡ 4
+    → Stored s a b c d) (λ a0 a1 a2 a3.
     let a = a0 ∷ a1 ∷ a2 ∷ a3 ∷ [] in
     four_lanes (λ b. (c : List ℕ) → length c ≡ 4 → (d : List ℕ) → length d ≡ 4 → Stored s a b c d) (λ b0 b1 b2 b3.
     let b = b0 ∷ b1 ∷ b2 ∷ b3 ∷ [] in
@@ -140,10 +164,14 @@ pub lane_words-zip2 : (f : ℕ → ℕ → ℕ) (r s t u e f' g h a b c d : List
     → LaneWise f r e a → LaneWise f s f' b → LaneWise f t g c → LaneWise f u h d
     → lane_words r s t u ≡ zip2 f (lane_words e f' g h) (lane_words a b c d)
 lane_words-zip2 f r s t u e f' g h a b c d pr ps pt pu =
-    ap₂ ◌∷◌ (pr 0 (omega arith)) (ap₂ ◌∷◌ (pu 1 (omega arith)) (ap₂ ◌∷◌ (pt 2 (omega arith)) (ap₂ ◌∷◌ (ps 3 (omega arith))
-    (ap₂ ◌∷◌ (ps 0 (omega arith)) (ap₂ ◌∷◌ (pr 1 (omega arith)) (ap₂ ◌∷◌ (pu 2 (omega arith)) (ap₂ ◌∷◌ (pt 3 (omega arith))
-    (ap₂ ◌∷◌ (pt 0 (omega arith)) (ap₂ ◌∷◌ (ps 1 (omega arith)) (ap₂ ◌∷◌ (pr 2 (omega arith)) (ap₂ ◌∷◌ (pu 3 (omega arith))
-    (ap₂ ◌∷◌ (pu 0 (omega arith)) (ap₂ ◌∷◌ (pt 1 (omega arith)) (ap₂ ◌∷◌ (ps 2 (omega arith)) (ap₂ ◌∷◌ (pr 3 (omega arith)) refl)))))))))))))))
+    ap₂ ◌∷◌ (pr 0 (omega arith))
+    (ap₂ ◌∷◌ (pu 1 (omega arith)) (ap₂ ◌∷◌ (pt 2 (omega arith)) (ap₂ ◌∷◌ (ps 3 (omega arith))
+    (ap₂ ◌∷◌ (ps 0 (omega arith))
+    (ap₂ ◌∷◌ (pr 1 (omega arith)) (ap₂ ◌∷◌ (pu 2 (omega arith)) (ap₂ ◌∷◌ (pt 3 (omega arith))
+    (ap₂ ◌∷◌ (pt 0 (omega arith))
+    (ap₂ ◌∷◌ (ps 1 (omega arith)) (ap₂ ◌∷◌ (pr 2 (omega arith)) (ap₂ ◌∷◌ (pu 3 (omega arith))
+    (ap₂ ◌∷◌ (pu 0 (omega arith))
+    (ap₂ ◌∷◌ (pt 1 (omega arith)) (ap₂ ◌∷◌ (ps 2 (omega arith)) (ap₂ ◌∷◌ (pr 3 (omega arith)) refl)))))))))))))))
 
 -- the words of a block fit
 abbrev pub LanesFit : List ℕ → Type 0
@@ -175,7 +203,13 @@ lane_words_fit a b c d pa pbkdf2_once pc pd = (
                       pa 2 (omega arith),
                       (
                         pd 3 (omega arith),
-                        (pd 0 (omega arith), (pc 1 (omega arith), (pbkdf2_once 2 (omega arith), (pa 3 (omega arith), tt)))),
+                        (
+                          pd 0 (omega arith),
+                          (
+                            pc 1 (omega arith),
+                            (pbkdf2_once 2 (omega arith), (pa 3 (omega arith), tt)),
+                          ),
+                        ),
                       ),
                     ),
                   ),

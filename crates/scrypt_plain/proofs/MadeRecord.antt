@@ -1,11 +1,13 @@
 -- The verdicts on a text that scrypt makes of a password and a salt.
-use Rattle.std.proofs.Common.{◌≡◌, ℕ, ◌*◌, ◌^◌, ◌≤◌, true, List, [], ◌∷◌, ◌++◌, length, refl, sym, ap, ◌∙◌, append-nil, append_assoc, arith, Ok}
+use Rattle.std.proofs.Common.{◌≡◌, ℕ, ◌*◌, ◌^◌, ◌≤◌, true, List, [], ◌∷◌, ◌++◌, length, refl, sym, ap, ◌∙◌, append-nil}
+use Rattle.std.proofs.Common.{append_assoc, arith, Ok}
 use Rattle.std.specs.Prelude.{codes, Some, None}
 use Rattle.std.specs.List.{list_all}
 use Rattle.std.proofs.lemmas.Bool.Decides.{nat_tests}
 use Rattle.base64ct.specs.Encoding.{EachBelow}
 use Rattle.base64ct.proofs.DecodingLaws.{true_same}
-use Rattle.mcf.specs.Grammar.{Parts, fault, field_fault, first_field_fault, is_field_byte, mcf, parts, parts_or_fault, parts_text}
+use Rattle.mcf.specs.Grammar.{Parts, fault, field_fault, first_field_fault, is_field_byte, mcf, parts, parts_or_fault}
+use Rattle.mcf.specs.Grammar.{parts_text}
 use Rattle.mcf.proofs.Built.{mcf-parts_text}
 use Rattle.mcf.proofs.ValidTexts.{pieces_of_valid}
 use Rattle.phc.specs.Encoded.{encoding}
@@ -66,7 +68,8 @@ value_in_field b value = grind (arith, nat_tests, value)
 -- the encoding of some bytes is a field
 encoded_good : (b : List ℕ) → EachBelow 256 b → 1 ≤ length b → field_fault (encoding b) ≡ None
 encoded_good b below some =
-    good_field (encoding b) (omega (arith, encoded_length b below, some)) (all_weaker is_value_byte is_field_byte value_in_field (encoding b) (encoding_value b below))
+    good_field (encoding b) (omega (arith, encoded_length b below, some))
+    (all_weaker is_value_byte is_field_byte value_in_field (encoding b) (encoding_value b below))
 
 by_fault : (p q : Parts) (f : _) → parts_or_fault p f ≡ Ok q → (f ≡ None) × (p ≡ q)
 by_fault p q None h = (refl, cc)
@@ -80,10 +83,12 @@ read_phc text p h =
     ap phc_of_pieces (pieces_of_valid text is.0) ∙ ap (λ (q : Parts). phc q.id q.fields) is.1
 
 key_length : (password salt : List ℕ) (n r p : ℕ) → length (scrypt password salt n r p 32) ≡ 32
-key_length password salt n r p = length-pbkdf2_once password (mixed_parts n r p (pbkdf2_once password salt (128 * r * p))) 32
+key_length password salt n r p =
+    length-pbkdf2_once password (mixed_parts n r p (pbkdf2_once password salt (128 * r * p))) 32
 
 module _ (ln r p : List ℕ) (n b c : ℕ) (written : IsWritten ln r p n b c) where
-  record_valid : (salt hash : List ℕ) → EachBelow 256 salt → 8 ≤ length salt → length salt ≤ 48 → EachBelow 256 hash → length hash ≡ 32
+  record_valid : (salt hash : List ℕ) → EachBelow 256 salt → 8 ≤ length salt → length salt ≤ 48 → EachBelow 256 hash
+      → length hash ≡ 32
       → IsRecord (made_record ln r p salt hash)
   record_valid salt hash salt_below least most hash_below size = record {
     algorithm = refl;
@@ -95,7 +100,10 @@ module _ (ln r p : List ℕ) (n b c : ℕ) (written : IsWritten ln r p n b c) wh
   }
 
   abbrev pub made_parts : List ℕ → List ℕ → Parts
-  made_parts salt hash = record { id = codes "scrypt"; fields = pairs_text (made_params ln r p) ∷ encoding salt ∷ encoding hash ∷ [] }
+  made_parts salt hash = record {
+    id = codes "scrypt";
+    fields = pairs_text (made_params ln r p) ∷ encoding salt ∷ encoding hash ∷ [];
+  }
 
   parts_printed : (salt hash : List ℕ) → parts_text (made_parts salt hash) ≡ record_text (made_record ln r p salt hash)
   unfolding record_text
@@ -108,33 +116,40 @@ module _ (ln r p : List ℕ) (n b c : ℕ) (written : IsWritten ln r p n b c) wh
   unfolding scrypt_accepts
   accepts salt hash = rw (written.numbers, written.bounds) refl
 
-  keys : (asked salt hash : List ℕ) → scrypt_key asked (made_record ln r p salt hash) salt 32 ≡ made_key n b c asked salt
+  keys : (asked salt hash : List ℕ)
+      → scrypt_key asked (made_record ln r p salt hash) salt 32 ≡ made_key n b c asked salt
   unfolding scrypt_key
   keys asked salt hash = rw written.numbers refl
 
-  module _ (password salt : List ℕ) (below : EachBelow 256 salt) (least : 8 ≤ length salt) (most : length salt ≤ 48) where
-    -- its parts
-    pub made_read : mcf (made_text ln r p n b c password salt) ≡ Ok (made_parts salt (made_key n b c password salt))
-    made_read =
-        let k : List ℕ = made_key n b c password salt in
-        let size : length k ≡ 32 = key_length password salt (2 ^ n) b c in
-        let of_salt : field_fault (encoding salt) ≡ None = encoded_good salt below (omega (arith, least)) in
-        let of_key : field_fault (encoding k) ≡ None = encoded_good k (scrypt_bytes password salt (2 ^ n) b c 32) (omega (arith, size)) in
-        let good : first_field_fault (made_parts salt k).fields ≡ None = rw (written.field, of_salt, of_key) refl in
-        ap mcf (sym (parts_printed salt k)) ∙ mcf-parts_text (made_parts salt k) refl good
+  module _ (password salt : List ℕ) (below : EachBelow 256 salt) (least : 8 ≤ length salt) (most : length salt ≤ 48)
+    where
+      -- its parts
+      pub made_read : mcf (made_text ln r p n b c password salt) ≡ Ok (made_parts salt (made_key n b c password salt))
+      made_read =
+          let k : List ℕ = made_key n b c password salt in
+          let size : length k ≡ 32 = key_length password salt (2 ^ n) b c in
+          let of_salt : field_fault (encoding salt) ≡ None = encoded_good salt below (omega (arith, least)) in
+          let of_key : field_fault (encoding k) ≡ None =
+          encoded_good k (scrypt_bytes password salt (2 ^ n) b c 32) (omega (arith, size)) in
+          let good : first_field_fault (made_parts salt k).fields ≡ None = rw (written.field, of_salt, of_key) refl in
+          ap mcf (sym (parts_printed salt k)) ∙ mcf-parts_text (made_parts salt k) refl good
 
-    -- each password has a verdict on it, and its own matches
-    pub scrypt_made : made_texts.IsMade accepted key password (made_text ln r p n b c password salt)
-    scrypt_made =
-        let k : List ℕ = made_key n b c password salt in
-        let size : length k ≡ 32 = key_length password salt (2 ^ n) b c in
-        let made : PasswordHash = made_record ln r p salt k in
-        let q : Parts = made_parts salt k in
-        let valid : IsRecord made = record_valid salt k below least most (scrypt_bytes password salt (2 ^ n) b c 32) size in
-        let is_record : phc q.id q.fields ≡ Ok made = sym (read_phc (record_text made) q made_read) ∙ parses_back made valid refl in (
-          λ (asked : List ℕ). same_text (encoding k) (encoding (made_key n b c asked salt)),
-          λ (asked : List ℕ) fits.
-              of_parts accepted key asked (record_text made) q fits made_read ∙ ap (phc_answer accepted key asked) is_record
-              ∙ rw size (rw (accepts salt k) (ap (λ (t : List ℕ). Ok (same_text (encoding k) (encoding t))) (keys asked salt k))),
-          true_same (encoding k),
-        )
+      -- each password has a verdict on it, and its own matches
+      pub scrypt_made : made_texts.IsMade accepted key password (made_text ln r p n b c password salt)
+      scrypt_made =
+          let k : List ℕ = made_key n b c password salt in
+          let size : length k ≡ 32 = key_length password salt (2 ^ n) b c in
+          let made : PasswordHash = made_record ln r p salt k in
+          let q : Parts = made_parts salt k in
+          let valid : IsRecord made =
+          record_valid salt k below least most (scrypt_bytes password salt (2 ^ n) b c 32) size in
+          let is_record : phc q.id q.fields ≡ Ok made =
+          sym (read_phc (record_text made) q made_read) ∙ parses_back made valid refl in (
+            λ (asked : List ℕ). same_text (encoding k) (encoding (made_key n b c asked salt)),
+            λ (asked : List ℕ) fits.
+                of_parts accepted key asked (record_text made) q fits made_read
+                ∙ ap (phc_answer accepted key asked) is_record
+                ∙ rw size (rw (accepts salt k)
+                (ap (λ (t : List ℕ). Ok (same_text (encoding k) (encoding t))) (keys asked salt k))),
+            true_same (encoding k),
+          )

@@ -1,18 +1,22 @@
 -- The table's rows, and and the number that a block is.
-use Rattle.std.proofs.Common.{◌≡◌, ◌≢◌, ℕ, zero, suc, ◌+◌, ◌-◌, ◌*◌, ◌/◌, ◌%◌, ◌^◌, ◌<◌, ◌≤◌, List, [], ◌∷◌, ◌++◌, length, take, drop, slice_index, refl, sym, ap, ap₂, ◌∙◌, arith, add-one, inl, inr, subst, w32}
+use Rattle.std.proofs.Common.{◌≡◌, ◌≢◌, ℕ, zero, suc, ◌+◌, ◌-◌, ◌*◌, ◌/◌, ◌%◌, ◌^◌, ◌<◌, ◌≤◌, List, [], ◌∷◌, ◌++◌}
+use Rattle.std.proofs.Common.{length, take, drop, slice_index, refl, sym, ap, ap₂, ◌∙◌, arith, add-one, inl, inr, subst}
+use Rattle.std.proofs.Common.{w32}
 use Rattle.std.proofs.Math.Nat.{mul-le-mul_left, add-mul-mod_self_left}
 use Rattle.std.proofs.lemmas.Nat.{pow-add, mod_below}
 use Rattle.std.proofs.lemmas.Bool.{cases_lt}
 use Rattle.std.proofs.lemmas.List.{drop_at, take_at, take_all, take-append-drop, length-take}
 use borrow.Rule.Slice.PartMut.{put_mid}
 use Rattle.scrypt_plain.specs.Bytes.{bytes, little_endian, xor_bytes}
-use Rattle.scrypt_plain.specs.Scrypt.{integerify, concat_below, block_mix, table_row, ro_mix_state, part, ro_mix, ro_mix_step}
+use Rattle.scrypt_plain.specs.Scrypt.{integerify, concat_below, block_mix, table_row, ro_mix_state, part, ro_mix}
+use Rattle.scrypt_plain.specs.Scrypt.{ro_mix_step}
 use Rattle.scrypt_plain.specs.Layout.{block_bytes, block_words, row_block, row_bytes, piece}
 use Rattle.std.specs.Int.{to_le_bytes}
 use Rattle.std.proofs.lemmas.Slice.{drop-put_mid}
 use Rattle.scrypt_plain.proofs.Blocks.{take-more, bytes-append}
 use Rattle.scrypt_plain.proofs.Lanes.{sixteen}
-use Rattle.scrypt_plain.proofs.Rows.{concat_below_same, block-row_bytes, take_drop_left, row_block_same, row_block_other}
+use Rattle.scrypt_plain.proofs.Rows.{concat_below_same, block-row_bytes, take_drop_left, row_block_same}
+use Rattle.scrypt_plain.proofs.Rows.{row_block_other}
 
 -- ---- a block in the order of the table
 
@@ -29,7 +33,8 @@ block_bytes-table_order = sixteen (λ s. bytes (slice_index s 0 ∷ slice_index 
     (λ x0 x1 x2 x3 x4 x5 x6 x7 x8 x9 x10 x11 x12 x13 x14 x15. refl)
 
 -- one block more, in a loop that writes blocks
-pub rows_more : (F : List ℕ → List ℕ) (g : ℕ → List ℕ) (i n : ℕ) (to p : List ℕ) → n ≡ 16 → length p ≡ 16 → 16 * i + 16 ≤ length to
+pub rows_more : (F : List ℕ → List ℕ) (g : ℕ → List ℕ) (i n : ℕ) (to p : List ℕ) → n ≡ 16 → length p ≡ 16
+    → 16 * i + 16 ≤ length to
     → ((k : ℕ) → k < i → F (row_block to k) ≡ g k) → F p ≡ g i
     → (k : ℕ) → k < i + 1 → F (row_block (put_mid (16 * i) n to p) k) ≡ g k
 rows_more F g i n to p width len room before here k below =
@@ -58,14 +63,17 @@ pieces_all w n s h = pieces_take w n s ∙ take_all (w * n) s (omega arith)
 pub bytes-concat_below : (n : ℕ) (f : ℕ → List ℕ) → bytes (concat_below n f) ≡ concat_below n (λ k. bytes (f k))
 unfolding concat_below
 bytes-concat_below zero f = refl
-bytes-concat_below (suc n) f = bytes-append (concat_below n f) (f n) ∙ ap (λ (z : List ℕ). z ++ bytes (f n)) (bytes-concat_below n f)
+bytes-concat_below (suc n) f =
+    bytes-append (concat_below n f) (f n) ∙ ap (λ (z : List ℕ). z ++ bytes (f n)) (bytes-concat_below n f)
 
 pub bytes_pieces : (w n : ℕ) (s : List ℕ) → length s ≡ w * n → bytes s ≡ concat_below n (λ k. bytes (piece w s k))
 bytes_pieces w n s h = ap bytes (sym (pieces_all w n s h)) ∙ bytes-concat_below n (piece w s)
 
-pub row_bytes_from_bytes : (n : ℕ) (s t : List ℕ) → length s ≡ 16 * n → ((k : ℕ) → k < n → block_bytes (row_block t k) ≡ bytes (row_block s k)) → row_bytes n t ≡ bytes s
+pub row_bytes_from_bytes : (n : ℕ) (s t : List ℕ) → length s ≡ 16 * n
+    → ((k : ℕ) → k < n → block_bytes (row_block t k) ≡ bytes (row_block s k)) → row_bytes n t ≡ bytes s
 row_bytes_from_bytes n s t h each =
-    concat_below_same n (λ k. block_bytes (row_block t k)) (λ k. bytes (piece 16 s k)) each ∙ sym (bytes_pieces 16 n s h)
+    concat_below_same n (λ k. block_bytes (row_block t k)) (λ k. bytes (piece 16 s k)) each
+    ∙ sym (bytes_pieces 16 n s h)
 
 pub piece_left : (w k : ℕ) (xs ys : List ℕ) → w * k + w ≤ length xs → piece w (xs ++ ys) k ≡ piece w xs k
 piece_left w k xs ys h = take_drop_left xs ys (w * k) w h
@@ -81,10 +89,12 @@ piece_at w k xs ys zs h e = ap (take w) (drop_at xs (ys ++ zs) (w * k) h) ∙ ta
 -- ---- Integerify
 
 digits : (w m : ℕ) → w < 4294967296
-    → w % 256 + 256 * (w / 256 % 256 + 256 * (w / 65536 % 256 + 256 * (w / 16777216 % 256 + 256 * m))) ≡ w + 4294967296 * m
+    → w % 256 + 256 * (w / 256 % 256 + 256 * (w / 65536 % 256 + 256 * (w / 16777216 % 256 + 256 * m)))
+    ≡ w + 4294967296 * m
 digits w m h = omega arith
 
-little_endian-block_bytes : (s : List ℕ) → slice_index s 0 < 2 ^ 32 → (m : ℕ) × (little_endian (block_bytes s) ≡ slice_index s 0 + 2 ^ 32 * m)
+little_endian-block_bytes : (s : List ℕ) → slice_index s 0 < 2 ^ 32
+    → (m : ℕ) × (little_endian (block_bytes s) ≡ slice_index s 0 + 2 ^ 32 * m)
 unfolding block_bytes
 little_endian-block_bytes s h =
     let m = little_endian (bytes (drop 1 (block_words s))) in (m, digits (slice_index s 0) m h)
@@ -146,25 +156,31 @@ filled_more r i s t B was next others k h =
           subst P e (next ∙ ap (block_mix r) (was i (omega arith)) ∙ sym (table_row_more r B i))
     ]
 
-pub filled_last : (r n : ℕ) (B x : List ℕ) (m : ℕ) → x ≡ block_mix r (table_row r B m) → n ≡ m + 1 → x ≡ ro_mix_state r n B 0
+pub filled_last : (r n : ℕ) (B x : List ℕ) (m : ℕ) → x ≡ block_mix r (table_row r B m) → n ≡ m + 1
+    → x ≡ ro_mix_state r n B 0
 unfolding ro_mix_state
 filled_last r n B x m h e = h ∙ sym (table_row_more r B m) ∙ ap (table_row r B) (sym e)
 
-ro_mix_state_more : (r n : ℕ) (B : List ℕ) (t : ℕ) → ro_mix_state r n B (t + 1) ≡ ro_mix_step r n (table_row r B) (ro_mix_state r n B t)
+ro_mix_state_more : (r n : ℕ) (B : List ℕ) (t : ℕ)
+    → ro_mix_state r n B (t + 1) ≡ ro_mix_step r n (table_row r B) (ro_mix_state r n B t)
 unfolding ro_mix_state
 ro_mix_state_more r n B t = ap (ro_mix_state r n B) (add-one t)
 
-ro_mix_state_step : (r n : ℕ) (B : List ℕ) (row : ℕ → List ℕ) (x : List ℕ) (t : ℕ) → 0 < n → ((k : ℕ) → k < n → row k ≡ table_row r B k)
+ro_mix_state_step : (r n : ℕ) (B : List ℕ) (row : ℕ → List ℕ) (x : List ℕ) (t : ℕ) → 0 < n
+    → ((k : ℕ) → k < n → row k ≡ table_row r B k)
     → x ≡ ro_mix_state r n B t → ro_mix_step r n row x ≡ ro_mix_state r n B (t + 1)
 ro_mix_state_step r n B row x t some rows was =
     let same = rows (integerify r x % n) (mod_below (integerify r x) n some) in
-    ap (λ (z : List ℕ). block_mix r (xor_bytes x z)) same ∙ ap (ro_mix_step r n (table_row r B)) was ∙ sym (ro_mix_state_more r n B t)
+    ap (λ (z : List ℕ). block_mix r (xor_bytes x z)) same ∙ ap (ro_mix_step r n (table_row r B)) was
+    ∙ sym (ro_mix_state_more r n B t)
 
-pub two_steps : (r n : ℕ) (B : List ℕ) (row : ℕ → List ℕ) (x : List ℕ) (t : ℕ) → 0 < n → ((k : ℕ) → k < n → row k ≡ table_row r B k)
+pub two_steps : (r n : ℕ) (B : List ℕ) (row : ℕ → List ℕ) (x : List ℕ) (t : ℕ) → 0 < n
+    → ((k : ℕ) → k < n → row k ≡ table_row r B k)
     → x ≡ ro_mix_state r n B (2 * t) → ro_mix_step r n row (ro_mix_step r n row x) ≡ ro_mix_state r n B (2 * (t + 1))
 two_steps r n B row x t some rows was =
     let two : 2 * t + 1 + 1 ≡ 2 * (t + 1) = omega arith in
-    ro_mix_state_step r n B row (ro_mix_step r n row x) (2 * t + 1) some rows (ro_mix_state_step r n B row x (2 * t) some rows was) ∙ ap (ro_mix_state r n B) two
+    ro_mix_state_step r n B row (ro_mix_step r n row x) (2 * t + 1) some rows
+    (ro_mix_state_step r n B row x (2 * t) some rows was) ∙ ap (ro_mix_state r n B) two
 
 pub piece_first : (w : ℕ) (p zs : List ℕ) → length p ≡ w → piece w (p ++ zs) 0 ≡ p
 piece_first w p zs h = piece_at w 0 [] p zs (omega arith) h
@@ -186,11 +202,13 @@ even_power ln h =
 
 -- ---- the parts
 
-pub piece_put_same : (w i n : ℕ) (s p : List ℕ) → length p ≡ w → w * i + w ≤ length s → piece w (put_mid (w * i) n s p) i ≡ p
+pub piece_put_same : (w i n : ℕ) (s p : List ℕ) → length p ≡ w → w * i + w ≤ length s
+    → piece w (put_mid (w * i) n s p) i ≡ p
 piece_put_same w i n s p len room =
     piece_at w i (take (w * i) s) p (drop n (drop (w * i) s)) (rw length-take (omega arith)) len
 
-pub piece_put_other : (w i n k : ℕ) (s p : List ℕ) → n ≡ w → length p ≡ w → w * i + w ≤ length s → k ≢ i → piece w (put_mid (w * i) n s p) k ≡ piece w s k
+pub piece_put_other : (w i n k : ℕ) (s p : List ℕ) → n ≡ w → length p ≡ w → w * i + w ≤ length s → k ≢ i
+    → piece w (put_mid (w * i) n s p) k ≡ piece w s k
 piece_put_other w i n k s p width len room ne =
     elim (cases_lt k i) [
       | inl a ↦
@@ -206,14 +224,16 @@ piece_put_other w i n k s p width len room ne =
 
 drop-bytes : (n : ℕ) (ws : List ℕ) → drop (4 * n) (bytes ws) ≡ bytes (drop n ws)
 drop-bytes zero ws = refl
-drop-bytes (suc n) [] = let e : 4 * suc n ≡ suc (suc (suc (suc (4 * n)))) = omega arith in ap (λ (m : ℕ). drop m (bytes [])) e
+drop-bytes (suc n) [] = let e : 4 * suc n ≡ suc (suc (suc (suc (4 * n)))) = omega arith in
+    ap (λ (m : ℕ). drop m (bytes [])) e
 drop-bytes (suc n) (w ∷ ws) =
     let e : 4 * suc n ≡ suc (suc (suc (suc (4 * n)))) = omega arith in
     ap (λ (m : ℕ). drop m (bytes (w ∷ ws))) e ∙ drop-bytes n ws
 
 take-bytes : (n : ℕ) (ws : List ℕ) → take (4 * n) (bytes ws) ≡ bytes (take n ws)
 take-bytes zero ws = refl
-take-bytes (suc n) [] = let e : 4 * suc n ≡ suc (suc (suc (suc (4 * n)))) = omega arith in ap (λ (m : ℕ). take m (bytes [])) e
+take-bytes (suc n) [] = let e : 4 * suc n ≡ suc (suc (suc (suc (4 * n)))) = omega arith in
+    ap (λ (m : ℕ). take m (bytes [])) e
 take-bytes (suc n) (w ∷ ws) =
     let e : 4 * suc n ≡ suc (suc (suc (suc (4 * n)))) = omega arith in
     ap (λ (m : ℕ). take m (bytes (w ∷ ws))) e ∙ ap (λ (z : List ℕ). to_le_bytes w32 w ++ z) (take-bytes n ws)
@@ -233,7 +253,8 @@ pub record IsPartly (r n : ℕ) (s t : List ℕ) (i : ℕ) : Type 0 where
 pub IsPartly_none : (r n : ℕ) (s : List ℕ) → IsPartly r n s s 0
 IsPartly_none r n s = record { done = λ k lt. absurd (omega arith); rest = λ k le. refl }
 
-pub IsPartly_more : (r n : ℕ) (s t p : List ℕ) (i w : ℕ) → IsPartly r n s t i → w ≡ 32 * r → length p ≡ 32 * r → 32 * r * i + 32 * r ≤ length t
+pub IsPartly_more : (r n : ℕ) (s t p : List ℕ) (i w : ℕ) → IsPartly r n s t i → w ≡ 32 * r → length p ≡ 32 * r
+    → 32 * r * i + 32 * r ≤ length t
     → bytes p ≡ ro_mix r n (bytes (take w (drop (32 * r * i) t))) → IsPartly r n s (put_mid (32 * r * i) w t p) (i + 1)
 IsPartly_more r n s t p i w inv width len room is = record {
   done = λ k below.
@@ -243,9 +264,11 @@ IsPartly_more r n s t p i w inv width len room is = record {
             ap bytes (piece_put_other (32 * r) i w k t p width len room ne) ∙ inv.done k a
         | inr b ↦
             let e : i ≡ k = omega arith in
-            let P : ℕ → Type 0 = λ j. bytes (piece (32 * r) (put_mid (32 * r * i) w t p) j) ≡ ro_mix r n (bytes (piece (32 * r) s j)) in
+            let P : ℕ → Type 0 = λ j. bytes (piece (32 * r) (put_mid (32 * r * i) w t p) j)
+            ≡ ro_mix r n (bytes (piece (32 * r) s j)) in
             subst P e (ap bytes (piece_put_same (32 * r) i w t p len room) ∙ is
-            ∙ ap (λ (z : List ℕ). ro_mix r n (bytes z)) (ap (λ (u : ℕ). take u (drop (32 * r * i) t)) width ∙ inv.rest i (omega arith)))
+            ∙ ap (λ (z : List ℕ). ro_mix r n (bytes z)) (ap (λ (u : ℕ). take u (drop (32 * r * i) t)) width
+            ∙ inv.rest i (omega arith)))
       ];
   rest = λ k le.
       let ne : k ≢ i = omega arith in

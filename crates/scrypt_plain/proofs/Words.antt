@@ -1,5 +1,6 @@
 -- Bytes and words, lowest byte first.
-use Rattle.std.proofs.Common.{◌≡◌, ℕ, ◌+◌, ◌/◌, ◌%◌, ◌^◌, ◌<◌, List, [], ◌∷◌, ◌++◌, bit_xor, refl, sym, ap, ap₂, ◌∙◌, add-one}
+use Rattle.std.proofs.Common.{◌≡◌, ℕ, ◌+◌, ◌/◌, ◌%◌, ◌^◌, ◌<◌, List, [], ◌∷◌, ◌++◌, bit_xor, refl, sym, ap, ap₂, ◌∙◌}
+use Rattle.std.proofs.Common.{add-one}
 use Rattle.std.specs.Int.{w32, to_le_bytes}
 use Rattle.std.specs.Simd.Lanes.{zip2, Each1}
 use Rattle.std.proofs.lemmas.Nat.{from_le_bytes-to_le_bytes_4, xor_shr, xor_mod}
@@ -15,7 +16,8 @@ xor_byte x y k = sym (ap (λ (n : ℕ). n % 2 ^ 8) (xor_shr x y k) ∙ xor_mod (
 
 xor_word : (x y : ℕ) → zip2 bit_xor (to_le_bytes w32 x) (to_le_bytes w32 y) ≡ to_le_bytes w32 (bit_xor x y)
 xor_word x y =
-    ap₂ ◌∷◌ (sym (xor_mod x y 8)) (ap₂ ◌∷◌ (xor_byte x y 8) (ap₂ ◌∷◌ (xor_byte x y 16) (ap₂ ◌∷◌ (xor_byte x y 24) refl)))
+    ap₂ ◌∷◌ (sym (xor_mod x y 8))
+    (ap₂ ◌∷◌ (xor_byte x y 8) (ap₂ ◌∷◌ (xor_byte x y 16) (ap₂ ◌∷◌ (xor_byte x y 24) refl)))
 
 pub xor-bytes : (xs ys : List ℕ) → xor_bytes (bytes xs) (bytes ys) ≡ bytes (zip2 bit_xor xs ys)
 xor-bytes [] ys = refl

@@ -10,6 +10,7 @@ length-key_at : (cost : Option Cost) (password salt : List ℕ) (n : ℕ) → le
 length-key_at None password salt n = length-replicate n 0
 length-key_at (Some cost) password salt n = length-pbkdf2_once password _ n
 
-pub length-scrypt_key : (password : List ℕ) (parsed : PasswordHash) (salt : List ℕ) (n : ℕ) → length (scrypt_key password parsed salt n) ≡ n
+pub length-scrypt_key : (password : List ℕ) (parsed : PasswordHash) (salt : List ℕ) (n : ℕ)
+    → length (scrypt_key password parsed salt n) ≡ n
 unfolding scrypt_key
 length-scrypt_key password parsed salt n = length-key_at (cost_of parsed) password salt n

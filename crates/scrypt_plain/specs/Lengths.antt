@@ -1,5 +1,6 @@
 -- How long codes, their keys and derived keys are.
-use Rattle.std.proofs.Common.{◌≡◌, ℕ, zero, suc, ◌+◌, ◌-◌, ◌*◌, ◌/◌, ◌≤◌, Bool, true, false, nat_lt, cond, List, ◌++◌, length, take, refl, sym, ap, ◌∙◌, arith}
+use Rattle.std.proofs.Common.{◌≡◌, ℕ, zero, suc, ◌+◌, ◌-◌, ◌*◌, ◌/◌, ◌≤◌, Bool, true, false, nat_lt, cond, List, ◌++◌}
+use Rattle.std.proofs.Common.{length, take, refl, sym, ap, ◌∙◌, arith}
 use Rattle.std.specs.Int.{w32, to_be_bytes}
 use Rattle.std.proofs.lemmas.List.{length-append, length-take-le, length-replicate, take-take, take-append-le}
 use Rattle.std.proofs.lemmas.Bool.{ltb-false}
@@ -13,7 +14,8 @@ pub length-hmac : (key text : List ℕ) → length (hmac key text) ≡ 32
 unfolding hmac
 length-hmac key text = length-sha256 (xor_bytes (block_key key) opad ++ sha256 (xor_bytes (block_key key) ipad ++ text))
 
-short_key-le : (is_long : Bool) (key : List ℕ) → nat_lt 64 (length key) ≡ is_long → length (cond is_long (sha256 key) key) ≤ 64
+short_key-le : (is_long : Bool) (key : List ℕ) → nat_lt 64 (length key) ≡ is_long
+    → length (cond is_long (sha256 key) key) ≤ 64
 short_key-le true key e = let digest = length-sha256 key in omega (arith, digest)
 short_key-le false key e = ltb-false 64 (length key) e
 
@@ -36,7 +38,8 @@ length-pbkdf2_once p s n =
     length-take-le n (pbkdf2_blocks p s ((n + 31) / 32)) (omega (arith, all))
 
 -- more blocks change nothing at the beginning
-take-pbkdf2_blocks : (p s : List ℕ) (n i d : ℕ) → n ≤ 32 * i → take n (pbkdf2_blocks p s (i + d)) ≡ take n (pbkdf2_blocks p s i)
+take-pbkdf2_blocks : (p s : List ℕ) (n i d : ℕ) → n ≤ 32 * i
+    → take n (pbkdf2_blocks p s (i + d)) ≡ take n (pbkdf2_blocks p s i)
 unfolding pbkdf2_blocks
 take-pbkdf2_blocks p s n i zero h = let e : i + zero ≡ i = omega arith in ap (λ (k : ℕ). take n (pbkdf2_blocks p s k)) e
 take-pbkdf2_blocks p s n i (suc d) h =

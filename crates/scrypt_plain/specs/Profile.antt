@@ -1,5 +1,6 @@
 -- The PHC records for which scrypt derives a key (a profile of this crate's own), and that key.
-use Rattle.std.specs.Prelude.{ℕ, ◌*◌, ◌^◌, Bool, true, false, ◌&&◌, List, nat_eq, nat_lt, nat_le, ◌==◌, length, replicate, Option, Some, None, is_none, codes}
+use Rattle.std.specs.Prelude.{ℕ, ◌*◌, ◌^◌, Bool, true, false, ◌&&◌, List, nat_eq, nat_lt, nat_le, ◌==◌, length}
+use Rattle.std.specs.Prelude.{replicate, Option, Some, None, is_none, codes}
 use Rattle.std.specs.Option.{option_and_then}
 use Rattle.std.specs.Cmp.Lexicographic.{pointwise}
 use Rattle.phc.specs.Grammar.{decimal_value}

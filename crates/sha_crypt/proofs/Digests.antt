@@ -1,5 +1,6 @@
 -- The bytes and characters of salts, digests and hash fields that are made.
-use Rattle.std.proofs.Common.{◌≡◌, ℕ, zero, suc, ◌/◌, ◌%◌, ◌^◌, ◌<◌, ◌≤◌, Bool, true, List, [], ◌∷◌, ◌++◌, length, map, slice_index, refl, ◌∙◌, length-append, arith}
+use Rattle.std.proofs.Common.{◌≡◌, ℕ, zero, suc, ◌/◌, ◌%◌, ◌^◌, ◌<◌, ◌≤◌, Bool, true, List, [], ◌∷◌, ◌++◌, length, map}
+use Rattle.std.proofs.Common.{slice_index, refl, ◌∙◌, length-append, arith}
 use Rattle.std.specs.Int.{w32, w64, to_be_bytes}
 use Rattle.std.specs.List.{list_all}
 use Rattle.std.proofs.lemmas.Bool.{and_parts}
@@ -36,20 +37,24 @@ all_append p (b ∷ s) t hs ht =
     let parts = and_parts (p b) (list_all p s) hs in
     rw (parts.0) (all_append p s t parts.1 ht)
 
-values_pass : (p : ℕ → Bool) (values : List ℕ) → list_all p base64_sha_crypt.characters ≡ true → EachBelow 64 values → list_all p (map (character base64_sha_crypt) values) ≡ true
+values_pass : (p : ℕ → Bool) (values : List ℕ) → list_all p base64_sha_crypt.characters ≡ true → EachBelow 64 values
+    → list_all p (map (character base64_sha_crypt) values) ≡ true
 values_pass p [] h below = refl
-values_pass p (v ∷ values) h below = rw (passes_at p base64_sha_crypt.characters v h (below 0)) (values_pass p values h (λ i. below (suc i)))
+values_pass p (v ∷ values) h below =
+    rw (passes_at p base64_sha_crypt.characters v h (below 0)) (values_pass p values h (λ i. below (suc i)))
 
 word_passes : (p : ℕ → Bool) (word : ℕ) → list_all p base64_sha_crypt.characters ≡ true → p (word_character word) ≡ true
 word_passes p word h = passes_at p base64_sha_crypt.characters (word / 2 ^ 26 % 64) h (omega arith)
 
 -- what holds of each character of the alphabet holds of a salt's
-pub characters_pass : (p : ℕ → Bool) (n : ℕ) (s : Stream) → list_all p base64_sha_crypt.characters ≡ true → list_all p (characters n s).0 ≡ true
+pub characters_pass : (p : ℕ → Bool) (n : ℕ) (s : Stream) → list_all p base64_sha_crypt.characters ≡ true
+    → list_all p (characters n s).0 ≡ true
 unfolding characters
 characters_pass p zero s h = refl
 characters_pass p (suc n) s h =
     let word : ℕ = (next_u32 (characters n s).1).0 in
-    all_append p (characters n s).0 (word_character word ∷ []) (characters_pass p n s h) (rw (word_passes p word h) refl)
+    all_append p (characters n s).0 (word_character word ∷ []) (characters_pass p n s h)
+    (rw (word_passes p word h) refl)
 
 pub length-characters : (n : ℕ) (s : Stream) → length (characters n s).0 ≡ n
 unfolding characters
@@ -65,12 +70,21 @@ below_append n [] ys hx hy = hy
 below_append n (x ∷ xs) ys hx hy = elim [ zero ↦ hx 0 | suc i ↦ below_append n xs ys (λ j. hx (suc j)) hy i ]
 
 pub four : (x : ℕ) → EachBelow 256 (to_be_bytes w32 x)
-four x = elim [ zero ↦ omega arith | suc zero ↦ omega arith | suc (suc zero) ↦ omega arith | suc (suc (suc zero)) ↦ omega arith | suc (suc (suc (suc i))) ↦ omega arith ]
+four x = elim [
+  | zero ↦ omega arith
+  | suc zero ↦ omega arith
+  | suc (suc zero) ↦ omega arith
+  | suc (suc (suc zero)) ↦
+      omega arith
+  | suc (suc (suc (suc i))) ↦ omega arith
+]
 
 pub digest_bytes-below : (h : List ℕ) (n : ℕ) → EachBelow 256 (short.digest_bytes h n)
 unfolding short.digest_bytes
 digest_bytes-below h zero = λ i. omega arith
-digest_bytes-below h (suc n) = below_append 256 (short.digest_bytes h n) (to_be_bytes w32 (slice_index h n)) (digest_bytes-below h n) (four (slice_index h n))
+digest_bytes-below h (suc n) =
+    below_append 256 (short.digest_bytes h n) (to_be_bytes w32 (slice_index h n)) (digest_bytes-below h n)
+    (four (slice_index h n))
 
 eight : (x : ℕ) → EachBelow 256 (to_be_bytes w64 x)
 eight x = elim [
@@ -88,7 +102,8 @@ eight x = elim [
 long-below : (h : List ℕ) (n : ℕ) → EachBelow 256 (long.digest_bytes h n)
 unfolding long.digest_bytes
 long-below h zero = λ i. omega arith
-long-below h (suc n) = below_append 256 (long.digest_bytes h n) (to_be_bytes w64 (slice_index h n)) (long-below h n) (eight (slice_index h n))
+long-below h (suc n) = below_append 256 (long.digest_bytes h n) (to_be_bytes w64 (slice_index h n)) (long-below h n)
+    (eight (slice_index h n))
 
 pub sha256-below : (m : List ℕ) → EachBelow 256 (sha256 m)
 unfolding sha256
@@ -118,7 +133,8 @@ is_scheme Sha256 = is_256
 is_scheme Sha512 = is_512
 
 -- after some rounds the digest is one of the hash function
-of_hash : (P : List ℕ → Type 0) (H : List ℕ → List ℕ) (password salt : List ℕ) (n : ℕ) → ((m : List ℕ) → P (H m)) → 1 ≤ n → P (sha_crypt_digest H password salt n)
+of_hash : (P : List ℕ → Type 0) (H : List ℕ → List ℕ) (password salt : List ℕ) (n : ℕ) → ((m : List ℕ) → P (H m))
+    → 1 ≤ n → P (sha_crypt_digest H password salt n)
 unfolding sha_crypt_digest after_rounds
 of_hash P H password salt zero all some = absurd (omega (arith, some))
 of_hash P H password salt (suc n) all some = all _
@@ -127,31 +143,42 @@ of_hash P H password salt (suc n) all some = all _
 abbrev pub made_hash : Scheme → List ℕ → List ℕ → ℕ → List ℕ
 made_hash s password salt n = hash_field s.places (sha_crypt_digest s.hash password salt n)
 
-pub hash_is_field : (s : Scheme) → IsScheme s → (password salt : List ℕ) (n : ℕ) → 1 ≤ n → is_hash_field s.size (made_hash s password salt n) ≡ true
+pub hash_is_field : (s : Scheme) → IsScheme s → (password salt : List ℕ) (n : ℕ) → 1 ≤ n
+    → is_hash_field s.size (made_hash s password salt n) ≡ true
 hash_is_field s is password salt n some =
-    field_is_found s.size s.places (made_hash s password salt n) (field_bytes s.size (made_hash s password salt n)) refl is.places (
+    field_is_found s.size s.places (made_hash s password salt n) (field_bytes s.size (made_hash s password salt n)) refl
+    is.places (
       sha_crypt_digest s.hash password salt n,
-      (of_hash (λ (d : List ℕ). length d ≡ s.size) s.hash password salt n is.size some, of_hash (λ (d : List ℕ). EachBelow 256 d) s.hash password salt n is.bytes some, refl),
+      (
+        of_hash (λ (d : List ℕ). length d ≡ s.size) s.hash password salt n is.size some,
+        of_hash (λ (d : List ℕ). EachBelow 256 d) s.hash password salt n is.bytes some,
+        refl,
+      ),
     )
 
 -- what holds of each character of the alphabet holds of a hash field's
-pub hash_passes : (p : ℕ → Bool) (s : Scheme) → IsScheme s → (password salt : List ℕ) (n : ℕ) → 1 ≤ n → list_all p base64_sha_crypt.characters ≡ true
+pub hash_passes : (p : ℕ → Bool) (s : Scheme) → IsScheme s → (password salt : List ℕ) (n : ℕ) → 1 ≤ n
+    → list_all p base64_sha_crypt.characters ≡ true
     → list_all p (made_hash s password salt n) ≡ true
 unfolding hash_field encoding
 hash_passes p s is password salt n some h =
     let digest : List ℕ = sha_crypt_digest s.hash password salt n in
     let bytes : List ℕ = in_order s.places digest in
-    let below : EachBelow 256 bytes = below_map s.places digest (of_hash (λ (d : List ℕ). EachBelow 256 d) s.hash password salt n is.bytes some) in
-    all_append p (map (character base64_sha_crypt) (groups true bytes)) [] (values_pass p (groups true bytes) h (groups-below true bytes below)) refl
+    let below : EachBelow 256 bytes =
+    below_map s.places digest (of_hash (λ (d : List ℕ). EachBelow 256 d) s.hash password salt n is.bytes some) in
+    all_append p (map (character base64_sha_crypt) (groups true bytes)) []
+    (values_pass p (groups true bytes) h (groups-below true bytes below)) refl
 
 -- a hash field has a character
-pub hash_some : (s : Scheme) → IsScheme s → (password salt : List ℕ) (n : ℕ) → 1 ≤ n → 1 ≤ length (made_hash s password salt n)
+pub hash_some : (s : Scheme) → IsScheme s → (password salt : List ℕ) (n : ℕ) → 1 ≤ n
+    → 1 ≤ length (made_hash s password salt n)
 unfolding hash_field encoding
 hash_some s is password salt n some =
     let digest : List ℕ = sha_crypt_digest s.hash password salt n in
     let at : ℕ → ℕ = λ k. slice_index digest k in
     let bytes : List ℕ = in_order s.places digest in
-    let below : EachBelow 256 bytes = below_map s.places digest (of_hash (λ (d : List ℕ). EachBelow 256 d) s.hash password salt n is.bytes some) in
+    let below : EachBelow 256 bytes =
+    below_map s.places digest (of_hash (λ (d : List ℕ). EachBelow 256 d) s.hash password salt n is.bytes some) in
     let count : length bytes ≡ s.size = length-map s.places at ∙ is.places in
     let values = length-groups true bytes below in
     let texts = length-map (groups true bytes) (character base64_sha_crypt) in

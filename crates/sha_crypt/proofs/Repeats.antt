@@ -1,5 +1,6 @@
 -- Lists repeated and cut, and the binary digits of a number.
-use Rattle.std.proofs.Common.{◌≡◌, ℕ, zero, suc, ◌+◌, ◌-◌, ◌*◌, ◌/◌, ◌%◌, ◌<◌, ◌≤◌, ◌==◌, if◌then◌else◌, List, [], ◌∷◌, ◌++◌, ◌≢◌, subst, length, take, reverse, sym, ap, ◌∙◌, append_assoc, arith, length-append}
+use Rattle.std.proofs.Common.{◌≡◌, ℕ, zero, suc, ◌+◌, ◌-◌, ◌*◌, ◌/◌, ◌%◌, ◌<◌, ◌≤◌, ◌==◌, if◌then◌else◌, List, [], ◌∷◌}
+use Rattle.std.proofs.Common.{◌++◌, ◌≢◌, subst, length, take, reverse, sym, ap, ◌∙◌, append_assoc, arith, length-append}
 use Rattle.std.proofs.lemmas.List.{take-append-le, append-nil, reverse-append}
 use Rattle.std.proofs.lemmas.Int.Digits.{digits_of_step}
 use Rattle.std.proofs.Math.Seq.{take-append-add}
@@ -26,7 +27,8 @@ take-copies zero r xs fits some =
     let e : r ≡ 0 = grind arith in ap (λ (n : ℕ). take n (copies zero xs)) e ∙ ap (λ (n : ℕ). take n xs) (sym e)
 take-copies (suc k) r xs fits some =
     let e : suc k ≡ 1 + k = omega arith in
-    ap (λ (n : ℕ). take r (copies n xs)) e ∙ ap (λ (ys : List ℕ). take r ys) (copies-add 1 k xs) ∙ take-append-le r xs (copies k xs) fits
+    ap (λ (n : ℕ). take r (copies n xs)) e ∙ ap (λ (ys : List ℕ). take r ys) (copies-add 1 k xs)
+    ∙ take-append-le r xs (copies k xs) fits
 
 -- what is repeated and cut is whole copies and the front of one more
 pub repeated_to_is : (n q r : ℕ) (xs : List ℕ) → n ≡ q * length xs + r → r < length xs
@@ -76,7 +78,8 @@ pub by_digits_after_one : (n : ℕ) (b password x whole : List ℕ) → 0 < n �
     → x ++ by_digits n b password ≡ whole → (x ++ b) ++ by_digits (n / 2) b password ≡ whole
 by_digits_after_one n b password x whole pos digit e =
     let step : by_digits n b password ≡ b ++ by_digits (n / 2) b password
-    = by_digits_step n b password pos ∙ ap (λ (d : ℕ). (if d == 1 then b else password) ++ by_digits (n / 2) b password) digit in
+    = by_digits_step n b password pos
+    ∙ ap (λ (d : ℕ). (if d == 1 then b else password) ++ by_digits (n / 2) b password) digit in
     rw append_assoc (ap (λ (ys : List ℕ). x ++ ys) (sym step) ∙ e)
 
 -- after the lowest digit, a 0, the others are left
@@ -85,5 +88,6 @@ pub by_digits_after_zero : (n : ℕ) (b password x whole : List ℕ) → 0 < n �
 by_digits_after_zero n b password x whole pos digit e =
     let zero_digit : n % 2 ≡ 0 = omega arith in
     let step : by_digits n b password ≡ password ++ by_digits (n / 2) b password
-    = by_digits_step n b password pos ∙ ap (λ (d : ℕ). (if d == 1 then b else password) ++ by_digits (n / 2) b password) zero_digit in
+    = by_digits_step n b password pos
+    ∙ ap (λ (d : ℕ). (if d == 1 then b else password) ++ by_digits (n / 2) b password) zero_digit in
     rw append_assoc (ap (λ (ys : List ℕ). x ++ ys) (sym step) ∙ e)

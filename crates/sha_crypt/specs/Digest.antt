@@ -1,6 +1,7 @@
 -- The digest of SHA-crypt, over whole lists of bytes and for any hash function H: U. Drepper, 'Unix
 -- crypt using SHA-256 and SHA-512', steps 1 to 21.
-use Rattle.std.specs.Prelude.{ℕ, zero, suc, ◌+◌, ◌==◌, ◌%◌, if◌then◌else◌, List, [], ◌++◌, length, reverse, slice_index, take}
+use Rattle.std.specs.Prelude.{ℕ, zero, suc, ◌+◌, ◌==◌, ◌%◌, if◌then◌else◌, List, [], ◌++◌, length, reverse, slice_index}
+use Rattle.std.specs.Prelude.{take}
 use Rattle.std.specs.List.{flat_map}
 use Rattle.std.specs.Int.Digits.{digits_of}
 

@@ -1,18 +1,20 @@
 -- The fields of a stored text behind its identifier: the first fault, or a record of them.
 --
 -- Drepper's text 'Unix crypt using SHA-256 and SHA-512' ('Specification', also crypt(5)) fixes the form
--- `[rounds=N$]salt$hash`, 5,000 rounds where none are named, the range 1,000 to 999,999,999, and that the first 16 bytes
--- of the salt count. There rounds out of range are clamped, and a longer salt is cut; here both are faults, and so are
--- rounds that aren't a plain decimal, so that each record has one text. The order of the faults is ours. Earlier texts,
--- in which the rounds had zeros and one `+` in front and the salt any length, are read by `old_fields`.
-use Rattle.std.specs.Prelude.{ℕ, ◌+◌, ◌*◌, ◌-◌, ◌^◌, Bool, false, true, ◌&&◌, ◌||◌, List, [], ◌∷◌, ◌==◌, nat_eq, nat_lt, nat_le, length, take, Option, Some, None, Result, Ok, Err, if◌then◌else◌, codes}
+-- `[rounds=N$]salt$hash`, 5,000 rounds where none are named, the range 1,000 to 999,999,999, and that the first 16
+-- bytes of the salt count. There rounds out of range are clamped, and a longer salt is cut; here both are faults, and
+-- so are rounds that aren't a plain decimal, so that each record has one text. The order of the faults is ours. Earlier
+-- texts, in which the rounds had zeros and one `+` in front and the salt any length, are read by `old_fields`.
+use Rattle.std.specs.Prelude.{ℕ, ◌+◌, ◌*◌, ◌-◌, ◌^◌, Bool, false, true, ◌&&◌, ◌||◌, List, [], ◌∷◌, ◌==◌, nat_eq, nat_lt}
+use Rattle.std.specs.Prelude.{nat_le, length, take, Option, Some, None, Result, Ok, Err, if◌then◌else◌, codes}
 use Rattle.std.specs.List.{starts_with}
 use Rattle.std.specs.Str.{all_ascii_digits}
 use Rattle.pieces.specs.Pieces.{behind, is_nil}
 use Rattle.sha_crypt.specs.declared.errors.CheckError.{CheckError}
 use Rattle.sha_crypt.specs.declared.errors.CheckError.TheVariants.{InvalidFormat, Crypt}
 use Rattle.sha_crypt.specs.declared.errors.CryptError.TheVariants.{RoundsError}
-use Rattle.sha_crypt.specs.declared.errors.FormatFault.TheVariants.{NoFields, NoSalt, RoundsNotNumber, NoHash, Trailing, SaltTooLong, Base64}
+use Rattle.sha_crypt.specs.declared.errors.FormatFault.TheVariants.{NoFields, NoSalt, RoundsNotNumber, NoHash, Trailing}
+use Rattle.sha_crypt.specs.declared.errors.FormatFault.TheVariants.{SaltTooLong, Base64}
 
 -- ---- the number of rounds
 
@@ -23,7 +25,8 @@ number_after n (d ∷ ds) = number_after (n * 10 + (d - 48)) ds
 
 -- the number of one or more digits, below 2 ^ 64
 abbrev pub number_of_digits : List ℕ → Option ℕ
-number_of_digits s = if nat_le 1 (length s) && all_ascii_digits s && nat_lt (number_after 0 s) (2 ^ 64) then Some (number_after 0 s) else None
+number_of_digits s = if nat_le 1 (length s) && all_ascii_digits s
+    && nat_lt (number_after 0 s) (2 ^ 64) then Some (number_after 0 s) else None
 
 -- a zero stands before further digits
 abbrev pub has_leading_zero : List ℕ → Bool
@@ -57,7 +60,8 @@ fields_in_range rounds written salt hash =
 abbrev pub from_salt : ℕ → Bool → List (List ℕ) → Result ShaFields CheckError
 from_salt rounds written [] = Err (InvalidFormat NoSalt)
 from_salt rounds written (salt ∷ []) = Err (InvalidFormat NoHash)
-from_salt rounds written (salt ∷ (hash ∷ more)) = if is_nil more then fields_in_range rounds written salt hash else Err (InvalidFormat Trailing)
+from_salt rounds written (salt ∷ (hash ∷ more)) =
+    if is_nil more then fields_in_range rounds written salt hash else Err (InvalidFormat Trailing)
 
 -- behind a piece that gives the rounds
 abbrev pub with_rounds : Option ℕ → List (List ℕ) → Result ShaFields CheckError
@@ -67,7 +71,8 @@ with_rounds (Some rounds) pieces = from_salt rounds true pieces
 -- by what stands behind `rounds=` in the first piece; `number` reads the rounds
 abbrev pub by_rounds : (List ℕ → Option ℕ) → Option (List ℕ) → List ℕ → List (List ℕ) → Result ShaFields CheckError
 by_rounds number None first pieces = from_salt 5000 false (first ∷ pieces)
-by_rounds number (Some digits) first pieces = if is_nil pieces then Err (InvalidFormat NoSalt) else with_rounds (number digits) pieces
+by_rounds number (Some digits) first pieces =
+    if is_nil pieces then Err (InvalidFormat NoSalt) else with_rounds (number digits) pieces
 
 -- the fields by their form: all faults but those of the salt's length and of the hash
 abbrev pub split_fields : (List ℕ → Option ℕ) → List (List ℕ) → Result ShaFields CheckError

@@ -1,5 +1,6 @@
 -- The hash field of a digest: Drepper's text, step 22.
-use Rattle.std.specs.Prelude.{◌≡◌, ℕ, zero, suc, true, ◌&&◌, Bool, List, ◌==◌, length, map, slice_index, Option, Some, None, is_some, if◌then◌else◌, nat_lt}
+use Rattle.std.specs.Prelude.{◌≡◌, ℕ, zero, suc, true, ◌&&◌, Bool, List, ◌==◌, length, map, slice_index, Option, Some}
+use Rattle.std.specs.Prelude.{None, is_some, if◌then◌else◌, nat_lt}
 use Rattle.std.specs.List.{list_all}
 use Rattle.base64ct.specs.Encoding.{encoding, EachBelow}
 use Rattle.base64ct.specs.Decoding.{decoding}

@@ -32,7 +32,12 @@ characters (suc n) s = let front = characters n s in one_more front.0 (next_u32 
 -- the fields of the text of a password: the rounds are written where they aren't the default
 abbrev pub made_fields : Scheme → List ℕ → List ℕ → ℕ → ShaFields
 made_fields s password salt rounds =
-    record { rounds = rounds; written = not (rounds == 5000); salt = salt; hash = hash_field s.places (sha_crypt_digest s.hash password salt rounds) }
+    record {
+      rounds = rounds;
+      written = not (rounds == 5000);
+      salt = salt;
+      hash = hash_field s.places (sha_crypt_digest s.hash password salt rounds);
+    }
 
 -- the text of a family of a password, a salt and rounds
 abbrev pub made_text : Family → List ℕ → List ℕ → ℕ → List ℕ

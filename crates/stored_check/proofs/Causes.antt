@@ -11,7 +11,8 @@ use Rattle.sha_crypt.specs.Fields.{ShaFields}
 use Rattle.sha_crypt.specs.declared.errors.CheckError.{CheckError}
 use Rattle.stored_check.specs.declared.error.StoredError.{StoredError}
 use Rattle.stored_check.specs.declared.error.StoredError.TheVariants.{OutOfMemory}
-use Rattle.stored_check.specs.Verdict.{key_answer, parts_answer, phc_answer, scheme_of, sha_answer, text_answer, verdict}
+use Rattle.stored_check.specs.Verdict.{key_answer, parts_answer, phc_answer, scheme_of, sha_answer, text_answer}
+use Rattle.stored_check.specs.Verdict.{verdict}
 
 abbrev Other : Result Bool StoredError → Type 0
 Other r = r ≢ Err OutOfMemory
@@ -24,7 +25,8 @@ of_sha : (s : Scheme) (password : List ℕ) (r : Result ShaFields CheckError) �
 of_sha s password (Err e) = λ h. cc
 of_sha s password (Ok f) = λ h. cc
 
-module _ (accepted : PasswordHash → List ℕ → ℕ → Bool) (tag : List ℕ → PasswordHash → List ℕ → ℕ → List ℕ) (password : List ℕ) where
+module _ (accepted : PasswordHash → List ℕ → ℕ → Bool) (tag : List ℕ → PasswordHash → List ℕ → ℕ → List ℕ)
+    (password : List ℕ) where
   of_key : (r : PasswordHash) (salt hash : Option (List ℕ)) → Other (key_answer accepted tag password r salt hash)
   of_key r None hash = λ h. cc
   of_key r (Some salt) None = λ h. cc

@@ -35,7 +35,8 @@ module _ (accepted : PasswordHash → List ℕ → ℕ → Bool) (tag : List ℕ
   -- a text of a password: each password that is asked has a verdict on it, and this one matches
   abbrev pub IsMade : List ℕ → List ℕ → Type 0
   IsMade password text = (matches : List ℕ → Bool)
-      × ((asked : List ℕ) → length asked ≤ 4096 → verdict accepted tag asked text ≡ Ok (matches asked)) × (matches password ≡ true)
+      × ((asked : List ℕ) → length asked ≤ 4096 → verdict accepted tag asked text ≡ Ok (matches asked))
+      × (matches password ≡ true)
 
   -- the verdict by the parts
   pub of_parts : (asked text : List ℕ) (p : Parts) → length asked ≤ 4096 → mcf text ≡ Ok p
@@ -45,23 +46,32 @@ module _ (accepted : PasswordHash → List ℕ → ℕ → Bool) (tag : List ℕ
       let test : nat_lt 4096 (length asked) ≡ false = grind (arith, nat_tests, fits) in
       rw test (ap (text_answer accepted tag asked) is)
 
-  module _ (family : Family) (password salt : List ℕ) (n : ℕ) (least : 1000 ≤ n) (most : n ≤ 999999999) (good : IsSalt salt) (some : 1 ≤ length salt)
+  module _ (family : Family) (password salt : List ℕ) (n : ℕ) (least : 1000 ≤ n) (most : n ≤ 999999999)
+      (good : IsSalt salt) (some : 1 ≤ length salt)
       (plain : list_all is_field_byte salt ≡ true) where
     fields_good : first_field_fault (field_pieces (made_fields (family_scheme family) password salt n)) ≡ None
     fields_good =
         let is = is_scheme family in
         let hash : List ℕ = made_hash (family_scheme family) password salt n in
         let of_salt : field_fault salt ≡ None = good_field salt some plain in
-        let of_hash : field_fault hash ≡ None = good_field hash (hash_some (family_scheme family) is password salt n (omega (arith, least)))
+        let of_hash : field_fault hash ≡ None =
+        good_field hash (hash_some (family_scheme family) is password salt n (omega (arith, least)))
         (hash_passes is_field_byte (family_scheme family) is password salt n (omega (arith, least)) refl) in
         by_default (λ (t : Bool). first_field_fault (rounds_pieces (not t) n ++ salt ∷ (hash ∷ [])) ≡ None) n
         (λ default. rw (of_salt, of_hash) refl)
         (λ other. rw (rounds_field n (omega (arith, most)), of_salt, of_hash) refl)
 
-    read : mcf (made_text family password salt n) ≡ Ok (record { id = family_id family; fields = field_pieces (made_fields (family_scheme family) password salt n) })
+    read : mcf (made_text family password salt n)
+        ≡ Ok (record {
+          id = family_id family;
+          fields = field_pieces (made_fields (family_scheme family) password salt n);
+        })
     read =
         ap mcf (printed_is family (made_fields (family_scheme family) password salt n))
-        ∙ mcf-parts_text (record { id = family_id family; fields = field_pieces (made_fields (family_scheme family) password salt n) }) (is_name family) fields_good
+        ∙ mcf-parts_text (record {
+          id = family_id family;
+          fields = field_pieces (made_fields (family_scheme family) password salt n);
+        }) (is_name family) fields_good
 
     -- the text that a family makes of a password and a salt of field characters
     pub sha_made : IsMade password (made_text family password salt n)
@@ -69,8 +79,10 @@ module _ (accepted : PasswordHash → List ℕ → ℕ → Bool) (tag : List ℕ
         let s : Scheme = family_scheme family in
         let f : ShaFields = made_fields (family_scheme family) password salt n in
         let p : Parts = record { id = family_id family; fields = field_pieces f } in
-        let fields : scheme_fields s (field_pieces f) ≡ Ok f = made_read s (is_scheme family) password salt n least most good in (
+        let fields : scheme_fields s (field_pieces f) ≡ Ok f =
+        made_read s (is_scheme family) password salt n least most good in (
           λ (asked : List ℕ). same_text (scheme_hash_field s asked f) f.hash,
-          λ (asked : List ℕ) fits. of_parts asked (made_text family password salt n) p fits read ∙ ap (λ o. parts_answer accepted tag asked o p) (is_family family) ∙ ap (sha_answer s asked) fields,
+          λ (asked : List ℕ) fits. of_parts asked (made_text family password salt n) p fits read
+              ∙ ap (λ o. parts_answer accepted tag asked o p) (is_family family) ∙ ap (sha_answer s asked) fields,
           true_same f.hash,
         )

@@ -10,13 +10,16 @@ use Rattle.mcf.specs.declared.error.Error.TheVariants as mcf_fault
 use Rattle.std.specs.declared.cmp.Ordering.TheVariants.{Less}
 use Rattle.base64ct.specs.declared.errors.Error.TheVariants.{InvalidEncoding, InvalidLength}
 use Rattle.phc.specs.Encoded.{decoding}
-use Rattle.phc.specs.Grammar.{decimal_value, has_value_bytes, is_name, fault_of, fault_of_layout, first_fault, hash_fault, cut_pairs, layout, name_fault, pair_fault, params_fault, salt_fault, text_fault, unless, value_or_fault, version_fault, is_empty, Layout}
+use Rattle.phc.specs.Grammar.{decimal_value, has_value_bytes, is_name, fault_of, fault_of_layout, first_fault}
+use Rattle.phc.specs.Grammar.{hash_fault, cut_pairs, layout, name_fault, pair_fault, params_fault, salt_fault}
+use Rattle.phc.specs.Grammar.{text_fault, unless, value_or_fault, version_fault, is_empty, Layout}
 use Rattle.phc.specs.Record.{phc, record_of_layout}
 use Rattle.phc.specs.declared.error.Error as phc_error
 use Rattle.phc.specs.declared.error.Error.TheVariants as phc_fault
 use Rattle.phc.specs.declared.password_hash.PasswordHash.{PasswordHash}
 use Rattle.sha_crypt.specs.Families.{Scheme, scheme_fields}
-use Rattle.sha_crypt.specs.Fields.{ShaFields, split_fields, by_rounds, formed, from_salt, plain_number, sha_fields, short_salt, checked_hash, with_rounds, fields_in_range}
+use Rattle.sha_crypt.specs.Fields.{ShaFields, split_fields, by_rounds, formed, from_salt, plain_number, sha_fields}
+use Rattle.sha_crypt.specs.Fields.{short_salt, checked_hash, with_rounds, fields_in_range}
 use Rattle.sha_crypt.specs.HashField.{is_hash_field}
 use Rattle.sha_crypt.specs.declared.errors.CheckError.{CheckError}
 use Rattle.stored_check.specs.Names.{mcf_named, phc_named, sha_named}
@@ -46,13 +49,16 @@ mcf_field (b ∷ s) = mcf_bytes (list_all mcf_grammar.is_field_byte (b ∷ s))
 
 mcf_fields : (fields : List (List ℕ)) → Mcf (mcf_grammar.first_field_fault fields)
 mcf_fields [] = tt
-mcf_fields (field ∷ fields) = mcf_or (mcf_grammar.field_fault field) (mcf_grammar.first_field_fault fields) (mcf_field field) (mcf_fields fields)
+mcf_fields (field ∷ fields) =
+    mcf_or (mcf_grammar.field_fault field) (mcf_grammar.first_field_fault fields) (mcf_field field) (mcf_fields fields)
 
 of_mcf : (stored : List ℕ) → Mcf (fault stored)
 of_mcf stored =
-    mcf_or (mcf_grammar.unless (mcf_grammar.is_delimited stored) mcf_fault.DelimiterInvalid) _ (mcf_unless (mcf_grammar.is_delimited stored) mcf_fault.DelimiterInvalid refl)
+    mcf_or (mcf_grammar.unless (mcf_grammar.is_delimited stored) mcf_fault.DelimiterInvalid) _
+    (mcf_unless (mcf_grammar.is_delimited stored) mcf_fault.DelimiterInvalid refl)
     (mcf_or (mcf_grammar.unless (mcf_grammar.is_identifier (parts stored).id) mcf_fault.IdentifierInvalid) _
-    (mcf_unless (mcf_grammar.is_identifier (parts stored).id) mcf_fault.IdentifierInvalid refl) (mcf_fields (parts stored).fields))
+    (mcf_unless (mcf_grammar.is_identifier (parts stored).id) mcf_fault.IdentifierInvalid refl)
+    (mcf_fields (parts stored).fields))
 
 mcf_by : (o : Option mcf_error.Error) (e : mcf_error.Error) → Mcf o → o ≡ Some e → mcf_named (mcf_name e) ≡ e
 mcf_by None e h is = absurd cc
@@ -74,15 +80,18 @@ sha_if false x y hx hy = hy
 sha_salt : (n : ℕ) (w : Bool) (pieces : List (List ℕ)) → Sha (from_salt n w pieces)
 sha_salt n w [] = refl
 sha_salt n w (s ∷ []) = refl
-sha_salt n w (s ∷ (h ∷ more)) = sha_if (is_nil more) (fields_in_range n w s h) _ (sha_if (nat_lt n 1000 || nat_lt 999999999 n) _ _ refl tt) refl
+sha_salt n w (s ∷ (h ∷ more)) =
+    sha_if (is_nil more) (fields_in_range n w s h) _ (sha_if (nat_lt n 1000 || nat_lt 999999999 n) _ _ refl tt) refl
 
 sha_with : (o : Option ℕ) (pieces : List (List ℕ)) → Sha (with_rounds o pieces)
 sha_with None pieces = refl
 sha_with (Some n) pieces = sha_salt n true pieces
 
-sha_rounds : (o : Option (List ℕ)) (first : List ℕ) (pieces : List (List ℕ)) → Sha (by_rounds plain_number o first pieces)
+sha_rounds : (o : Option (List ℕ)) (first : List ℕ) (pieces : List (List ℕ))
+    → Sha (by_rounds plain_number o first pieces)
 sha_rounds None first pieces = sha_salt 5000 false (first ∷ pieces)
-sha_rounds (Some digits) first pieces = sha_if (is_nil pieces) _ (with_rounds (plain_number digits) pieces) refl (sha_with (plain_number digits) pieces)
+sha_rounds (Some digits) first pieces =
+    sha_if (is_nil pieces) _ (with_rounds (plain_number digits) pieces) refl (sha_with (plain_number digits) pieces)
 
 sha_form : (pieces : List (List ℕ)) → Sha (split_fields plain_number pieces)
 sha_form [] = refl
@@ -98,13 +107,15 @@ sha_checked t (Ok f) h = sha_if (t f.hash) (Ok f) _ tt refl
 
 of_sha : (s : Scheme) (pieces : List (List ℕ)) → Sha (scheme_fields s pieces)
 unfolding sha_fields
-of_sha s pieces = sha_checked (is_hash_field s.size) (formed pieces) (sha_short (split_fields plain_number pieces) (sha_form pieces))
+of_sha s pieces = sha_checked (is_hash_field s.size) (formed pieces)
+    (sha_short (split_fields plain_number pieces) (sha_form pieces))
 
 sha_by : (r : Result ShaFields CheckError) (e : CheckError) → Sha r → r ≡ Err e → sha_named (sha_name e) ≡ e
 sha_by (Ok f) e h is = absurd cc
 sha_by (Err f) e h is = let same : f ≡ e = cc in rw same at h
 
-pub sha_has_name : (s : Scheme) (pieces : List (List ℕ)) (e : CheckError) → scheme_fields s pieces ≡ Err e → sha_named (sha_name e) ≡ e
+pub sha_has_name : (s : Scheme) (pieces : List (List ℕ)) (e : CheckError) → scheme_fields s pieces ≡ Err e
+    → sha_named (sha_name e) ≡ e
 sha_has_name s pieces e is = sha_by (scheme_fields s pieces) e (of_sha s pieces) is
 
 -- ---- PHC texts
@@ -117,39 +128,46 @@ phc_unless : (t : Bool) (e : phc_error.Error) → phc_named (phc_name e) ≡ e �
 phc_unless true e h = tt
 phc_unless false e h = h
 
-phc_part : (f : List ℕ → Option phc_error.Error) → ((s : List ℕ) → Phc (f s)) → (o : Option (List ℕ)) → Phc (fault_of f o)
+phc_part : (f : List ℕ → Option phc_error.Error) → ((s : List ℕ) → Phc (f s)) → (o : Option (List ℕ))
+    → Phc (fault_of f o)
 phc_part f h None = tt
 phc_part f h (Some s) = h s
 
 -- the first of two, three or four tests that fails
-phc_two : (a b : Bool) (e f : phc_error.Error) → phc_named (phc_name e) ≡ e → phc_named (phc_name f) ≡ f → Phc (first_fault (unless a e ∷ (unless b f ∷ [])))
+phc_two : (a b : Bool) (e f : phc_error.Error) → phc_named (phc_name e) ≡ e → phc_named (phc_name f) ≡ f
+    → Phc (first_fault (unless a e ∷ (unless b f ∷ [])))
 phc_two false b e f he hf = he
 phc_two true false e f he hf = hf
 phc_two true true e f he hf = tt
 
-phc_three : (a b c : Bool) (e f g : phc_error.Error) → phc_named (phc_name e) ≡ e → phc_named (phc_name f) ≡ f → phc_named (phc_name g) ≡ g
+phc_three : (a b c : Bool) (e f g : phc_error.Error) → phc_named (phc_name e) ≡ e → phc_named (phc_name f) ≡ f
+    → phc_named (phc_name g) ≡ g
     → Phc (first_fault (unless a e ∷ (unless b f ∷ (unless c g ∷ []))))
 phc_three false b c e f g he hf hg = he
 phc_three true b c e f g he hf hg = phc_two b c f g hf hg
 
-phc_four : (a b c d : Bool) (e f g h : phc_error.Error) → phc_named (phc_name e) ≡ e → phc_named (phc_name f) ≡ f → phc_named (phc_name g) ≡ g → phc_named (phc_name h) ≡ h
+phc_four : (a b c d : Bool) (e f g h : phc_error.Error) → phc_named (phc_name e) ≡ e → phc_named (phc_name f) ≡ f
+    → phc_named (phc_name g) ≡ g → phc_named (phc_name h) ≡ h
     → Phc (first_fault (unless a e ∷ (unless b f ∷ (unless c g ∷ (unless d h ∷ [])))))
 phc_four false b c d e f g h he hf hg hh = he
 phc_four true b c d e f g h he hf hg hh = phc_three b c d f g h hf hg hh
 
-phc_cons : (o : Option phc_error.Error) (os : List (Option phc_error.Error)) → Phc o → Phc (first_fault os) → Phc (first_fault (o ∷ os))
+phc_cons : (o : Option phc_error.Error) (os : List (Option phc_error.Error)) → Phc o → Phc (first_fault os)
+    → Phc (first_fault (o ∷ os))
 phc_cons (Some e) os h hs = h
 phc_cons None os h hs = hs
 
 phc_version : (s : List ℕ) → Phc (version_fault s)
-phc_version s = phc_two (nat_le (length s) 64) (is_some (decimal_value s)) phc_fault.ParamValueTooLong phc_fault.ParamValueInvalid refl refl
+phc_version s = phc_two (nat_le (length s) 64) (is_some (decimal_value s)) phc_fault.ParamValueTooLong
+    phc_fault.ParamValueInvalid refl refl
 
 phc_pair : (pieces : List (List ℕ)) → Phc (pair_fault pieces)
 phc_pair [] = refl
 phc_pair (name ∷ []) = phc_two (is_name name) false phc_fault.ParamNameInvalid phc_fault.ParamValueInvalid refl refl
 phc_pair (name ∷ (value ∷ more)) =
     phc_four (is_name name) (nat_le (length value) 64) (has_value_bytes value) (is_nil more)
-    phc_fault.ParamNameInvalid phc_fault.ParamValueTooLong phc_fault.ParamValueInvalid phc_fault.ParamValueInvalid refl refl refl refl
+    phc_fault.ParamNameInvalid phc_fault.ParamValueTooLong phc_fault.ParamValueInvalid phc_fault.ParamValueInvalid refl
+    refl refl refl
 
 phc_pairs : (pairs : List (List (List ℕ))) → Phc (first_fault (map pair_fault pairs))
 phc_pairs [] = tt
@@ -162,7 +180,8 @@ phc_if false x y hx hy = hy
 phc_params : (s : List ℕ) → Phc (text_fault s)
 phc_params s =
     phc_if (is_empty s) None (params_fault s) tt
-    (phc_cons (unless (nat_le (length s) 127) phc_fault.ParamsMaxExceeded) (map pair_fault (cut_pairs s)) (phc_unless (nat_le (length s) 127) phc_fault.ParamsMaxExceeded refl)
+    (phc_cons (unless (nat_le (length s) 127) phc_fault.ParamsMaxExceeded) (map pair_fault (cut_pairs s))
+    (phc_unless (nat_le (length s) 127) phc_fault.ParamsMaxExceeded refl)
     (phc_pairs (cut_pairs s)))
 
 phc_salt : (s : List ℕ) → Phc (salt_fault s)
@@ -182,17 +201,22 @@ of_layout id l =
     let salt : Option phc_error.Error = fault_of salt_fault l.salt in
     let hash : Option phc_error.Error = fault_of hash_fault l.hash in
     let rest : Option phc_error.Error = unless (is_nil l.rest) phc_fault.TrailingData in
-    phc_cons (name_fault id) (version ∷ (params ∷ (salt ∷ (hash ∷ (rest ∷ []))))) (phc_unless (is_name id) phc_fault.ParamNameInvalid refl)
+    phc_cons (name_fault id) (version ∷ (params ∷ (salt ∷ (hash ∷ (rest ∷ [])))))
+    (phc_unless (is_name id) phc_fault.ParamNameInvalid refl)
     (phc_cons version (params ∷ (salt ∷ (hash ∷ (rest ∷ [])))) (phc_part version_fault phc_version l.version)
     (phc_cons params (salt ∷ (hash ∷ (rest ∷ []))) (phc_part text_fault phc_params l.params)
     (phc_cons salt (hash ∷ (rest ∷ [])) (phc_part salt_fault phc_salt l.salt)
     (phc_cons hash (rest ∷ []) (phc_part hash_fault phc_hash l.hash)
     (phc_cons rest [] (phc_unless (is_nil l.rest) phc_fault.TrailingData refl) tt)))))
 
-phc_by : (r : PasswordHash) (o : Option phc_error.Error) (e : phc_error.Error) → Phc o → value_or_fault r o ≡ Err e → phc_named (phc_name e) ≡ e
+phc_by : (r : PasswordHash) (o : Option phc_error.Error) (e : phc_error.Error) → Phc o → value_or_fault r o ≡ Err e
+    → phc_named (phc_name e) ≡ e
 phc_by r None e h is = absurd cc
 phc_by r (Some f) e h is = let same : f ≡ e = cc in rw same at h
 
-pub phc_has_name : (id : List ℕ) (pieces : List (List ℕ)) (e : phc_error.Error) → phc id pieces ≡ Err e → phc_named (phc_name e) ≡ e
+pub phc_has_name : (id : List ℕ) (pieces : List (List ℕ)) (e : phc_error.Error) → phc id pieces ≡ Err e
+    → phc_named (phc_name e) ≡ e
 unfolding phc
-phc_has_name id pieces e is = phc_by (record_of_layout id (layout pieces)) (fault_of_layout id (layout pieces)) e (of_layout id (layout pieces)) is
+phc_has_name id pieces e is =
+    phc_by (record_of_layout id (layout pieces)) (fault_of_layout id (layout pieces)) e (of_layout id (layout pieces))
+    is

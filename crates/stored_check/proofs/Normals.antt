@@ -1,5 +1,6 @@
 -- Normal texts, their verdicts and their length.
-use Rattle.std.proofs.Common.{◌≡◌, ℕ, zero, suc, ◌<◌, ◌≤◌, ◌^◌, Bool, true, false, List, [], ◌∷◌, ◌++◌, length, take, refl, sym, ap, ◌∙◌, arith, Result, Ok, Err}
+use Rattle.std.proofs.Common.{◌≡◌, ℕ, zero, suc, ◌<◌, ◌≤◌, ◌^◌, Bool, true, false, List, [], ◌∷◌, ◌++◌, length, take}
+use Rattle.std.proofs.Common.{refl, sym, ap, ◌∙◌, arith, Result, Ok, Err}
 use Rattle.std.specs.Prelude.{◌||◌, nat_lt, Option, Some, None, if◌then◌else◌, codes}
 use Rattle.std.specs.Char.{is_ascii_digit}
 use Rattle.std.specs.Fmt.{decimal}
@@ -9,7 +10,8 @@ use Rattle.std.specs.Str.{all_ascii_digits}
 use Rattle.std.proofs.lemmas.Bool.{and_parts}
 use Rattle.std.proofs.lemmas.Fmt.{digits_decimal}
 use Rattle.std.proofs.lemmas.Str.Parse.{numerals_by_value, tells_all_ascii_digits}
-use Rattle.mcf.specs.Grammar.{mcf, fault, field_fault, first_field_fault, is_empty, is_field_byte, is_identifier, parts, Parts, parts_or_fault, parts_text}
+use Rattle.mcf.specs.Grammar.{mcf, fault, field_fault, first_field_fault, is_empty, is_field_byte, is_identifier, parts}
+use Rattle.mcf.specs.Grammar.{Parts, parts_or_fault, parts_text}
 use Rattle.mcf.specs.declared.error.Error as mcf_error
 use Rattle.mcf.specs.declared.error.Error.TheVariants.{FieldInvalid, EncodingInvalid}
 use Rattle.mcf.proofs.Built.{mcf-parts_text}
@@ -23,7 +25,8 @@ use Rattle.sha_crypt.proofs.Shapes.{Stands}
 use Rattle.sha_crypt.proofs.Spellings.{cut_once, old_form, same_hash_field, today, written_anew}
 use Rattle.stored_check.specs.declared.error.StoredError.{StoredError}
 use Rattle.stored_check.specs.Normal as spec
-use Rattle.stored_check.specs.Normal.{normal, normal_answer, normal_fields, normal_parts, old_verdict, old_text_answer, old_parts_answer}
+use Rattle.stored_check.specs.Normal.{normal, normal_answer, normal_fields, normal_parts, old_verdict, old_text_answer}
+use Rattle.stored_check.specs.Normal.{old_parts_answer}
 use Rattle.stored_check.specs.Verdict.{same_text, scheme_of, sha_answer, text_answer, verdict}
 
 err_ok : (e : CheckError) (f : ShaFields) → Err e ≡ Ok f → ⊥
@@ -55,7 +58,8 @@ bytes_take (suc k) (b ∷ s) h =
 
 cut_field : (s : List ℕ) → field_fault s ≡ None → field_fault (take 16 s) ≡ None
 cut_field [] h = h
-cut_field (b ∷ s) h = of_field (take 16 (b ∷ s)) (record { some = refl; bytes = bytes_take 16 (b ∷ s) (field_of (b ∷ s) h).bytes })
+cut_field (b ∷ s) h = of_field (take 16 (b ∷ s))
+    (record { some = refl; bytes = bytes_take 16 (b ∷ s) (field_of (b ∷ s) h).bytes })
 
 digit_by : (t p q r : Bool) → t ≡ true → (((t || p) || q) || r) ≡ true
 digit_by true p q r h = refl
@@ -72,10 +76,13 @@ digits_field (b ∷ s) h =
     rw (one) (digits_field s both.1)
 
 pub rounds_field : (n : ℕ) → n < 2 ^ 64 → field_fault (codes "rounds=" ++ decimal n) ≡ None
-rounds_field n small = rw (digits_field (decimal n) (digits_decimal (numerals_by_value (λ ds. all_ascii_digits ds ≡ true) tells_all_ascii_digits) n small)) refl
+rounds_field n small = rw
+    (digits_field (decimal n)
+    (digits_decimal (numerals_by_value (λ ds. all_ascii_digits ds ≡ true) tells_all_ascii_digits) n small)) refl
 
 -- the fields of an earlier text, written anew, are fields
-fields_by : (w : Bool) (pieces : List (List ℕ)) (f : ShaFields) → f.written ≡ w → f.rounds ≤ 999999999 → Stands old_number pieces f w → first_field_fault pieces ≡ None
+fields_by : (w : Bool) (pieces : List (List ℕ)) (f : ShaFields) → f.written ≡ w → f.rounds ≤ 999999999
+    → Stands old_number pieces f w → first_field_fault pieces ≡ None
     → first_field_fault (field_pieces (cut_salt f)) ≡ None
 fields_by true pieces f is most h good =
     let all = rw h.1 at good in
@@ -87,9 +94,11 @@ fields_by false pieces f is most h good =
     let salt = or_none (field_fault f.salt) (first_field_fault (f.hash ∷ [])) all in
     rw (is, cut_field f.salt salt.0) salt.1
 
-anew_good : (s : Scheme) (pieces : List (List ℕ)) (f : ShaFields) → old_scheme_fields s pieces ≡ Ok f → first_field_fault pieces ≡ None
+anew_good : (s : Scheme) (pieces : List (List ℕ)) (f : ShaFields) → old_scheme_fields s pieces ≡ Ok f
+    → first_field_fault pieces ≡ None
     → first_field_fault (field_pieces (cut_salt f)) ≡ None
-anew_good s pieces f h good = let form = old_form s pieces f h in fields_by f.written pieces f refl form.most form.stands good
+anew_good s pieces f h good = let form = old_form s pieces f h in
+    fields_by f.written pieces f refl form.most form.stands good
 
 -- ---- parts of a text
 
@@ -114,7 +123,8 @@ valid_parts stored p h =
 abbrev anew_parts : Parts → ShaFields → Parts
 anew_parts p f = record { id = p.id; fields = field_pieces (cut_salt f) }
 
-mcf_anew : (stored : List ℕ) (p : Parts) (s : Scheme) (f : ShaFields) → mcf stored ≡ Ok p → old_scheme_fields s p.fields ≡ Ok f
+mcf_anew : (stored : List ℕ) (p : Parts) (s : Scheme) (f : ShaFields) → mcf stored ≡ Ok p
+    → old_scheme_fields s p.fields ≡ Ok f
     → mcf (spec.written_anew p.id f) ≡ Ok (anew_parts p f)
 mcf_anew stored p s f h read =
     let valid = valid_parts stored p h in
@@ -122,8 +132,10 @@ mcf_anew stored p s f h read =
 
 -- ---- the verdict on a normal text
 
-module _ (accepted : PasswordHash → List ℕ → ℕ → Bool) (tag : List ℕ → PasswordHash → List ℕ → ℕ → List ℕ) (password : List ℕ) where
-  no_fields : (s : Scheme) (pieces : List (List ℕ)) (e : CheckError) (r : Result ShaFields CheckError) → old_scheme_fields s pieces ≡ Err e → scheme_fields s pieces ≡ r
+module _ (accepted : PasswordHash → List ℕ → ℕ → Bool) (tag : List ℕ → PasswordHash → List ℕ → ℕ → List ℕ)
+    (password : List ℕ) where
+  no_fields : (s : Scheme) (pieces : List (List ℕ)) (e : CheckError) (r : Result ShaFields CheckError)
+      → old_scheme_fields s pieces ≡ Err e → scheme_fields s pieces ≡ r
       → None ≡ result_ok (sha_answer s password r)
   no_fields s pieces e (Err e') old is = refl
   no_fields s pieces e (Ok f) old is = absurd (two (today s pieces f is).old)
@@ -132,28 +144,35 @@ module _ (accepted : PasswordHash → List ℕ → ℕ → Bool) (tag : List ℕ
       two new = err_ok e f (sym old ∙ new)
 
   module _ (stored : List ℕ) (p : Parts) (h : mcf stored ≡ Ok p) where
-    by_fields : (s : Scheme) (r : Result ShaFields CheckError) → scheme_of p.id ≡ Some s → old_scheme_fields s p.fields ≡ r
-        → result_ok (sha_answer s password r) ≡ result_ok (text_answer accepted tag password (mcf (normal_fields stored p.id r)))
+    by_fields : (s : Scheme) (r : Result ShaFields CheckError) → scheme_of p.id ≡ Some s
+        → old_scheme_fields s p.fields ≡ r
+        → result_ok (sha_answer s password r)
+        ≡ result_ok (text_answer accepted tag password (mcf (normal_fields stored p.id r)))
     by_fields s (Err e) is read = rw (h, is) (no_fields s p.fields e (scheme_fields s p.fields) read refl)
     by_fields s (Ok f) is read =
-        rw (mcf_anew stored p s f h read, is, written_anew s p.fields f read) (ap (λ (t : List ℕ). Some (same_text t f.hash)) (sym (same_hash_field s password f)))
+        rw (mcf_anew stored p s f h read, is, written_anew s p.fields f read)
+        (ap (λ (t : List ℕ). Some (same_text t f.hash)) (sym (same_hash_field s password f)))
 
     by_scheme : (o : Option Scheme) → scheme_of p.id ≡ o
-        → result_ok (old_parts_answer accepted tag password o p) ≡ result_ok (text_answer accepted tag password (mcf (normal_parts stored o p)))
+        → result_ok (old_parts_answer accepted tag password o p)
+        ≡ result_ok (text_answer accepted tag password (mcf (normal_parts stored o p)))
     by_scheme None is = rw (h, is) refl
     by_scheme (Some s) is = by_fields s (old_scheme_fields s p.fields) is refl
 
   by_text : (stored : List ℕ) (r : Result Parts mcf_error.Error) → mcf stored ≡ r
-      → result_ok (old_text_answer accepted tag password r) ≡ result_ok (text_answer accepted tag password (mcf (normal_answer stored r)))
+      → result_ok (old_text_answer accepted tag password r)
+      ≡ result_ok (text_answer accepted tag password (mcf (normal_answer stored r)))
   by_text stored (Err e) h = rw h refl
   by_text stored (Ok p) h = by_scheme stored p h (scheme_of p.id) refl
 
-  by_length : (t : Bool) (x y : Result Bool StoredError) (e : StoredError) → result_ok x ≡ result_ok y → result_ok (if t then Err e else x) ≡ result_ok (if t then Err e else y)
+  by_length : (t : Bool) (x y : Result Bool StoredError) (e : StoredError) → result_ok x ≡ result_ok y
+      → result_ok (if t then Err e else x) ≡ result_ok (if t then Err e else y)
   by_length true x y e h = refl
   by_length false x y e h = h
 
   -- the verdicts, where there are any, are the same
-  pub same_verdict : (stored : List ℕ) → result_ok (old_verdict accepted tag password stored) ≡ result_ok (verdict accepted tag password (normal stored))
+  pub same_verdict : (stored : List ℕ)
+      → result_ok (old_verdict accepted tag password stored) ≡ result_ok (verdict accepted tag password (normal stored))
   unfolding old_verdict verdict normal
   same_verdict stored = by_length (nat_lt 4096 (length password)) _ _ _ (by_text stored (mcf stored) refl)
 
@@ -168,23 +187,29 @@ kept stored t is same = ap normal same ∙ is
 cut_twice : (f : ShaFields) → cut_salt (cut_salt f) ≡ cut_salt f
 cut_twice f = ap (λ (s : List ℕ). record f { salt = s }) (cut_once f.salt)
 
-anew_normal : (stored : List ℕ) (p : Parts) (s : Scheme) (f : ShaFields) → mcf stored ≡ Ok p → scheme_of p.id ≡ Some s → old_scheme_fields s p.fields ≡ Ok f
+anew_normal : (stored : List ℕ) (p : Parts) (s : Scheme) (f : ShaFields) → mcf stored ≡ Ok p → scheme_of p.id ≡ Some s
+    → old_scheme_fields s p.fields ≡ Ok f
     → IsNormal (spec.written_anew p.id f)
 unfolding normal
 anew_normal stored p s f h is read =
-    let again : old_scheme_fields s (field_pieces (cut_salt f)) ≡ Ok (cut_salt f) = (today s (field_pieces (cut_salt f)) (cut_salt f) (written_anew s p.fields f read)).old in
-    rw (mcf_anew stored p s f h read, is, again) (ap (λ (g : ShaFields). parts_text (record { id = p.id; fields = field_pieces g })) (cut_twice f))
+    let again : old_scheme_fields s (field_pieces (cut_salt f)) ≡ Ok (cut_salt f) =
+    (today s (field_pieces (cut_salt f)) (cut_salt f) (written_anew s p.fields f read)).old in
+    rw (mcf_anew stored p s f h read, is, again)
+    (ap (λ (g : ShaFields). parts_text (record { id = p.id; fields = field_pieces g })) (cut_twice f))
 
-twice_fields : (stored : List ℕ) (p : Parts) (s : Scheme) (r : Result ShaFields CheckError) → mcf stored ≡ Ok p → scheme_of p.id ≡ Some s → old_scheme_fields s p.fields ≡ r
+twice_fields : (stored : List ℕ) (p : Parts) (s : Scheme) (r : Result ShaFields CheckError) → mcf stored ≡ Ok p
+    → scheme_of p.id ≡ Some s → old_scheme_fields s p.fields ≡ r
     → normal stored ≡ normal_fields stored p.id r → IsNormal (normal_fields stored p.id r)
 twice_fields stored p s (Err e) h is read all = kept stored stored all refl
 twice_fields stored p s (Ok f) h is read all = anew_normal stored p s f h is read
 
-twice_parts : (stored : List ℕ) (p : Parts) (o : Option Scheme) → mcf stored ≡ Ok p → scheme_of p.id ≡ o → normal stored ≡ normal_parts stored o p → IsNormal (normal_parts stored o p)
+twice_parts : (stored : List ℕ) (p : Parts) (o : Option Scheme) → mcf stored ≡ Ok p → scheme_of p.id ≡ o
+    → normal stored ≡ normal_parts stored o p → IsNormal (normal_parts stored o p)
 twice_parts stored p None h is all = kept stored stored all refl
 twice_parts stored p (Some s) h is all = twice_fields stored p s (old_scheme_fields s p.fields) h is refl all
 
-twice_answer : (stored : List ℕ) (r : Result Parts mcf_error.Error) → mcf stored ≡ r → normal stored ≡ normal_answer stored r → IsNormal (normal_answer stored r)
+twice_answer : (stored : List ℕ) (r : Result Parts mcf_error.Error) → mcf stored ≡ r
+    → normal stored ≡ normal_answer stored r → IsNormal (normal_answer stored r)
 twice_answer stored (Err e) h all = kept stored stored all refl
 twice_answer stored (Ok p) h all = twice_parts stored p (scheme_of p.id) h refl all
 
@@ -193,7 +218,8 @@ unfolding normal
 normal_is stored = refl
 
 pub normal_twice : (stored : List ℕ) → normal (normal stored) ≡ normal stored
-normal_twice stored = ap normal (normal_is stored) ∙ twice_answer stored (mcf stored) refl (normal_is stored) ∙ sym (normal_is stored)
+normal_twice stored = ap normal (normal_is stored) ∙ twice_answer stored (mcf stored) refl (normal_is stored)
+    ∙ sym (normal_is stored)
 
 -- ---- from one verdict to the other
 
@@ -209,6 +235,7 @@ some_same b c h = cc
 abbrev as_verdict : Bool → Result Bool StoredError
 as_verdict b = Ok b
 
-pub ok_same : (x y : Result Bool StoredError) (b : Bool) → result_ok x ≡ result_ok y → x ≡ as_verdict b → y ≡ as_verdict b
+pub ok_same : (x y : Result Bool StoredError) (b : Bool) → result_ok x ≡ result_ok y → x ≡ as_verdict b
+    → y ≡ as_verdict b
 ok_same x (Ok c) b same is = ap as_verdict (some_same b c (sym same ∙ ap result_ok is))
 ok_same x (Err e) b same is = absurd (none_some b (sym same ∙ ap result_ok is))

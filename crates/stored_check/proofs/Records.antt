@@ -1,5 +1,6 @@
 -- The record of an earlier text, and the normal text.
-use Rattle.std.proofs.Common.{◌≡◌, ℕ, suc, ◌+◌, ◌≤◌, Bool, true, false, List, [], ◌∷◌, ◌++◌, length, take, refl, sym, ap, subst, ◌∙◌, arith, Result, Ok, Err}
+use Rattle.std.proofs.Common.{◌≡◌, ℕ, suc, ◌+◌, ◌≤◌, Bool, true, false, List, [], ◌∷◌, ◌++◌, length, take, refl, sym}
+use Rattle.std.proofs.Common.{ap, subst, ◌∙◌, arith, Result, Ok, Err}
 use Rattle.std.specs.Prelude.{IfSome, Option, Some, None, codes}
 use Rattle.std.specs.Fmt.{decimal}
 use Rattle.std.specs.Option.{option_map}
@@ -32,40 +33,52 @@ true_false h = cc
 
 -- ---- the record's text is the normal text
 
-pub printed_is : (family : Family) (f : ShaFields) → record_text family f ≡ parts_text (record { id = family_id family; fields = field_pieces f })
+pub printed_is : (family : Family) (f : ShaFields)
+    → record_text family f ≡ parts_text (record { id = family_id family; fields = field_pieces f })
 printed_is family f = sym (join-pieces family f) ∙ join-fields [] (family_id family ∷ field_pieces f)
 
 -- ---- the normal text of a valid text
 
-normal_valid : (stored : List ℕ) → fault stored ≡ None → normal stored ≡ normal_parts stored (scheme_of (parts stored).id) (parts stored)
+normal_valid : (stored : List ℕ) → fault stored ≡ None
+    → normal stored ≡ normal_parts stored (scheme_of (parts stored).id) (parts stored)
 unfolding normal
 normal_valid stored valid = rw (mcf_of_valid stored valid) refl
 
-old_record_is : (family : Family) (stored : List ℕ) → fault stored ≡ None → same_text (parts stored).id (family_id family) ≡ true
-    → old_record_of family stored ≡ option_map cut_salt (result_ok (old_scheme_fields (family_scheme family) (parts stored).fields))
+old_record_is : (family : Family) (stored : List ℕ) → fault stored ≡ None
+    → same_text (parts stored).id (family_id family) ≡ true
+    → old_record_of family stored
+    ≡ option_map cut_salt (result_ok (old_scheme_fields (family_scheme family) (parts stored).fields))
 unfolding text_fields
 old_record_is family stored valid same = rw (pieces_of_valid stored valid, same) refl
 
-by_record : (family : Family) (stored id : List ℕ) (q : Result ShaFields CheckError) (r : Option ShaRecord) → id ≡ family_id family
-    → kept_fields r ≡ option_map cut_salt (result_ok q) → IfSome r (λ (x : ShaRecord). family_of x ≡ family) → normal_fields stored id q ≡ text_or_record stored r
+by_record : (family : Family) (stored id : List ℕ) (q : Result ShaFields CheckError) (r : Option ShaRecord)
+    → id ≡ family_id family
+    → kept_fields r ≡ option_map cut_salt (result_ok q) → IfSome r (λ (x : ShaRecord). family_of x ≡ family)
+    → normal_fields stored id q ≡ text_or_record stored r
 by_record family stored id (Err e) None is h same = refl
 by_record family stored id (Err e) (Some x) is h same = absurd cc
 by_record family stored id (Ok f) None is h same = absurd cc
 by_record family stored id (Ok f) (Some x) is h same =
     let fields : fields_of_record x ≡ cut_salt f = cc in
-    ap (λ (i : List ℕ). written_anew i f) is ∙ ap (λ (g : ShaFields). parts_text (record { id = family_id family; fields = field_pieces g })) (sym fields)
+    ap (λ (i : List ℕ). written_anew i f) is
+    ∙ ap (λ (g : ShaFields). parts_text (record { id = family_id family; fields = field_pieces g })) (sym fields)
     ∙ sym (printed_is family (fields_of_record x)) ∙ ap (λ (k : Family). record_text k (fields_of_record x)) (sym same)
 
-pub normal_of_record : (family : Family) (stored : List ℕ) (r : Option ShaRecord) → fault stored ≡ None → scheme_of (parts stored).id ≡ Some (family_scheme family)
-    → same_text (parts stored).id (family_id family) ≡ true → kept_fields r ≡ old_record_of family stored → IfSome r (λ (x : ShaRecord). family_of x ≡ family)
+pub normal_of_record : (family : Family) (stored : List ℕ) (r : Option ShaRecord) → fault stored ≡ None
+    → scheme_of (parts stored).id ≡ Some (family_scheme family)
+    → same_text (parts stored).id (family_id family) ≡ true → kept_fields r ≡ old_record_of family stored
+    → IfSome r (λ (x : ShaRecord). family_of x ≡ family)
     → normal stored ≡ text_or_record stored r
 normal_of_record family stored r valid scheme same kept is =
     normal_valid stored valid ∙ ap (λ (o : Option Scheme). normal_parts stored o (parts stored)) scheme
-    ∙ by_record family stored (parts stored).id (old_scheme_fields (family_scheme family) (parts stored).fields) r (same_true (parts stored).id (family_id family) same)
+    ∙ by_record family stored (parts stored).id (old_scheme_fields (family_scheme family) (parts stored).fields) r
+    (same_true (parts stored).id (family_id family) same)
     (kept ∙ old_record_is family stored valid same) is
 
-pub normal_of_other : (stored : List ℕ) → fault stored ≡ None → scheme_of (parts stored).id ≡ None → normal stored ≡ stored
-normal_of_other stored valid none = normal_valid stored valid ∙ ap (λ (o : Option Scheme). normal_parts stored o (parts stored)) none
+pub normal_of_other : (stored : List ℕ) → fault stored ≡ None → scheme_of (parts stored).id ≡ None
+    → normal stored ≡ stored
+normal_of_other stored valid none =
+    normal_valid stored valid ∙ ap (λ (o : Option Scheme). normal_parts stored o (parts stored)) none
 
 pub normal_of_fault : (stored : List ℕ) (e : mcf_error.Error) → fault stored ≡ Some e → normal stored ≡ stored
 unfolding normal mcf
@@ -73,10 +86,12 @@ normal_of_fault stored e bad = rw bad refl
 
 -- ---- it is no longer
 
-length-fields_text : (field : List ℕ) (fields : List (List ℕ)) → length (fields_text (field ∷ fields)) ≡ suc (length field + length (fields_text fields))
+length-fields_text : (field : List ℕ) (fields : List (List ℕ))
+    → length (fields_text (field ∷ fields)) ≡ suc (length field + length (fields_text fields))
 length-fields_text field fields = ap suc (length-append field (fields_text fields))
 
-shorter_by : (w : Bool) (pieces : List (List ℕ)) (f : ShaFields) → f.written ≡ w → Stands old_number pieces f w → length (fields_text (field_pieces (cut_salt f))) ≤ length (fields_text pieces)
+shorter_by : (w : Bool) (pieces : List (List ℕ)) (f : ShaFields) → f.written ≡ w → Stands old_number pieces f w
+    → length (fields_text (field_pieces (cut_salt f))) ≤ length (fields_text pieces)
 shorter_by true pieces f is h =
     let digits = old_longer h.0 f.rounds h.2 in
     rw (is, h.1) (omega (
@@ -89,16 +104,29 @@ shorter_by true pieces f is h =
       length-fields_text f.salt (f.hash ∷ []),
     ))
 shorter_by false pieces f is h =
-    rw (is, h.0) (omega (arith, length-take 16 f.salt, length-fields_text (take 16 f.salt) (f.hash ∷ []), length-fields_text f.salt (f.hash ∷ [])))
+    rw (is, h.0) (omega (
+      arith,
+      length-take 16 f.salt,
+      length-fields_text (take 16 f.salt) (f.hash ∷ []),
+      length-fields_text f.salt (f.hash ∷ []),
+    ))
 
-shorter_fields : (stored : List ℕ) (p : Parts) (s : Scheme) (r : Result ShaFields CheckError) → old_scheme_fields s p.fields ≡ r → parts_text p ≡ stored → length (normal_fields stored p.id r) ≤ length stored
+shorter_fields : (stored : List ℕ) (p : Parts) (s : Scheme) (r : Result ShaFields CheckError)
+    → old_scheme_fields s p.fields ≡ r → parts_text p ≡ stored → length (normal_fields stored p.id r) ≤ length stored
 shorter_fields stored p s (Err e) read is = omega arith
 shorter_fields stored p s (Ok f) read is =
     let form = old_form s p.fields f read in
     let less = shorter_by f.written p.fields f refl form.stands in
-    omega (arith, less, ap length is, length-append p.id (fields_text p.fields), length-append p.id (fields_text (field_pieces (cut_salt f))))
+    omega (
+      arith,
+      less,
+      ap length is,
+      length-append p.id (fields_text p.fields),
+      length-append p.id (fields_text (field_pieces (cut_salt f))),
+    )
 
-shorter_parts : (stored : List ℕ) (p : Parts) (o : Option Scheme) → parts_text p ≡ stored → length (normal_parts stored o p) ≤ length stored
+shorter_parts : (stored : List ℕ) (p : Parts) (o : Option Scheme) → parts_text p ≡ stored
+    → length (normal_parts stored o p) ≤ length stored
 shorter_parts stored p None is = omega arith
 shorter_parts stored p (Some s) is = shorter_fields stored p s (old_scheme_fields s p.fields) refl is
 
@@ -107,14 +135,18 @@ normal_shorter stored valid =
     let less = shorter_parts stored (parts stored) (scheme_of (parts stored).id) (text_of_valid stored valid) in
     omega (arith, less, ap length (normal_valid stored valid))
 
-pub record_fits : (stored : List ℕ) (r : Option ShaRecord) → fault stored ≡ None → normal stored ≡ text_or_record stored r → IfSome r (λ (x : ShaRecord). length (printed x) ≤ length stored)
+pub record_fits : (stored : List ℕ) (r : Option ShaRecord) → fault stored ≡ None
+    → normal stored ≡ text_or_record stored r → IfSome r (λ (x : ShaRecord). length (printed x) ≤ length stored)
 record_fits stored None valid is = tt
-record_fits stored (Some x) valid is = let less = normal_shorter stored valid in subst (λ (t : List ℕ). length t ≤ length stored) is less
+record_fits stored (Some x) valid is = let less = normal_shorter stored valid in
+    subst (λ (t : List ℕ). length t ≤ length stored) is less
 
 -- ---- bytes that are no text
 
-by_valid : (stored : List ℕ) (o : Option mcf_error.Error) → fault stored ≡ o → is_utf8 stored ≡ false → normal stored ≡ stored
-by_valid stored None valid other = absurd (true_false (sym (is_utf8-from_IsUtf8 stored (IsUtf8-from_ascii stored (valid_ascii stored valid))) ∙ other))
+by_valid : (stored : List ℕ) (o : Option mcf_error.Error) → fault stored ≡ o → is_utf8 stored ≡ false
+    → normal stored ≡ stored
+by_valid stored None valid other =
+    absurd (true_false (sym (is_utf8-from_IsUtf8 stored (IsUtf8-from_ascii stored (valid_ascii stored valid))) ∙ other))
 by_valid stored (Some e) bad other = normal_of_fault stored e bad
 
 pub normal_of_other_bytes : (stored : List ℕ) → is_utf8 stored ≡ false → normal stored ≡ stored

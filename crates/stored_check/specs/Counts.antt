@@ -1,5 +1,5 @@
--- How often the decoded fields of a stored text are looked up in the alphabet, and how many comparisons the decoding and
--- the tag take: for the hash of SHA-crypt, else for the salt and the hash.
+-- How often the decoded fields of a stored text are looked up in the alphabet, and how many comparisons the decoding
+-- and the tag take: for the hash of SHA-crypt, else for the salt and the hash.
 use Rattle.std.specs.Prelude.{ℕ, ◌+◌, List, length, Option, Some, None, Result, Ok, Err}
 use Rattle.mcf.specs.Grammar.{mcf, Parts}
 use Rattle.mcf.specs.declared.error.Error as mcf_error

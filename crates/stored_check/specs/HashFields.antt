@@ -14,7 +14,8 @@ hash_field stored = (layout (parts stored).fields).hash
 
 -- the verdict `matches` says whether the hash field is the encoding of the record's tag, as long as the bytes that the
 -- field encodes
-pub record ComparesField (tag : List ℕ → PasswordHash → List ℕ → ℕ → List ℕ) (password stored : List ℕ) (matches : Bool) : Type 0 where
+pub record ComparesField (tag : List ℕ → PasswordHash → List ℕ → ℕ → List ℕ) (password stored : List ℕ)
+    (matches : Bool) : Type 0 where
   pub parsed : PasswordHash
   pub salt : List ℕ
   pub field : List ℕ

@@ -17,7 +17,8 @@ places_equal Greater Less = refl
 places_equal Greater Equal = refl
 places_equal Greater Greater = refl
 
-pub places_ordered : (x y : Ordering) → int_lt (pos (ordering_index x)) (pos (ordering_index y)) ≡ int_lt (ordering_number x) (ordering_number y)
+pub places_ordered : (x y : Ordering)
+    → int_lt (pos (ordering_index x)) (pos (ordering_index y)) ≡ int_lt (ordering_number x) (ordering_number y)
 places_ordered Less Less = refl
 places_ordered Less Equal = refl
 places_ordered Less Greater = refl

@@ -1,5 +1,6 @@
 -- Equality by the sign bit of the exclusive or.
-use Rattle.std.proofs.Common.{◌≡◌, ◌≢◌, ℕ, suc, ◌+◌, ◌-◌, ◌/◌, ◌%◌, ◌^◌, ◌==◌, ◌<◌, ◌≤◌, Bool, true, false, cond, bit_or, bit_xor, refl, sym, ap, ◌∙◌, arith, inl, inr}
+use Rattle.std.proofs.Common.{◌≡◌, ◌≢◌, ℕ, suc, ◌+◌, ◌-◌, ◌/◌, ◌%◌, ◌^◌, ◌==◌, ◌<◌, ◌≤◌, Bool, true, false, cond}
+use Rattle.std.proofs.Common.{bit_or, bit_xor, refl, sym, ap, ◌∙◌, arith, inl, inr}
 use Rattle.std.proofs.Math.Nat.{div-eq_of_lt-le, mod-eq_of_lt, pow-suc, mod_self, zero-div}
 use Rattle.std.proofs.lemmas.Nat.{xor_lt, or_lt, le_or_l, le_or_r}
 use Rattle.std.specs.Int.Bits.{xor_assoc, xor_self, xor_zero_l, xor_zero_r}
@@ -33,13 +34,15 @@ clear_sign_of_nonzero h x lt some =
     let one : bit_or x (2 ^ suc h - x) / 2 ^ h ≡ 1 = div-eq_of_lt-le {k = 1} (2 ^ h) (omega arith) (omega arith) in
     ap (λ (k : ℕ). bit_xor (bit_or x k / 2 ^ h) 1) rest ∙ ap (λ (k : ℕ). bit_xor k 1) one
 
-pub sign_equal : (h a b : ℕ) → a < 2 ^ suc h → b < 2 ^ suc h → bit_xor (bit_or (bit_xor a b) ((0 + (2 ^ suc h - bit_xor a b)) % 2 ^ suc h) / 2 ^ h) 1 ≡ cond (a == b) 1 0
+pub sign_equal : (h a b : ℕ) → a < 2 ^ suc h → b < 2 ^ suc h
+    → bit_xor (bit_or (bit_xor a b) ((0 + (2 ^ suc h - bit_xor a b)) % 2 ^ suc h) / 2 ^ h) 1 ≡ cond (a == b) 1 0
 unfolding clear_sign
 sign_equal h a b la lb = elim (cases_eq a b) [
   | inl e ↦
       let same : bit_xor a b ≡ 0 = rw e (xor_self b) in
       ap (λ (x : ℕ). clear_sign h x) same ∙ clear_sign_of_zero h ∙ rw (eq-eqb a b e) refl
-  | inr ne ↦ clear_sign_of_nonzero h (bit_xor a b) (xor_lt (suc h) a b la lb) (λ e. ne (xor_equal a b e)) ∙ rw (ne_eqb a b ne) refl
+  | inr ne ↦ clear_sign_of_nonzero h (bit_xor a b) (xor_lt (suc h) a b la lb) (λ e. ne (xor_equal a b e))
+      ∙ rw (ne_eqb a b ne) refl
 ]
 
 pub bit_at_most_one : (b : Bool) (n : ℕ) → n ≡ cond b 1 0 → n ≤ 1

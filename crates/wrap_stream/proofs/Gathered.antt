@@ -1,6 +1,8 @@
 -- Characters gathered from lines: where they are an encoding, the text is read along them.
-use Rattle.std.proofs.Common.{◌≡◌, ℕ, zero, suc, ◌+◌, ◌*◌, ◌/◌, ◌%◌, ◌<◌, ◌≤◌, false, List, [], ◌∷◌, ◌++◌, length, take, drop, slice_index, take-add, Some, refl, sym, subst, ap, ◌∙◌, arith, inl, inr}
-use Rattle.std.proofs.lemmas.List.{append-nil, append_assoc, length-append, length-drop, length-take-le, append_cancel_right, drop_at, take_at, take-append-drop, take-take}
+use Rattle.std.proofs.Common.{◌≡◌, ℕ, zero, suc, ◌+◌, ◌*◌, ◌/◌, ◌%◌, ◌<◌, ◌≤◌, false, List, [], ◌∷◌, ◌++◌, length, take}
+use Rattle.std.proofs.Common.{drop, slice_index, take-add, Some, refl, sym, subst, ap, ◌∙◌, arith, inl, inr}
+use Rattle.std.proofs.lemmas.List.{append-nil, append_assoc, length-append, length-drop, length-take-le}
+use Rattle.std.proofs.lemmas.List.{append_cancel_right, drop_at, take_at, take-append-drop, take-take}
 use Rattle.base64ct.specs.Encoding.{character, encoding, unpadded_encoding, EachBelow}
 use Rattle.base64ct.specs.Alphabets.{base64, base64_unpadded}
 use Rattle.base64ct.specs.Decoding.{decoding}
@@ -16,8 +18,10 @@ use Rattle.wrap_stream.specs.Turns.{AreGathered, EndsLine, ReadsTo, Spells}
 use Rattle.wrap_stream.specs.declared.place.Place.{Place}
 use Rattle.wrap_stream.specs.declared.place.Place.TheVariants.{Within}
 use Rattle.wrap_stream.proofs.Letters.{IsLetter, lawful, letter_no_end, encoding-nil, encoding-three}
-use Rattle.wrap_stream.proofs.Grown.{begins_one, begins_two, begins_three, begins_four, grown_part, grown_whole, letters_whole}
-use Rattle.wrap_stream.proofs.Runs.{after_return, next_within, output-append, output-cons, output-nil, run-append, run-cons, run-nil}
+use Rattle.wrap_stream.proofs.Grown.{begins_one, begins_two, begins_three, begins_four, grown_part, grown_whole}
+use Rattle.wrap_stream.proofs.Grown.{letters_whole}
+use Rattle.wrap_stream.proofs.Runs.{after_return, next_within, output-append, output-cons, output-nil, run-append}
+use Rattle.wrap_stream.proofs.Runs.{run-cons, run-nil}
 
 -- ---- a character
 

@@ -1,5 +1,6 @@
 -- The bytes at the front of a wrapped text.
-use Rattle.std.specs.Prelude.{◌≡◌, ℕ, ◌≤◌, ◌==◌, ◌&&◌, ◌||◌, Bool, not, List, [], ◌∷◌, ◌++◌, length, Option, Some, None, if◌then◌else◌}
+use Rattle.std.specs.Prelude.{◌≡◌, ℕ, ◌≤◌, ◌==◌, ◌&&◌, ◌||◌, Bool, not, List, [], ◌∷◌, ◌++◌, length, Option, Some, None}
+use Rattle.std.specs.Prelude.{if◌then◌else◌}
 use Rattle.std.specs.List.{flat_map, list_any}
 use Rattle.base64ct.specs.Encoding.{encoding, equals_sign, EachBelow}
 use Rattle.base64ct.specs.Alphabets.{base64}
@@ -47,6 +48,7 @@ whole_block_bytes block = if is_whole block then or_none (decoding base64 block)
 abbrev pub bytes_of_whole : List ℕ → List ℕ
 bytes_of_whole t = flat_map whole_block_bytes (blocks t)
 
--- The front of text: the bytes of the whole blocks in its longest beginning that is the beginning of a wrapped encoding.
+-- The front of text: the bytes of the whole blocks in its longest beginning that is the beginning of a wrapped
+-- encoding.
 abbrev pub IsFront : ℕ → List ℕ → List ℕ → Type 0
 IsFront w text bytes = (kept : List ℕ) × IsLongest w text kept × (bytes ≡ bytes_of_whole (characters kept))

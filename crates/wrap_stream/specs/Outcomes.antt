@@ -33,11 +33,13 @@ pub record UnwrapOutcome (w status max : ℕ) (held taken added : List ℕ) : Ty
   -- 3: a read failed; the front of what was taken is written
   pub read_fault : status ≡ 3 → IsFront w taken added
   -- 4: a write failed; what was written is the beginning of the front, or of the bytes where the text is their encoding
-  pub write_fault : status ≡ 4 → (bytes : List ℕ) × (IsFront w held bytes ⊎ IsWrapped w held bytes) × IsPrefix added bytes
+  pub write_fault : status ≡ 4 → (bytes : List ℕ) × (IsFront w held bytes ⊎ IsWrapped w held bytes)
+      × IsPrefix added bytes
   -- 6: the source holds more than `max` bytes; the front of the first of these is written
   pub budget : status ≡ 6 → (max < length held) × IsFront w (take max held) added
   -- 7: the first `max` bytes are the beginning of no wrapped encoding, or all was taken and is none
   pub bad_text : status ≡ 7 → IsFront w taken added
-      × ((BeginsWrapped w (take max taken) → ⊥) ⊎ ((length held ≤ max) × (taken ≡ held) × (held ≢ []) × NotWrapped w held))
+      × ((BeginsWrapped w (take max taken) → ⊥)
+      ⊎ ((length held ≤ max) × (taken ≡ held) × (held ≢ []) × NotWrapped w held))
   -- 7 comes for no wrapped encoding of at most `max` bytes, and not for the empty text
   pub refused : status ≡ 7 → length held ≤ max → (held ≢ []) × NotWrapped w held

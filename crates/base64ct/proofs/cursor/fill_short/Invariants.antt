@@ -5,7 +5,8 @@ use Rattle.base64ct.proofs.cursor.fill_short.Given as goal
 
 abbrev pub invariant-turns : goal.invariant-turns
 invariant-turns g l = (l.done ≤ length l.out) × (l.place ≤ length l.body)
-    × ((t : List ℕ) → Standing g.E.Alphabet.alphabet l.width l.body t l.fn.kept l.at l.room l.read → l.read + length l.out ≤ length (decoded g.E.Alphabet.alphabet t)
+    × ((t : List ℕ) → Standing g.E.Alphabet.alphabet l.width l.body t l.fn.kept l.at l.room l.read
+    → l.read + length l.out ≤ length (decoded g.E.Alphabet.alphabet t)
     → Filling g.E.Alphabet.alphabet l.width l.body t l.out l.block l.read l.done l.place l.left)
 
 abbrev pub decreases-turns : goal.decreases-turns

@@ -8,10 +8,16 @@ returns g c =
     let a = g.A.Alphabet.alphabet in
     let n : ℕ = c.args.count in
     let len = length-encoding a c.args.src.now (λ k. omega (arith, c.type_inv.src k)) in
-    let same : padding_count a.padded ((4 * length c.args.src.now + 2) / 3) ≡ padding_count a.padded n = ap (padding_count a.padded) (sym c.requires.characters) in
-    let padding : c.args.padding ≡ padding_count a.padded n = omega (arith, len, same, c.requires.characters, c.requires.whole) in
+    let same : padding_count a.padded ((4 * length c.args.src.now + 2) / 3) ≡ padding_count a.padded n =
+    ap (padding_count a.padded) (sym c.requires.characters) in
+    let padding : c.args.padding ≡ padding_count a.padded n =
+    omega (arith, len, same, c.requires.characters, c.requires.whole) in
     let width : n + c.args.padding - n ≡ c.args.padding = omega arith in
-    let whole = encoding_written a c.args.src.now c.args.dst.now c.encode_unpadded.new.dst c.fill.new.self n _ c.args.padding _ (λ k. omega (arith, c.type_inv.src k)) c.requires.characters padding width refl
+    let whole = encoding_written a c.args.src.now c.args.dst.now c.encode_unpadded.new.dst c.fill.new.self n _
+    c.args.padding _ (λ k. omega (arith, c.type_inv.src k)) c.requires.characters padding width refl
     (c.encode_unpadded.ensures.written ∙ rw (c.encode_unpadded.ensures.len, c.requires.characters) refl)
-    (c.fill.ensures.after (λ y h. h) ∙ ap (λ (m : ℕ). replicate m 61) (length-take-le _ (drop n c.encode_unpadded.new.dst) (omega (arith, length-drop n c.encode_unpadded.new.dst)))) in
+    (c.fill.ensures.after (λ y h. h)
+    ∙ ap (λ (m : ℕ). replicate m 61)
+    (length-take-le _ (drop n c.encode_unpadded.new.dst)
+    (omega (arith, length-drop n c.encode_unpadded.new.dst)))) in
     whole.1

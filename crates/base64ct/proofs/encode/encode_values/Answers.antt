@@ -8,4 +8,5 @@ pub value-preserved : goal.value-preserved
 value-preserved g c =
     let x : ℕ = slice_index c.value.values c.value.j in
     rw c.encode_6bits.ensures
-    (map_over_more (character g.A.Alphabet.alphabet) c.args.values.now c.value.values c.value.j x (omega arith) c.value.invariant (get_or_default c.value.values c.value.j 0 x (omega arith)))
+    (map_over_more (character g.A.Alphabet.alphabet) c.args.values.now c.value.values c.value.j x (omega arith)
+    c.value.invariant (get_or_default c.value.values c.value.j 0 x (omega arith)))

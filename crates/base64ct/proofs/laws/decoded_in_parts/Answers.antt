@@ -12,6 +12,8 @@ returns g c = λ text t b width wide stands below is d new lengths answers made_
     let a = g.E.Alphabet.alphabet in
     let made = opened a g.met.E.Alphabet.lawful g.met.E.Alphabet.no_ending text t b width wide stands below is in
     let same : t ≡ d.text = Some-once t d.text (sym made.1.0 ∙ made_of.0) in
-    let good : (from n : ℕ) → AskedAreGood a d.text from n = all_asked a d.text ((encoding_by_blocks a d.text g.met.E.Alphabet.lawful).0 (b, below, sym same ∙ is)) in
-    let whole : left a d ≡ b = ap (λ (k : ℕ). drop k (decoded a d.text)) start ∙ ap (λ (l : List ℕ). decoded a l) (sym same) ∙ made.2 in
+    let good : (from n : ℕ) → AskedAreGood a d.text from n =
+    all_asked a d.text ((encoding_by_blocks a d.text g.met.E.Alphabet.lawful).0 (b, below, sym same ∙ is)) in
+    let whole : left a d ≡ b =
+    ap (λ (k : ℕ). drop k (decoded a d.text)) start ∙ ap (λ (l : List ℕ). decoded a l) (sym same) ∙ made.2 in
     run_slices a d new lengths answers b whole good run

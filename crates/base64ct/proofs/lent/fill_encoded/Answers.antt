@@ -9,4 +9,6 @@ pub returns-clause-text : goal.returns-clause-text
 returns-clause-text g c =
     let a = g.E.Alphabet.alphabet in
     let text : List ℕ = encoding a c.args.src.now in
-    text_written a c.encode_into-outcome.result c.args.src.now c.args.dst.now c.encode_into-outcome.new.dst (IsUtf8-from_ascii text (encoding_ascii a c.args.src.now g.met.E.Alphabet.ascii)) c.encode_into-outcome.ensures.written
+    text_written a c.encode_into-outcome.result c.args.src.now c.args.dst.now c.encode_into-outcome.new.dst
+    (IsUtf8-from_ascii text (encoding_ascii a c.args.src.now g.met.E.Alphabet.ascii))
+    c.encode_into-outcome.ensures.written

@@ -6,37 +6,57 @@ use Rattle.base64ct.proofs.tables.decode_four.Goals as goal
 pub returns-then-shape-clause-fault : goal.returns-then-shape-clause-fault
 returns-then-shape-clause-fault g c =
     let a = shaped (g.T.CodeTable.characters c.args.table.now) c.args.shape in
-    fault_from_values a c.args.c c.args.d c.args.e c.args.f c.table_value-v.result c.table_value-w.result c.table_value-x.result c.table_value-y.result (g.met.T.CodeTable.lawful c.args.table.now)
+    fault_from_values a c.args.c c.args.d c.args.e c.args.f c.table_value-v.result c.table_value-w.result
+    c.table_value-x.result c.table_value-y.result (g.met.T.CodeTable.lawful c.args.table.now)
     c.table_value-v.ensures.value
     (rw (← c.table_value-v.ensures.characters) c.table_value-w.ensures.value)
     (rw (← c.table_value-v.ensures.characters, ← c.table_value-w.ensures.characters) c.table_value-x.ensures.value)
-    (rw (← c.table_value-v.ensures.characters, ← c.table_value-w.ensures.characters, ← c.table_value-x.ensures.characters) c.table_value-y.ensures.value)
+    (rw (
+      ← c.table_value-v.ensures.characters,
+      ← c.table_value-w.ensures.characters,
+      ← c.table_value-x.ensures.characters,
+    ) c.table_value-y.ensures.value)
 
 pub returns-then-shape-clause-bytes : goal.returns-then-shape-clause-bytes
 returns-then-shape-clause-bytes g c =
     let a = shaped (g.T.CodeTable.characters c.args.table.now) c.args.shape in
-    unpadded_from_values a c.args.c c.args.d c.args.e c.args.f c.table_value-v.result c.table_value-w.result c.table_value-x.result c.table_value-y.result _ _ (g.met.T.CodeTable.lawful c.args.table.now)
+    unpadded_from_values a c.args.c c.args.d c.args.e c.args.f c.table_value-v.result c.table_value-w.result
+    c.table_value-x.result c.table_value-y.result _ _ (g.met.T.CodeTable.lawful c.args.table.now)
     c.table_value-v.ensures.value
     (rw (← c.table_value-v.ensures.characters) c.table_value-w.ensures.value)
     (rw (← c.table_value-v.ensures.characters, ← c.table_value-w.ensures.characters) c.table_value-x.ensures.value)
-    (rw (← c.table_value-v.ensures.characters, ← c.table_value-w.ensures.characters, ← c.table_value-x.ensures.characters) c.table_value-y.ensures.value)
+    (rw (
+      ← c.table_value-v.ensures.characters,
+      ← c.table_value-w.ensures.characters,
+      ← c.table_value-x.ensures.characters,
+    ) c.table_value-y.ensures.value)
     (sym c.if-shape.true) c.bytes_low-bytes.ensures
 
 pub returns-else-shape-clause-fault : goal.returns-else-shape-clause-fault
 returns-else-shape-clause-fault g c =
     let a = shaped (g.T.CodeTable.characters c.args.table.now) c.args.shape in
-    fault_from_values a c.args.c c.args.d c.args.e c.args.f c.table_value-v.result c.table_value-w.result c.table_value-x.result c.table_value-y.result (g.met.T.CodeTable.lawful c.args.table.now)
+    fault_from_values a c.args.c c.args.d c.args.e c.args.f c.table_value-v.result c.table_value-w.result
+    c.table_value-x.result c.table_value-y.result (g.met.T.CodeTable.lawful c.args.table.now)
     c.table_value-v.ensures.value
     (rw (← c.table_value-v.ensures.characters) c.table_value-w.ensures.value)
     (rw (← c.table_value-v.ensures.characters, ← c.table_value-w.ensures.characters) c.table_value-x.ensures.value)
-    (rw (← c.table_value-v.ensures.characters, ← c.table_value-w.ensures.characters, ← c.table_value-x.ensures.characters) c.table_value-y.ensures.value)
+    (rw (
+      ← c.table_value-v.ensures.characters,
+      ← c.table_value-w.ensures.characters,
+      ← c.table_value-x.ensures.characters,
+    ) c.table_value-y.ensures.value)
 
 pub returns-else-shape-clause-bytes : goal.returns-else-shape-clause-bytes
 returns-else-shape-clause-bytes g c =
     let a = shaped (g.T.CodeTable.characters c.args.table.now) c.args.shape in
-    unpadded_from_values a c.args.c c.args.d c.args.e c.args.f c.table_value-v.result c.table_value-w.result c.table_value-x.result c.table_value-y.result _ _ (g.met.T.CodeTable.lawful c.args.table.now)
+    unpadded_from_values a c.args.c c.args.d c.args.e c.args.f c.table_value-v.result c.table_value-w.result
+    c.table_value-x.result c.table_value-y.result _ _ (g.met.T.CodeTable.lawful c.args.table.now)
     c.table_value-v.ensures.value
     (rw (← c.table_value-v.ensures.characters) c.table_value-w.ensures.value)
     (rw (← c.table_value-v.ensures.characters, ← c.table_value-w.ensures.characters) c.table_value-x.ensures.value)
-    (rw (← c.table_value-v.ensures.characters, ← c.table_value-w.ensures.characters, ← c.table_value-x.ensures.characters) c.table_value-y.ensures.value)
+    (rw (
+      ← c.table_value-v.ensures.characters,
+      ← c.table_value-w.ensures.characters,
+      ← c.table_value-x.ensures.characters,
+    ) c.table_value-y.ensures.value)
     (sym c.if-shape.false) c.bytes_high-bytes.ensures

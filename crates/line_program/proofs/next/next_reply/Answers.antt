@@ -15,7 +15,8 @@ returns-in-Ok-clause-next g c =
       call.takes.answered.3,
       (
         rw c.line.ensures at c.in-Ok.ensures.good,
-        puts_after_none _ _ _ _ _ _ c.args.out.now c.next_line.new.out c.answer.new.out _ c.in-Ok-Whole.ensures.puts replied,
+        puts_after_none _ _ _ _ _ _ c.args.out.now c.next_line.new.out c.answer.new.out _ c.in-Ok-Whole.ensures.puts
+            replied,
         rw c.line.ensures at c.in-Ok.ensures.after,
       ),
     )
@@ -31,7 +32,8 @@ returns-in-Err-answer-clause-next g c =
       call.takes.answered.3,
       (
         rw c.line.ensures at c.in-Err-answer.ensures.wants,
-        puts_after_none _ _ _ _ _ _ c.args.out.now c.next_line.new.out c.answer.new.out [] c.in-Ok-Whole.ensures.puts c.in-Err-answer.ensures.nothing,
+        puts_after_none _ _ _ _ _ _ c.args.out.now c.next_line.new.out c.answer.new.out [] c.in-Ok-Whole.ensures.puts
+            c.in-Err-answer.ensures.nothing,
       ),
     )
 
@@ -47,7 +49,8 @@ returns-in-Ok-TooLong-clause-next g c =
       l.3,
       (
         c.answer_long.ensures.good l.0 l.1,
-        puts_after_none _ _ _ _ _ _ c.args.out.now c.next_line.new.out c.answer_long.new.out _ c.in-Ok-TooLong.ensures.puts (c.answer_long.ensures.reply l.0 l.1),
+        puts_after_none _ _ _ _ _ _ c.args.out.now c.next_line.new.out c.answer_long.new.out _
+            c.in-Ok-TooLong.ensures.puts (c.answer_long.ensures.reply l.0 l.1),
         c.answer_long.ensures.after l.0 l.1,
       ),
     )

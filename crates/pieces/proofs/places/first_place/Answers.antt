@@ -5,7 +5,8 @@ use Rattle.pieces.proofs.places.first_place.Goals as goal
 pub returns-then-here-ne0 : goal.returns-then-here-ne0
 returns-then-here-ne0 c = record {
   place = found c.args.wanted c.args.bytes.now c.loop-i.i c.marks-here.result c.lowest.result
-      (omega (arith, c.loop-i-test.true)) c.loop-i.invariant.lacks c.marks-here.ensures.marks c.lowest.ensures.set c.lowest.ensures.below;
+      (omega (arith, c.loop-i-test.true)) c.loop-i.invariant.lacks c.marks-here.ensures.marks c.lowest.ensures.set
+      c.lowest.ensures.below;
 }
 
 pub loop-i-preserved : goal.loop-i-preserved

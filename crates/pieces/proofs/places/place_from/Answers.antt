@@ -17,4 +17,7 @@ returns-in-Some c =
     }
 
 pub returns-in-None : goal.returns-in-None
-returns-in-None c = record { place = all_lack c.args.wanted c.args.bytes.now c.args.from c.requires.within c.in-None.ensures.place }
+returns-in-None c = record {
+  place = all_lack c.args.wanted c.args.bytes.now c.args.from c.requires.within
+      c.in-None.ensures.place;
+}

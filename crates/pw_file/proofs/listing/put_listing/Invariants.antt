@@ -5,5 +5,6 @@ use Rattle.pw_file.specs.Replies.{row_line}
 use Rattle.pw_file.proofs.listing.put_listing.Given as goal
 
 abbrev pub invariant-loop-i : goal.invariant-loop-i
-invariant-loop-i g l = Puts (g.K.Sink.written l.initial.sink) (g.K.Sink.written l.sink) (g.K.Sink.faults l.initial.sink) (g.K.Sink.faults l.sink) l.initial.out l.out
+invariant-loop-i g l = Puts (g.K.Sink.written l.initial.sink) (g.K.Sink.written l.sink) (g.K.Sink.faults l.initial.sink)
+    (g.K.Sink.faults l.sink) l.initial.out l.out
     (flat_map row_line (take l.i l.table))

@@ -10,5 +10,6 @@ use Rattle.pwcheck.proofs.normalize.normalize_lines.Goals as goal
 pub returns-clause-outcome : goal.returns-clause-outcome
 returns-clause-outcome g c =
     let normalizer : Normalizer = record {} in
-    outcome_as (from_state normalizer_rules normalizer) normal_rules (each_by_itself normalizer_rules normalizer (λ l. refl)) c.run_lines.result c.args.max _ _ _ _
+    outcome_as (from_state normalizer_rules normalizer) normal_rules
+    (each_by_itself normalizer_rules normalizer (λ l. refl)) c.run_lines.result c.args.max _ _ _ _
     c.run_lines.ensures.outcome

@@ -15,11 +15,13 @@ returns-in-Ok-decode_rest c =
     let text : HoldsOnlyEnds c.args.input.now → ⊥ = λ only. let e = c.in-Ok.ensures.no_text (inl only) in cc in
     let made = c.in-Ok.ensures.answer text c.requires.width in
     let rest = c.in-Ok-decode_rest.ensures.answer in
-    unwraps_all c.args.width c.args.input.now _ _ _ c.requires.width some made.0 made.1 c.new-bytes.ensures.items rest.1 rest.2.0
+    unwraps_all c.args.width c.args.input.now _ _ _ c.requires.width some made.0 made.1 c.new-bytes.ensures.items rest.1
+    rest.2.0
 
 pub returns-in-Err-decode_rest : goal.returns-in-Err-decode_rest
 returns-in-Err-decode_rest c = λ is output u.
     let some : 0 < length c.args.input.now = omega (arith, c.if-input-eq0.false) in
     let text : HoldsOnlyEnds c.args.input.now → ⊥ = λ only. let e = c.in-Ok.ensures.no_text (inl only) in cc in
     let made = c.in-Ok.ensures.answer text c.requires.width in
-    unwraps_bad c.args.width c.args.input.now _ output _ _ c.requires.width some made.1 (c.in-Err-decode_rest.ensures.answer.0 is) u
+    unwraps_bad c.args.width c.args.input.now _ output _ _ c.requires.width some made.1
+    (c.in-Err-decode_rest.ensures.answer.0 is) u

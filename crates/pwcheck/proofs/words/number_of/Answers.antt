@@ -1,7 +1,9 @@
 use Rattle.std.proofs.Common.{arith, rules, ◌≡◌, ◌<◌, ◌^◌, ap, ◌∙◌, sym}
 use Rattle.std.specs.Fmt.{decimal}
 use Rattle.std.proofs.lemmas.Fmt.{parse-decimal}
-use Rattle.pwcheck.proofs.words.number_of.Goals.{then-n-least-via-then-n-least, then-n-least-via-else-n-least+then-n-most, then-n-least-via-else-n-least+else-n-most+then-not-is_decimal}
+use Rattle.pwcheck.proofs.words.number_of.Goals.{then-n-least-via-then-n-least}
+use Rattle.pwcheck.proofs.words.number_of.Goals.{then-n-least-via-else-n-least+then-n-most}
+use Rattle.pwcheck.proofs.words.number_of.Goals.{then-n-least-via-else-n-least+else-n-most+then-not-is_decimal}
 use Rattle.pwcheck.proofs.words.number_of.Goals as goal
 
 pub returns-then-n-least : goal.returns-then-n-least

@@ -8,19 +8,25 @@ use Rattle.scrypt_plain.proofs.block_mix.block_mix.Goals as goal
 pub pairs-init : goal.pairs-init
 pairs-init c =
     IsMixing_none c.args.r (row_bytes (2 * c.args.r) c.args.row.now) c.load-x.result c.args.next.now
-    (c.load-x.ensures ∙ row_bytes_part (2 * c.args.r) c.args.row.now (32 * c.args.r - 16) _ (2 * c.args.r - 1) (omega arith) (omega arith) (omega arith))
+    (c.load-x.ensures ∙ row_bytes_part (2 * c.args.r) c.args.row.now (32 * c.args.r - 16) _ (2 * c.args.r - 1)
+    (omega arith) (omega arith) (omega arith))
 
 pub pairs-preserved : goal.pairs-preserved
 pairs-preserved c =
     let i = c.pairs.i in
     let B = (row_bytes (2 * c.args.r) c.args.row.now) in
-    let first = c.load.ensures ∙ row_bytes_part (2 * c.args.r) c.args.row.now (32 * i) _ (2 * i) (omega arith) (omega arith) (omega arith) in
-    let second = c.load-in-pairs.ensures ∙ row_bytes_part (2 * c.args.r) c.args.row.now (32 * i + 16) _ (2 * i + 1) (omega arith) (omega arith) (omega arith) in
-    IsMixing_more c.args.r B c.pairs.x c.mix-x.result c.mix-x-in-pairs.result c.pairs.next c.store.new.words c.store-in-pairs.new.words
+    let first = c.load.ensures
+    ∙ row_bytes_part (2 * c.args.r) c.args.row.now (32 * i) _ (2 * i) (omega arith) (omega arith) (omega arith) in
+    let second = c.load-in-pairs.ensures
+    ∙ row_bytes_part (2 * c.args.r) c.args.row.now (32 * i + 16) _ (2 * i + 1) (omega arith) (omega arith)
+    (omega arith) in
+    IsMixing_more c.args.r B c.pairs.x c.mix-x.result c.mix-x-in-pairs.result c.pairs.next c.store.new.words
+    c.store-in-pairs.new.words
     i _ _ c.pairs.invariant (omega arith) (omega arith) (omega arith) (omega arith) (omega arith) (omega arith)
     (c.mix-x.ensures ∙ ap (λ (w : List ℕ). salsa20_8 (xor_bytes (lane_bytes c.pairs.x) w)) first)
     (c.mix-x-in-pairs.ensures ∙ ap (λ (w : List ℕ). salsa20_8 (xor_bytes (lane_bytes c.mix-x.result) w)) second)
     c.store.ensures c.store-in-pairs.ensures
 
 pub returns : goal.returns
-returns c = IsMixing_all c.args.r (row_bytes (2 * c.args.r) c.args.row.now) c.pairs.x c.pairs.next c.pairs.i (omega arith) c.pairs.invariant
+returns c = IsMixing_all c.args.r (row_bytes (2 * c.args.r) c.args.row.now) c.pairs.x c.pairs.next c.pairs.i
+    (omega arith) c.pairs.invariant

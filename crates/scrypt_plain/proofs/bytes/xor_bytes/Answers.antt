@@ -4,4 +4,5 @@ use Rattle.scrypt_plain.proofs.bytes.xor_bytes.Goals as goal
 
 pub bytes-preserved : goal.bytes-preserved
 bytes-preserved c =
-    zip2_over_more bit_xor c.args.to.now c.args.with.now c.bytes.to c.bytes.i c.requires.same_length (omega arith) c.bytes.invariant
+    zip2_over_more bit_xor c.args.to.now c.args.with.now c.bytes.to c.bytes.i c.requires.same_length (omega arith)
+    c.bytes.invariant

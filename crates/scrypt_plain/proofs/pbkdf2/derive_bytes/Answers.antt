@@ -14,7 +14,8 @@ outputs-preserved c =
     let i = c.outputs.i in
     let salt = bytes c.args.words.now in
     let digest = c.output_block-block.ensures c.args.password.now salt c.salted_by_words-salted.ensures in
-    take-put_mid (32 * i) (32 * i + 32 - 32 * i) c.outputs.out c.copy_from_slice.new.self (32 * (i + 1)) (omega arith) (omega arith)
+    take-put_mid (32 * i) (32 * i + 32 - 32 * i) c.outputs.out c.copy_from_slice.new.self (32 * (i + 1)) (omega arith)
+    (omega arith)
     ∙ ap₂ ◌++◌ c.outputs.invariant (c.copy_from_slice.ensures.after ∙ digest)
     ∙ sym (pbkdf2_blocks_more c.args.password.now salt i)
 
@@ -25,6 +26,8 @@ returns-then-rest-gt0 c =
     let whole : n / 32 ≡ c.outputs.i = omega arith in
     let digest = c.output_block-last.ensures c.args.password.now salt c.salted_by_words-salted.ensures in
     let last = c.copy_from_slice-then-rest-gt0.ensures.after in
-    let before = ap (λ (j : ℕ). take (32 * j) c.outputs.out) whole ∙ c.outputs.invariant ∙ ap (pbkdf2_blocks c.args.password.now salt) (sym whole) in
+    let before = ap (λ (j : ℕ). take (32 * j) c.outputs.out) whole ∙ c.outputs.invariant
+    ∙ ap (pbkdf2_blocks c.args.password.now salt) (sym whole) in
     pbkdf2_put c.args.password.now salt c.outputs.out c.copy_from_slice-then-rest-gt0.new.self (n / 32) n _
-    (omega arith) (omega arith) (omega arith) (omega arith) before (last ∙ ap₂ take (simp (length-take, length-drop) (omega arith)) digest)
+    (omega arith) (omega arith) (omega arith) (omega arith) before
+    (last ∙ ap₂ take (simp (length-take, length-drop) (omega arith)) digest)

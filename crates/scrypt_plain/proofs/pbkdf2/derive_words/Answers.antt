@@ -13,7 +13,8 @@ outputs-preserved c =
     let i = c.outputs.i in
     let salted = c.update.ensures _ _ c.new-salted.ensures in
     let digest = c.output_block-digest.ensures c.args.password.now c.args.salt.now salted in
-    ap bytes (take-put_mid (8 * i) (8 * i + 8 - 8 * i) c.outputs.out c.put_words.new.out (8 * (i + 1)) (omega arith) (omega arith))
+    ap bytes (take-put_mid (8 * i) (8 * i + 8 - 8 * i) c.outputs.out c.put_words.new.out (8 * (i + 1)) (omega arith)
+    (omega arith))
     ∙ bytes-append _ _
     ∙ ap₂ ◌++◌ c.outputs.invariant (c.put_words.ensures ∙ digest)
     ∙ sym (pbkdf2_blocks_more c.args.password.now c.args.salt.now i)

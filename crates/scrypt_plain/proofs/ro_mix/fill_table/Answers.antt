@@ -8,5 +8,6 @@ rows-init c = filled_none c.args.r c.args.table.now
 
 pub rows-preserved : goal.rows-preserved
 rows-preserved c =
-    filled_more c.args.r c.rows.i c.rows.table c.next_row.new.table (row_bytes (2 * c.args.r) (piece (32 * c.args.r) c.args.table.now 0))
+    filled_more c.args.r c.rows.i c.rows.table c.next_row.new.table
+    (row_bytes (2 * c.args.r) (piece (32 * c.args.r) c.args.table.now 0))
     c.rows.invariant c.next_row.ensures.next c.next_row.ensures.others

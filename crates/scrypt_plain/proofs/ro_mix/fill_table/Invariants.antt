@@ -5,4 +5,5 @@ use Rattle.scrypt_plain.proofs.ro_mix.fill_table.Given as goal
 
 abbrev pub invariant-rows : goal.invariant-rows
 invariant-rows l = (k : ℕ) → k ≤ l.i
-    → row_bytes (2 * l.r) (piece (32 * l.r) l.table k) ≡ table_row l.r (row_bytes (2 * l.r) (piece (32 * l.r) l.fn.table 0)) k
+    → row_bytes (2 * l.r) (piece (32 * l.r) l.table k)
+    ≡ table_row l.r (row_bytes (2 * l.r) (piece (32 * l.r) l.fn.table 0)) k

@@ -13,7 +13,8 @@ returns-clause-next c =
     let front = c.split_at_mut-done.result.0.now in
     let back = c.split_at_mut-done.result.1.now in
     let at : length front ≡ 32 * r * (i + 1) = omega arith in
-    let long : length c.block_mix.new.next ≡ 32 * r = omega (arith, c.block_mix.auto.next, length-take-le (32 * r) back) in
+    let long : length c.block_mix.new.next ≡ 32 * r =
+    omega (arith, c.block_mix.auto.next, length-take-le (32 * r) back) in
     let width : length front - 32 * r * i ≡ 32 * r = omega arith in
     ap (row_bytes (2 * r)) (piece_at (32 * r) (i + 1) front c.block_mix.new.next _ at long)
     ∙ c.block_mix.ensures

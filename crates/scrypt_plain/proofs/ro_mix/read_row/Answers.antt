@@ -13,4 +13,5 @@ copies-preserved c =
     (c.from_table_order.ensures ∙ ap (λ (w : ℕ). block_bytes (take w (drop (16 * i) c.args.from.now))) width)
 
 pub returns : goal.returns
-returns c = sym (row_bytes_from_bytes c.args.count c.copies.to c.args.from.now (omega arith) (λ k lt. sym (c.copies.invariant k (omega arith))))
+returns c = sym (row_bytes_from_bytes c.args.count c.copies.to c.args.from.now (omega arith)
+    (λ k lt. sym (c.copies.invariant k (omega arith))))

@@ -13,4 +13,5 @@ copies-preserved c =
     (c.to_table_order.ensures ∙ ap (λ (w : ℕ). bytes (take w (drop (16 * i) c.args.from.now))) width)
 
 pub returns : goal.returns
-returns c = row_bytes_from_bytes c.args.count c.args.from.now c.copies.to c.requires.from (λ k lt. c.copies.invariant k (omega arith))
+returns c = row_bytes_from_bytes c.args.count c.args.from.now c.copies.to c.requires.from
+    (λ k lt. c.copies.invariant k (omega arith))

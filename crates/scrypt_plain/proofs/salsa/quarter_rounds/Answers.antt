@@ -5,4 +5,9 @@ use Rattle.scrypt_plain.proofs.salsa.quarter_rounds.Goals as goal
 pub returns : goal.returns
 unfolding quarter_words
 returns c j h =
-    rw (c.xor_rotated-a.ensures j h, c.xor_rotated-d.ensures j h, c.xor_rotated-c.ensures j h, c.xor_rotated-b.ensures j h) refl
+    rw (
+      c.xor_rotated-a.ensures j h,
+      c.xor_rotated-d.ensures j h,
+      c.xor_rotated-c.ensures j h,
+      c.xor_rotated-b.ensures j h,
+    ) refl

@@ -17,7 +17,8 @@ pub copy_from_slice-requires : goal.copy_from_slice-requires
 copy_from_slice-requires g c =
     let count : byte_count (length c.args.text.now) ≡ g.row.N = search rules in
     let size : length (replicate {A = ℕ} g.row.N 0) ≡ g.row.N = length-replicate g.row.N 0 in
-    let whole : decoded_len base64_sha_crypt c.args.text.now ≡ g.row.N = decoded_len-unpadded base64_sha_crypt c.args.text.now refl ∙ count in
+    let whole : decoded_len base64_sha_crypt c.args.text.now ≡ g.row.N =
+    decoded_len-unpadded base64_sha_crypt c.args.text.now refl ∙ count in
     let room : decoded_len base64_sha_crypt c.args.text.now ≤ length (replicate {A = ℕ} g.row.N 0) = omega arith in
     let found : decoding base64_sha_crypt c.args.text.now ≡ Some c.in-Ok.decoded.now = c.in-Ok.ensures.decoded room in
     size ∙ sym (length-decoding base64_sha_crypt c.args.text.now c.in-Ok.decoded.now refl found ∙ whole)

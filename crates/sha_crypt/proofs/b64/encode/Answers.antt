@@ -7,7 +7,8 @@ use Rattle.sha_crypt.proofs.b64.encode.Goals as goal
 pub returns : goal.returns
 returns g c =
     let at : ℕ → ℕ = λ k. slice_index c.args.digest.now k in
-    let count : length c.in_order-bytes.result ≡ g.row.N = ap length c.in_order-bytes.ensures.value ∙ length-map c.args.places.now at ∙ c.told-places in
+    let count : length c.in_order-bytes.result ≡ g.row.N =
+    ap length c.in_order-bytes.ensures.value ∙ length-map c.args.places.now at ∙ c.told-places in
     let room : length (replicate {A = ℕ} g.row.M 0) ≡ g.row.M = length-replicate g.row.M 0 in
     record {
       field = encoded c.args.places.now c.args.digest.now c.in_order-bytes.result _ _ c.encode_into.result

@@ -5,6 +5,8 @@ use Rattle.sha_crypt.proofs.laws.hash_field_once.Goals as goal
 
 pub returns : goal.returns
 returns c = record {
-  sha256 = λ x y lx ly below_x below_y same. field_once 32 MAP_SHA256 BACK_SHA256 x y refl refl refl refl lx ly below_x below_y same;
-  sha512 = λ x y lx ly below_x below_y same. field_once 64 MAP_SHA512 BACK_SHA512 x y refl refl refl refl lx ly below_x below_y same;
+  sha256 = λ x y lx ly below_x below_y same. field_once 32 MAP_SHA256 BACK_SHA256 x y refl refl refl refl lx ly below_x
+      below_y same;
+  sha512 = λ x y lx ly below_x below_y same. field_once 64 MAP_SHA512 BACK_SHA512 x y refl refl refl refl lx ly below_x
+      below_y same;
 }

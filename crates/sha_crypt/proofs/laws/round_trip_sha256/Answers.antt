@@ -5,9 +5,12 @@ use Rattle.sha_crypt.proofs.laws.round_trip_sha256.Goals as goal
 
 pub returns-in-Ok : goal.returns-in-Ok
 returns-in-Ok c = record {
-  digest = ap (λ (x : List ℕ). Ok x) (decoded_again 32 MAP_SHA256 BACK_SHA256 c.args.digest.now c.in-Ok.again c.encode_sha256.result refl refl refl refl
+  digest = ap (λ (x : List ℕ). Ok x)
+      (decoded_again 32 MAP_SHA256 BACK_SHA256 c.args.digest.now c.in-Ok.again c.encode_sha256.result refl refl refl
+      refl
       c.told-digest c.fits-digest c.encode_sha256.ensures.field c.in-Ok.ensures.found);
 }
 
 pub returns-in-Err : goal.returns-in-Err
-returns-in-Err c = absurd (c.in-Err.ensures.found c.args.digest.now (c.told-digest, c.fits-digest, c.encode_sha256.ensures.field))
+returns-in-Err c = absurd
+    (c.in-Err.ensures.found c.args.digest.now (c.told-digest, c.fits-digest, c.encode_sha256.ensures.field))

@@ -6,5 +6,6 @@ use Rattle.sha_crypt.proofs.record.push_rounds.Goals as goal
 pub push_decimal-requires : goal.push_decimal-requires
 push_decimal-requires c =
     let small : c.args.rounds < 2 ^ 64 = c.ranges.rounds.fits in
-    let digits : length (decimal c.args.rounds) ≤ 20 = length-decimal-le 20 c.args.rounds (lit< tt) (omega (arith, small)) small in
+    let digits : length (decimal c.args.rounds) ≤ 20 =
+    length-decimal-le 20 c.args.rounds (lit< tt) (omega (arith, small)) small in
     omega (arith, digits)

@@ -11,7 +11,8 @@ use Rattle.stored_check.proofs.normal.sha_record.Goals as goal
 by_first : (id : List ℕ) → same_text id (codes "5") ≡ true → scheme_of id ≡ Some scheme_256
 by_first id h = rw h refl
 
-by_second : (id : List ℕ) → same_text id (codes "5") ≡ false → same_text id (codes "6") ≡ true → scheme_of id ≡ Some scheme_512
+by_second : (id : List ℕ) → same_text id (codes "5") ≡ false → same_text id (codes "6") ≡ true
+    → scheme_of id ≡ Some scheme_512
 by_second id h h' = rw (h, h') refl
 
 by_neither : (id : List ℕ) → same_text id (codes "5") ≡ false → same_text id (codes "6") ≡ false → scheme_of id ≡ None
@@ -32,7 +33,8 @@ returns-then-eq-clause-text c =
     let valid : fault c.args.stored.now ≡ None = search rules in
     let id_is : c.id-id.result.now ≡ (parts c.args.stored.now).id = search rules in
     let same : same_text (parts c.args.stored.now).id (codes "5") ≡ true = search rules in
-    normal_of_record Sha256 c.args.stored.now c.old_record.result valid (by_first (parts c.args.stored.now).id same) same c.old_record.ensures.record c.old_record.ensures.family
+    normal_of_record Sha256 c.args.stored.now c.old_record.result valid (by_first (parts c.args.stored.now).id same)
+    same c.old_record.ensures.record c.old_record.ensures.family
 
 pub returns-then-eq-clause-fits : goal.returns-then-eq-clause-fits
 returns-then-eq-clause-fits c =
@@ -40,7 +42,8 @@ returns-then-eq-clause-fits c =
     let id_is : c.id-id.result.now ≡ (parts c.args.stored.now).id = search rules in
     let same : same_text (parts c.args.stored.now).id (codes "5") ≡ true = search rules in
     record_fits c.args.stored.now c.old_record.result valid
-    (normal_of_record Sha256 c.args.stored.now c.old_record.result valid (by_first (parts c.args.stored.now).id same) same c.old_record.ensures.record c.old_record.ensures.family)
+    (normal_of_record Sha256 c.args.stored.now c.old_record.result valid (by_first (parts c.args.stored.now).id same)
+    same c.old_record.ensures.record c.old_record.ensures.family)
 
 pub old_record-requires-then-eq-2 : goal.old_record-requires-then-eq-2
 old_record-requires-then-eq-2 c =
@@ -53,7 +56,8 @@ returns-then-eq-2-clause-text c =
     let id_is : c.id-id.result.now ≡ (parts c.args.stored.now).id = search rules in
     let other : same_text (parts c.args.stored.now).id (codes "5") ≡ false = search rules in
     let same : same_text (parts c.args.stored.now).id (codes "6") ≡ true = search rules in
-    normal_of_record Sha512 c.args.stored.now c.old_record-then-eq-2.result valid (by_second (parts c.args.stored.now).id other same) same
+    normal_of_record Sha512 c.args.stored.now c.old_record-then-eq-2.result valid
+    (by_second (parts c.args.stored.now).id other same) same
     c.old_record-then-eq-2.ensures.record c.old_record-then-eq-2.ensures.family
 
 pub returns-then-eq-2-clause-fits : goal.returns-then-eq-2-clause-fits
@@ -63,7 +67,8 @@ returns-then-eq-2-clause-fits c =
     let other : same_text (parts c.args.stored.now).id (codes "5") ≡ false = search rules in
     let same : same_text (parts c.args.stored.now).id (codes "6") ≡ true = search rules in
     record_fits c.args.stored.now c.old_record-then-eq-2.result valid
-    (normal_of_record Sha512 c.args.stored.now c.old_record-then-eq-2.result valid (by_second (parts c.args.stored.now).id other same) same
+    (normal_of_record Sha512 c.args.stored.now c.old_record-then-eq-2.result valid
+    (by_second (parts c.args.stored.now).id other same) same
     c.old_record-then-eq-2.ensures.record c.old_record-then-eq-2.ensures.family)
 
 pub returns-clause-text : goal.returns-clause-text

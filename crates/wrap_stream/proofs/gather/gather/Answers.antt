@@ -1,4 +1,5 @@
-use Rattle.std.proofs.Common.{arith, ap, ◌≡◌, ℕ, List, ◌+◌, ◌-◌, ◌++◌, ◌∙◌, drop, length-take-le, length, length-drop, refl, take}
+use Rattle.std.proofs.Common.{arith, ap, ◌≡◌, ℕ, List, ◌+◌, ◌-◌, ◌++◌, ◌∙◌, drop, length-take-le, length, length-drop}
+use Rattle.std.proofs.Common.{refl, take}
 use Rattle.std.proofs.lemmas.List.{take_at, take_rest}
 use Rattle.std.proofs.lemmas.Slice.{take-put_mid}
 use Rattle.wrap_stream.proofs.Gathered.{gather_none, gather_more}

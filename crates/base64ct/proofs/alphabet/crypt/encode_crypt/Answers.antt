@@ -4,7 +4,8 @@ use Rattle.base64ct.proofs.MaskedTerms.{encoded_crypt}
 use Rattle.base64ct.proofs.alphabet.crypt.encode_crypt.Goals as goal
 
 pub overflow_cast-result : goal.overflow_cast-result
-overflow_cast-result c = let at = encoded_crypt c.args.value (omega arith) in (subst (λ (b : Bool). T b) (sym at.0) tt, omega (arith, at.1))
+overflow_cast-result c = let at = encoded_crypt c.args.value (omega arith) in
+    (subst (λ (b : Bool). T b) (sym at.0) tt, omega (arith, at.1))
 
 pub returns : goal.returns
 returns c = (encoded_crypt c.args.value (omega arith)).2

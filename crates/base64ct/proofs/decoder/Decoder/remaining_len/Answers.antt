@@ -8,4 +8,5 @@ pub returns-clause-size : goal.returns-clause-size
 returns-clause-size g c =
     let i = c.self.invariant in
     let t : List ℕ = text_or_nil (characters_from c.self.inside.width c.self.inside.width c.self.inside.body.now) in
-    rw (← c.self.view_is) (ap (λ (n : ℕ). n - c.self.inside.read) (i.whole ∙ sym (size_is g.E.Alphabet.alphabet t g.met.E.Alphabet.lawful i.stands.last)))
+    rw (← c.self.view_is) (ap (λ (n : ℕ). n - c.self.inside.read)
+    (i.whole ∙ sym (size_is g.E.Alphabet.alphabet t g.met.E.Alphabet.lawful i.stands.last)))

@@ -28,5 +28,6 @@ pub returns-in-None-clause-found : goal.returns-in-None-clause-found
 returns-in-None-clause-found c =
     let p = c.pending-pending.result.now in
     let same = c.pending-pending.ensures.value in
-    rw (sym same) (rw (sym c.saturating_sub-past.ensures) (past_part p c.args.seen (length p - c.saturating_sub-past.result) (omega arith) (omega arith)
+    rw (sym same) (rw (sym c.saturating_sub-past.ensures)
+    (past_part p c.args.seen (length p - c.saturating_sub-past.result) (omega arith) (omega arith)
     (rw same c.requires.seen) c.in-None.ensures.found))

@@ -18,6 +18,9 @@ returns-in-Some-clause-call c left =
           (start left c.args.self.now) rest f.0 f.1 f.2 f.3 c.answer_line.ensures.line c.answer_line.ensures.pending);
       max_same = rest.max_same;
       closed = rest.closed_same ∙ c.requires ∙ search rules;
-      after_end = λ e. (rest.taken_same, rw c.answer_line.ensures.answer (no_fault (nat_lt 8192 c.in-Some.at) c.in-Some.at));
+      after_end = λ e. (
+        rest.taken_same,
+        rw c.answer_line.ensures.answer (no_fault (nat_lt 8192 c.in-Some.at) c.in-Some.at),
+      );
       at_end = λ k e. k (sym rest.ended_same ∙ e);
     }

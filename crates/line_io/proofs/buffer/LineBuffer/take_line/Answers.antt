@@ -5,4 +5,5 @@ use Rattle.line_io.proofs.buffer.LineBuffer.take_line.Goals as goal
 
 pub returns-clause-pending : goal.returns-clause-pending
 unfolding pending
-returns-clause-pending c = dropped c.args.self.now.bytes c.args.self.now.start c.args.self.now.end (c.args.count + c.args.skip) (search rules)
+returns-clause-pending c =
+    dropped c.args.self.now.bytes c.args.self.now.start c.args.self.now.end (c.args.count + c.args.skip) (search rules)

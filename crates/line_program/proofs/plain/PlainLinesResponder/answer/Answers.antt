@@ -10,6 +10,7 @@ returns-after-is_some-clause-reply g c =
     c.word_line.ensures.text ∙ ap (λ (a : Option Bool). plain_word a ++ 10 ∷ []) c.in-Ok.ensures.answer in
     let put = rw text at c.put.ensures.puts in
     elim c.if-is_some.branch [
-      | then-is_some w ↦ rw (w.out-is, w.sink-is) (puts_then_none _ _ _ _ _ _ c.args.out.now c.put.new.self w.flush.new.self _ put w.flush.ensures.puts)
+      | then-is_some w ↦ rw (w.out-is, w.sink-is)
+          (puts_then_none _ _ _ _ _ _ c.args.out.now c.put.new.self w.flush.new.self _ put w.flush.ensures.puts)
       | else-is_some w ↦ rw (w.out-is, w.sink-is) put
     ]

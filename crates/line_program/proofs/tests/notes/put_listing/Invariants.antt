@@ -4,5 +4,7 @@ use Rattle.line_program.specs.Toys.{listing}
 use Rattle.line_program.proofs.tests.notes.put_listing.Given as goal
 
 abbrev pub invariant-loop-text : goal.invariant-loop-text
-invariant-loop-text g l = Puts (g.K.Sink.written l.initial.sink) (g.K.Sink.written l.sink) (g.K.Sink.faults l.initial.sink) (g.K.Sink.faults l.sink) l.initial.out l.out
+invariant-loop-text g l =
+    Puts (g.K.Sink.written l.initial.sink) (g.K.Sink.written l.sink) (g.K.Sink.faults l.initial.sink)
+    (g.K.Sink.faults l.sink) l.initial.out l.out
     (listing (map vec_items (take l.text-index l.texts)))

@@ -15,7 +15,13 @@ returns-in_err-call_with-clause-filled g c =
     λ least most. (
       c.call_with.result,
       c.call_with.new.slice,
-      record { shown = called.shown; shows = called.shows ∙ zeros_taken c.args.output_size most; left = called.left; met = called.met; leaves = called.leaves },
+      record {
+        shown = called.shown;
+        shows = called.shows ∙ zeros_taken c.args.output_size most;
+        left = called.left;
+        met = called.met;
+        leaves = called.leaves;
+      },
       rw c.in_err-call_with.was (search rules),
     )
 
@@ -25,6 +31,13 @@ returns-clause-filled g c =
     λ least most. (
       c.call_with.result,
       c.call_with.new.slice,
-      record { shown = called.shown; shows = called.shows ∙ zeros_taken c.args.output_size most; left = called.left; met = called.met; leaves = called.leaves },
-      rw c.in_ok-call_with.was (ap Ok (c.from_slice.ensures.bytes ∙ take_at _ _ _ (c.call_with.auto.slice ∙ search rules))),
+      record {
+        shown = called.shown;
+        shows = called.shows ∙ zeros_taken c.args.output_size most;
+        left = called.left;
+        met = called.met;
+        leaves = called.leaves;
+      },
+      rw c.in_ok-call_with.was
+          (ap Ok (c.from_slice.ensures.bytes ∙ take_at _ _ _ (c.call_with.auto.slice ∙ search rules))),
     )

@@ -7,4 +7,8 @@ use Rattle.phc.proofs.password_hash_string.PasswordHashString.as_str.Goals as go
 pub returns : goal.returns
 returns c =
     let read : phc_text (string_bytes c.self.inside.text) ≡ Ok c.self.inside.parsed = c.self.invariant in
-    record { text = c.as_str.ensures.value ∙ sym (prints_back (string_bytes c.self.inside.text) c.self.inside.parsed read) ∙ ap record_text c.self.view_is }
+    record {
+      text = c.as_str.ensures.value
+          ∙ sym (prints_back (string_bytes c.self.inside.text) c.self.inside.parsed read)
+          ∙ ap record_text c.self.view_is;
+    }

@@ -8,5 +8,6 @@ pub invariant_of-result : goal.invariant_of-result
 invariant_of-result c =
     let read : phc_text (string_bytes c.self.inside.text) ≡ Ok c.self.inside.parsed = c.self.invariant in
     let text : string_bytes c.in_ok-text.text ≡ string_bytes c.self.inside.text =
-    c.in_ok-text.ensures.ok ∙ c.as_str.ensures.text ∙ ap record_text (sym c.self.view_is) ∙ prints_back (string_bytes c.self.inside.text) c.self.inside.parsed read in
+    c.in_ok-text.ensures.ok ∙ c.as_str.ensures.text ∙ ap record_text (sym c.self.view_is)
+    ∙ prints_back (string_bytes c.self.inside.text) c.self.inside.parsed read in
     ap phc_text text ∙ read ∙ ap Ok (sym c.copy_of.ensures)

@@ -8,7 +8,8 @@ scrypt-requires-clause-bounds c =
     accepted_bounds c.args.parsed.now _ c.requires.taken c.in-Some.cost (search rules)
 
 pub scrypt-requires-clause-key_length_least : goal.scrypt-requires-clause-key_length_least
-scrypt-requires-clause-key_length_least c = let least = accepted_least c.args.parsed.now _ c.requires.taken in omega (arith, least)
+scrypt-requires-clause-key_length_least c = let least = accepted_least c.args.parsed.now _ c.requires.taken in
+    omega (arith, least)
 
 pub scrypt-requires-clause-key_length_most : goal.scrypt-requires-clause-key_length_most
 scrypt-requires-clause-key_length_most c = accepted_most c.args.parsed.now _ c.requires.taken

@@ -12,4 +12,5 @@ returns-clause-utf8 c =
     let salt : IsUtf8 c.args.self.now.salt.now = subst (λ (t : List ℕ). IsUtf8 t) c.salt.ensures.salt c.salt.utf8 in
     let hash : IsUtf8 c.args.self.now.hash.now = subst (λ (t : List ℕ). IsUtf8 t) c.hash.ensures.hash c.hash.utf8 in
     let small : c.args.self.now.rounds < 2 ^ 64 = omega arith in
-    subst (λ (t : List ℕ). IsUtf8 t) (sym is) (record_text_utf8 (family_of c.args.self.now) (fields_of_record c.args.self.now) small salt hash)
+    subst (λ (t : List ℕ). IsUtf8 t) (sym is)
+    (record_text_utf8 (family_of c.args.self.now) (fields_of_record c.args.self.now) small salt hash)

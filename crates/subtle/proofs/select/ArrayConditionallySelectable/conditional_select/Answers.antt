@@ -5,4 +5,5 @@ use Rattle.subtle.proofs.select.ArrayConditionallySelectable.conditional_select.
 pub loop-i-preserved : goal.loop-i-preserved
 loop-i-preserved g c =
     rw (c.loop-i.invariant, c.conditional_select.ensures, add-one)
-    (selection_grows c.args.choice c.args.a.now c.args.b.now c.loop-i.i c.index-a-i.result c.index-b-i.result (search rules) (search rules))
+    (selection_grows c.args.choice c.args.a.now c.args.b.now c.loop-i.i c.index-a-i.result c.index-b-i.result
+    (search rules) (search rules))

@@ -3,4 +3,5 @@ use Rattle.subtle.proofs.Masking.{selected}
 use Rattle.subtle.proofs.select.U64ConditionallySelectable.conditional_select.Goals as goal
 
 pub returns : goal.returns
-returns c = selected 64 c.args.choice c.args.a.now c.args.b.now _ (omega arith) (search rules) (search rules) (c.from-mask.ensures ∙ c.unwrap_u8.ensures)
+returns c = selected 64 c.args.choice c.args.a.now c.args.b.now _ (omega arith) (search rules) (search rules)
+    (c.from-mask.ensures ∙ c.unwrap_u8.ensures)

@@ -6,4 +6,5 @@ use Rattle.line_program.proofs.tests.echo.EchoResponder.answer.Goals as goal
 pub returns-clause-reply : goal.returns-clause-reply
 returns-clause-reply g c =
     let short : fits c.args.line.now ≡ true = search rules in
-    rw short (puts_more _ _ _ _ _ _ c.args.out.now c.put.new.self c.put-2.new.self c.args.line.now (10 ∷ []) c.put.ensures.puts c.put-2.ensures.puts)
+    rw short (puts_more _ _ _ _ _ _ c.args.out.now c.put.new.self c.put-2.new.self c.args.line.now (10 ∷ [])
+    c.put.ensures.puts c.put-2.ensures.puts)
