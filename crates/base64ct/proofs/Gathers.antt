@@ -32,6 +32,17 @@ gathered_more w body buffer ys at room place left start space count m n text sam
     let new : take (count + n) (put_mid count m buffer ys) ≡ take count buffer ++ line = take-put_mid count m buffer ys (count + n) (omega (arith, ap length is, ll)) (omega arith) ∙ ap (λ (l : List ℕ). take count buffer ++ l) is in
     text ∙ ap (λ o. before (take count buffer) o) (sym same ∙ taken) ∙ before-before (take count buffer) line (characters_from w (space - n) rest) ∙ ap (λ (l : List ℕ). before l (characters_from w (space - n) rest)) (sym new)
 
+pub gathered_first : (w : ℕ) (body buffer ys : List ℕ) (at room n : ℕ) → n ≤ room → at + n ≤ length body → ys ≡ take n (drop at body)
+    → characters_from w room (drop at body) ≡ before (take n (ys ++ drop n buffer)) (characters_from w (room - n) (drop (at + n) body))
+gathered_first w body buffer ys at room n fits within is =
+    let line : List ℕ = take n (drop at body) in
+    let rest : List ℕ = drop (at + n) body in
+    let ll : length line ≡ n = length-take-le n (drop at body) (omega (arith, length-drop at body)) in
+    let parts : drop at body ≡ line ++ rest = sym (take-append-drop n (drop at body)) ∙ ap (λ (l : List ℕ). line ++ l) (drop-drop n at body) in
+    let new : take n (ys ++ drop n buffer) ≡ line = take_at ys (drop n buffer) n (ap length is ∙ ll) ∙ is in
+    ap (λ (l : List ℕ). characters_from w room l) parts ∙ line_taken w room line rest (omega (arith, ll)) ∙ ap (λ (k : ℕ). before line (characters_from w (room - k) rest)) ll
+    ∙ ap (λ (l : List ℕ). before l (characters_from w (room - n) rest)) (sym new)
+
 pub gathered_all : (w : ℕ) (body buffer : List ℕ) (at room place left start space count : ℕ) (s : List ℕ) → characters_from w room (drop at body) ≡ before (take count buffer) (characters_from w left (drop place body))
     → characters_from w space (drop start body) ≡ characters_from w left (drop place body) → start ≤ length body → count < length buffer → (start < length body → space ≡ 0)
     → (space ≡ 0 → start < length body → characters_from w 0 (drop start body) ≡ None) → characters_from w room (drop at body) ≡ Some s → length s < length buffer

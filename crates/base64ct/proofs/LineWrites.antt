@@ -1,5 +1,5 @@
 -- Characters put into lines.
-use Rattle.std.proofs.Common.{◌≡◌, ℕ, ◌+◌, ◌-◌, ◌<◌, ◌≤◌, List, [], ◌∷◌, ◌++◌, length, take, drop, refl, sym, ap, ◌∙◌, subst, arith, take-add, slice_index, slice_set}
+use Rattle.std.proofs.Common.{◌≡◌, ℕ, ◌+◌, ◌-◌, ◌<◌, ◌≤◌, List, [], ◌∷◌, ◌++◌, length, take, drop, sym, ap, ◌∙◌, subst, arith, take-add, slice_index, slice_set}
 use Rattle.std.proofs.lemmas.List.{append-nil, length-append, take-append-drop, length-take-le, length-drop, drop-drop, drop_all, drop_more, take-set, drop-set}
 use borrow.Rule.Slice.PartMut.{put_mid}
 use Rattle.base64ct.specs.Encoders.{wrap_from, room_after, Wrote}

@@ -1,12 +1,12 @@
 -- Text written in lines.
-use Rattle.std.proofs.Common.{◌≡◌, ℕ, zero, suc, ◌+◌, ◌-◌, ◌*◌, ◌/◌, ◌%◌, ◌<◌, ◌≤◌, true, List, [], ◌∷◌, ◌++◌, length, take, drop, refl, sym, ap, ◌∙◌, arith, take-add, slice_index}
+use Rattle.std.proofs.Common.{◌≡◌, ℕ, zero, suc, ◌+◌, ◌-◌, ◌%◌, ◌<◌, ◌≤◌, true, List, [], ◌∷◌, ◌++◌, length, take, drop, refl, sym, ap, ◌∙◌, arith, take-add, slice_index}
 use Rattle.std.proofs.lemmas.List.{append_assoc, append-nil, length-append, take_at, take-append-drop, length-take-le, length-drop, drop-drop, drop_more}
 use Rattle.std.proofs.lemmas.Slice.{take-put_mid}
 use borrow.Rule.Slice.PartMut.{put_mid}
 use Rattle.base64ct.proofs.Encodings.{below-take, below-drop}
 use Rattle.std.proofs.lemmas.Bool.{lt-ltb, le-ltb}
 use Rattle.base64ct.specs.Encoding.{Alphabet, is_alphabet, unpadded_encoding, EachBelow}
-use Rattle.base64ct.proofs.Unpadded.{bytes-unpadded, unpadded-append, unpadded-nil, length-unpadded}
+use Rattle.base64ct.proofs.Unpadded.{bytes-unpadded, unpadded-append, unpadded-nil}
 use Rattle.base64ct.proofs.GoodBlocks.{below-append}
 use Rattle.base64ct.specs.Encoders.{wrap_from, room_after, unwrap_from, bytes_in, Stands, Wrote}
 

@@ -1,4 +1,4 @@
-use Rattle.std.proofs.Common.{◌≡◌, ◌<◌, ◌≤◌, ◌+◌, ◌-◌, ℕ, List, length, take, drop, arith, ap, ◌∙◌}
+use Rattle.std.proofs.Common.{◌≡◌, ◌≤◌, ◌+◌, ◌-◌, ℕ, List, length, take, drop, arith, ◌∙◌}
 use Rattle.std.proofs.lemmas.List.{length-take-le, length-drop, take_all}
 use Rattle.base64ct.proofs.Wrapping.{length-wrap_le, room-new_line}
 use Rattle.base64ct.proofs.LineWrites.{lining_first, lining_fits, lining_more}
@@ -8,9 +8,12 @@ pub slice_bounds-copy_from_slice-end : goal.slice_bounds-copy_from_slice-end
 slice_bounds-copy_from_slice-end c = omega (arith, c.requires.fits, c.min-done.ensures, length-wrap_le c.args.width c.args.ending.now c.args.room c.args.chars.now)
 
 pub lines-init : goal.lines-init
-lines-init c =
-    (omega (arith, c.min-done.ensures), (λ lt. omega (arith, lt, c.min-done.ensures)), lining_first c.args.width c.args.ending.now c.args.chars.now c.args.out.now c.copy_from_slice.new.self c.args.position _ c.min-done.result c.args.room c.requires.fits
-    (omega (arith, c.min-done.ensures)) (omega (arith, c.min-done.ensures)) (omega arith) c.copy_from_slice.ensures.after)
+lines-init c = (
+  omega (arith, c.min-done.ensures),
+  (λ lt. omega (arith, lt, c.min-done.ensures)),
+  lining_first c.args.width c.args.ending.now c.args.chars.now c.args.out.now c.copy_from_slice.new.self c.args.position _ c.min-done.result c.args.room c.requires.fits
+      (omega (arith, c.min-done.ensures)) (omega (arith, c.min-done.ensures)) (omega arith) c.copy_from_slice.ensures.after,
+)
 
 pub put_line-requires-clause-fits : goal.put_line-requires-clause-fits
 put_line-requires-clause-fits c =
@@ -18,8 +21,12 @@ put_line-requires-clause-fits c =
     let done : ℕ = c.lines.done in
     let within : done + n ≤ length c.args.chars.now = omega (arith, c.min-n.ensures, c.lines.invariant.0) in
     let count : length (take (done + n - done) (drop done c.args.chars.now)) ≡ n = length-take-le (done + n - done) (drop done c.args.chars.now) (omega (arith, length-drop done c.args.chars.now, within)) ∙ omega arith in
-    omega (arith, count, lining_fits c.args.width c.args.ending.now c.args.chars.now c.args.out.now c.lines.out c.args.position done c.lines.at c.args.room c.lines.left n c.lines.invariant.2 (c.lines.invariant.1 c.lines-test.true)
-    (omega (arith, c.min-n.ensures, c.requires.line, c.lines-test.true)) (omega (arith, c.min-n.ensures)) within)
+    omega (
+      arith,
+      count,
+      lining_fits c.args.width c.args.ending.now c.args.chars.now c.args.out.now c.lines.out c.args.position done c.lines.at c.args.room c.lines.left n c.lines.invariant.2 (c.lines.invariant.1 c.lines-test.true)
+          (omega (arith, c.min-n.ensures, c.requires.line, c.lines-test.true)) (omega (arith, c.min-n.ensures)) within,
+    )
 
 pub lines-preserved : goal.lines-preserved
 lines-preserved c =
