@@ -1,4 +1,4 @@
-use Rattle.std.proofs.Common.{◌≡◌, ◌≤◌, ◌+◌, ◌-◌, ◌%◌, ◌++◌, ℕ, List, length, take, drop, arith, refl, ap, ◌∙◌, sym}
+use Rattle.std.proofs.Common.{◌≡◌, ◌≤◌, ◌+◌, ◌-◌, ◌%◌, ℕ, List, length, take, drop, arith, refl, ap, ◌∙◌}
 use Rattle.std.proofs.lemmas.List.{length-drop, length-take-le, take_at}
 use Rattle.base64ct.specs.Encoding.{unpadded_encoding, EachBelow}
 use Rattle.base64ct.proofs.Unpadded.{length-unpadded}

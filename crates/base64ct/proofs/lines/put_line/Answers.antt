@@ -1,4 +1,4 @@
-use Rattle.std.proofs.Common.{◌+◌, ◌-◌, [], length, arith, refl, ◌∙◌, sym}
+use Rattle.std.proofs.Common.{[], length, arith, refl, ◌∙◌, sym}
 use Rattle.std.proofs.lemmas.List.{append-nil}
 use Rattle.base64ct.proofs.Wrapping.{line_wrote}
 use Rattle.base64ct.proofs.lines.put_line.Goals as goal
