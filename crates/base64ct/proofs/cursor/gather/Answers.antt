@@ -11,22 +11,35 @@ lines-init c =
     let ys : List ℕ = c.copy_from_slice.new.self in
     let body : List ℕ = c.args.body.now in
     let within : c.args.at + n ≤ length body = omega (arith, c.min-count.ensures, c.min.ensures, c.requires.within) in
-    let is : ys ≡ take n (drop c.args.at body) = c.copy_from_slice.ensures.after ∙ ap (λ (k : ℕ). take k (drop c.args.at body)) (omega arith) in
-    let ly : length ys ≡ n = ap length is ∙ length-take-le n (drop c.args.at body) (omega (arith, length-drop c.args.at body, within)) in
-    let ln : length (ys ++ drop n c.args.buffer.now) ≡ length c.args.buffer.now = omega (arith, length-append ys (drop n c.args.buffer.now), length-drop n c.args.buffer.now, ly, c.min-count.ensures) in (
+    let is : ys ≡ take n (drop c.args.at body) =
+    c.copy_from_slice.ensures.after ∙ ap (λ (k : ℕ). take k (drop c.args.at body)) (omega arith) in
+    let ly : length ys ≡ n =
+    ap length is ∙ length-take-le n (drop c.args.at body) (omega (arith, length-drop c.args.at body, within)) in
+    let ln : length (ys ++ drop n c.args.buffer.now) ≡ length c.args.buffer.now =
+    omega (
+      arith,
+      length-append ys (drop n c.args.buffer.now),
+      length-drop n c.args.buffer.now,
+      ly,
+      c.min-count.ensures,
+    ) in (
       omega (arith, ln, c.min-count.ensures),
       ln,
       within,
       (λ some more. omega (arith, some, more, ln, c.min-count.ensures, c.min.ensures)),
-      gathered_first c.args.width body c.args.buffer.now ys c.args.at c.args.room n (omega (arith, c.min-count.ensures, c.min.ensures)) within is,
+      gathered_first c.args.width body c.args.buffer.now ys c.args.at c.args.room n
+          (omega (arith, c.min-count.ensures, c.min.ensures)) within is,
     )
 
 pub returns-then-place-body : goal.returns-then-place-body
 returns-then-place-body c = λ s is. omega (
   arith,
   c.lines.invariant.1,
-  gathered_all c.args.width c.args.body.now c.lines.buffer c.args.at c.args.room c.lines.place c.lines.left c.lines.place c.lines.left c.lines.count s
-      c.lines.invariant.4 refl c.lines.invariant.2 c.lines-test.true (λ lt. absurd (omega (arith, lt, c.if-place-body.true))) (λ _ lt. absurd (omega (arith, lt, c.if-place-body.true))) is,
+  gathered_all c.args.width c.args.body.now c.lines.buffer c.args.at c.args.room c.lines.place c.lines.left
+      c.lines.place c.lines.left c.lines.count s
+      c.lines.invariant.4 refl c.lines.invariant.2 c.lines-test.true
+      (λ lt. absurd (omega (arith, lt, c.if-place-body.true)))
+      (λ _ lt. absurd (omega (arith, lt, c.if-place-body.true))) is,
 )
 
 pub lines-preserved : goal.lines-preserved
@@ -36,18 +49,25 @@ lines-preserved c =
     let ys : List ℕ = c.copy_from_slice-in-lines.new.self in
     let body : List ℕ = c.args.body.now in
     let width : c.lines.count + n - c.lines.count ≡ n = omega arith in
-    let is : ys ≡ take n (drop start body) = c.copy_from_slice-in-lines.ensures.after ∙ ap (λ (k : ℕ). take k (drop start body)) (omega arith) in
-    let within : start + n ≤ length body = omega (arith, c.min-n.ensures, c.min-in-lines.ensures, c.in-Some.ensures.2) in
+    let is : ys ≡ take n (drop start body) =
+    c.copy_from_slice-in-lines.ensures.after ∙ ap (λ (k : ℕ). take k (drop start body)) (omega arith) in
+    let within : start + n ≤ length body =
+    omega (arith, c.min-n.ensures, c.min-in-lines.ensures, c.in-Some.ensures.2) in
     let fits : c.lines.count + n ≤ length c.lines.buffer = omega (arith, c.min-n.ensures, c.lines-test.true) in
-    let ly : length ys ≡ n = ap length is ∙ length-take-le n (drop start body) (omega (arith, length-drop start body, within)) in
-    let ended : c.lines.left ≡ 0 = c.lines.invariant.3 c.lines-test.true (omega (arith, c.in-Some.ensures.1, c.in-Some.ensures.2)) in
-    let same : characters_from c.args.width c.args.width (drop start body) ≡ characters_from c.args.width c.lines.left (drop c.lines.place body) =
+    let ly : length ys ≡ n =
+    ap length is ∙ length-take-le n (drop start body) (omega (arith, length-drop start body, within)) in
+    let ended : c.lines.left ≡ 0 =
+    c.lines.invariant.3 c.lines-test.true (omega (arith, c.in-Some.ensures.1, c.in-Some.ensures.2)) in
+    let same : characters_from c.args.width c.args.width (drop start body)
+    ≡ characters_from c.args.width c.lines.left (drop c.lines.place body) =
     sym c.in-Some.ensures.0 ∙ ap (λ (r : ℕ). characters_from c.args.width r (drop c.lines.place body)) (sym ended) in
-    let ln = length-put_mid c.lines.count (c.lines.count + n - c.lines.count) c.lines.buffer ys (omega (arith, fits)) (omega (arith, ly)) in (
+    let ln = length-put_mid c.lines.count (c.lines.count + n - c.lines.count) c.lines.buffer ys (omega (arith, fits))
+    (omega (arith, ly)) in (
       omega (arith, ln, fits),
       omega (arith, ln, c.lines.invariant.1),
       within,
       (λ some more. omega (arith, some, more, ln, c.min-n.ensures, c.min-in-lines.ensures)),
-      gathered_more c.args.width body c.lines.buffer ys c.args.at c.args.room c.lines.place c.lines.left start c.args.width c.lines.count (c.lines.count + n - c.lines.count) n c.lines.invariant.4 same
+      gathered_more c.args.width body c.lines.buffer ys c.args.at c.args.room c.lines.place c.lines.left start
+          c.args.width c.lines.count (c.lines.count + n - c.lines.count) n c.lines.invariant.4 same
           (omega (arith, c.min-n.ensures, c.min-in-lines.ensures)) within width fits is,
     )

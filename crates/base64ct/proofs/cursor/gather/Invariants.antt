@@ -5,7 +5,8 @@ use Rattle.base64ct.proofs.cursor.gather.Given as goal
 abbrev pub invariant-lines : goal.invariant-lines
 invariant-lines l = (l.count ≤ length l.buffer) × (length l.buffer ≡ length l.fn.buffer) × (l.place ≤ length l.body)
     × (l.count < length l.buffer → l.place < length l.body → l.left ≡ 0)
-    × (characters_from l.width l.room (drop l.at l.body) ≡ before (take l.count l.buffer) (characters_from l.width l.left (drop l.place l.body)))
+    × (characters_from l.width l.room (drop l.at l.body)
+    ≡ before (take l.count l.buffer) (characters_from l.width l.left (drop l.place l.body)))
 
 abbrev pub decreases-lines : goal.decreases-lines
 decreases-lines l = length l.buffer - l.count
