@@ -1,11 +1,12 @@
 #!/usr/bin/env python3
 """Runs tests and the program with each request for memory refused in turn, and prints a table.
 
-    bench/refused_memory.py [CRATE..]
+    bench/refused_memory.py [--programs] [CRATE..]
 
 For each crate (base64ct, mcf, phc, sha_crypt, scrypt_plain and the programs if none is named) `rt try --test --fail-alloc N`
 runs its tests with request N refused, for N from 1 until a run meets no refusal (at most 40). For pwcheck it also runs
 the program over one line of each kind, for pwfile the program alone, over commands that need no digest. A run ends with its want of memory or as usual; anything else is marked.
+With --programs the tests are left out.
 """
 import os
 import re
@@ -60,8 +61,9 @@ def rows(crate, flags, data=b"", words=None):
 
 def main():
     print("| run | request refused | answer |\n|---|---|---|")
-    for crate in sys.argv[1:] or CRATES:
-        if crate != "pwfile":
+    tests = "--programs" not in sys.argv
+    for crate in [word for word in sys.argv[1:] if word != "--programs"] or CRATES:
+        if tests and crate != "pwfile":
             rows(crate, ["--test"])
         for words, data in RUNS.get(crate, []):
             rows(crate, [], data, words)
