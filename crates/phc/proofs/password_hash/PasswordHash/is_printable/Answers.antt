@@ -13,4 +13,4 @@ by_answer r false valid is h = absurd (false≢true h)
 
 pub returns-clause-parses_back : goal.returns-clause-parses_back
 returns-clause-parses_back c =
-    by_answer c.args.self.now c.has_printable_parts.result c.tell_parts.ensures c.has_printable_parts.ensures
+    by_answer c.args.self.now c.has_printable_parts.result c.promised_by_parts.ensures c.has_printable_parts.ensures

@@ -7,5 +7,5 @@ use Rattle.phc.proofs.password_hash_string.PasswordHashString.from_record.Goals 
 pub invariant_of-result : goal.invariant_of-result
 invariant_of-result c =
     let text : string_bytes c.in_ok-text.text ≡ record_text c.args.hash.now = c.in_ok-text.ensures.ok in
-    ap phc_text text ∙ parses_back c.args.hash.now c.tell_parts.ensures c.requires.printable
+    ap phc_text text ∙ parses_back c.args.hash.now c.promised_by_parts.ensures c.requires.printable
     ∙ ap Ok (sym c.copy_of.ensures)
