@@ -7,6 +7,7 @@
 set -eu
 top=$(cd "$(dirname "$0")/.." && pwd)
 folder=${1:-.}
+mkdir -p "$folder"
 command -v dpkg-deb >/dev/null 2>&1 || { echo "deb.sh: dpkg-deb isn't here: skipped" >&2; exit 77; }
 version=$(sed -n 's/^#define PWCHECK_VERSION "\(.*\)"$/\1/p' "$top/include/pwcheck.h")
 tree=$(mktemp -d)
