@@ -10,6 +10,8 @@ use borrow.Rule.Slice.PartMut.{put_mid}
 use Rattle.base64ct.specs.Encoding.{Alphabet, is_alphabet, character, value_of, unpadded_encoding, whole_bytes}
 use Rattle.base64ct.specs.Encoding.{byte_count, EachBelow, AreCharacters, Reads}
 use Rattle.base64ct.specs.Tables.{filled}
+use Rattle.base64ct.proofs.Encodings.{below-take, below-drop}
+use Rattle.base64ct.proofs.GoodBlocks.{below-append}
 use Rattle.base64ct.proofs.Unpadded.{length-unpadded, unpadded-fill_one, unpadded-fill_two}
 use Rattle.base64ct.proofs.Last.{or_zero_l, or_zero_r}
 use Rattle.base64ct.proofs.Decoded.{Progress}
@@ -54,6 +56,13 @@ all_accepted a src old dst rest i j fault wrong ei odd er tail p all =
     (λ m lt. subst (λ (c : ℕ). value_of a c ≢ None) (sym (get_or-drop (4 * i) src m 0))
     (all (4 * i + m) (omega (arith, length-drop (4 * i) src)))) in
     rw (p.accepted all, tail (λ one. odd (omega arith)) back) refl
+
+-- a list of bytes with bytes written in it
+pub below-put_mid : (o k : ℕ) (dst bytes : List ℕ) → EachBelow 256 dst → EachBelow 256 bytes
+    → EachBelow 256 (put_mid o k dst bytes)
+below-put_mid o k dst bytes below small =
+    below-append (take o dst) _ (below-take 256 o dst (omega arith) below)
+    (below-append bytes _ small (below-drop 256 k _ (below-drop 256 o dst below)))
 
 -- ---- comparing
 

@@ -107,5 +107,38 @@ bytes_low v w x y lv lw lx ly =
     rw (whole_bytes-four true v w x y [] lv lw lx ly, whole_bytes-nil, first, second, third)
     (cons_equal (omega arith) (cons_equal (omega arith) (cons_equal (omega arith) refl)))
 
+-- four values joined to a number, the first highest
+pub join_values : (v w x y : ℕ) → v < 64 → w < 64 → x < 64 → y < 64
+    → bit_or (bit_or (bit_or (v * 262144 % 4294967296) (w * 4096 % 4294967296)) (x * 64 % 4294967296)) y
+    ≡ v * 262144 + w * 4096 + x * 64 + y
+join_values v w x y lv lw lx ly =
+    let high : ℕ = v * 262144 % 4294967296 in
+    let first = or_sum high v (w * 4096 % 4294967296) 18 (omega arith) (omega arith) in
+    let second = or_sum (bit_or high (w * 4096 % 4294967296)) (v * 64 + w) (x * 64 % 4294967296) 12
+    (omega (arith, first)) (omega arith) in
+    let third = or_sum (bit_or (bit_or high (w * 4096 % 4294967296)) (x * 64 % 4294967296)) (v * 4096 + w * 64 + x) y 6
+    (omega (arith, first, second)) (omega arith) in
+    omega (arith, first, second, third)
+
+pub joined_high : (v w x y n : ℕ) → v < 64 → w < 64 → x < 64 → y < 64 → n ≡ v * 262144 + w * 4096 + x * 64 + y
+    → (bit_and (n / 65536) 255 ∷ bit_and (n / 256) 255 ∷ bit_and n 255 ∷ []) ≡ whole_bytes false (v ∷ w ∷ x ∷ y ∷ [])
+joined_high v w x y n lv lw lx ly is =
+    let first = and_mask (n / 65536) 8 in
+    let second = and_mask (n / 256) 8 in
+    let third = and_mask n 8 in
+    rw (whole_bytes-four false v w x y [] lv lw lx ly, whole_bytes-nil)
+    (cons_equal (omega (arith, is, first)) (cons_equal (omega (arith, is, second))
+    (cons_equal (omega (arith, is, third)) refl)))
+
+pub joined_low : (v w x y n : ℕ) → v < 64 → w < 64 → x < 64 → y < 64 → n ≡ y * 262144 + x * 4096 + w * 64 + v
+    → (bit_and n 255 ∷ bit_and (n / 256) 255 ∷ bit_and (n / 65536) 255 ∷ []) ≡ whole_bytes true (v ∷ w ∷ x ∷ y ∷ [])
+joined_low v w x y n lv lw lx ly is =
+    let first = and_mask n 8 in
+    let second = and_mask (n / 256) 8 in
+    let third = and_mask (n / 65536) 8 in
+    rw (whole_bytes-four true v w x y [] lv lw lx ly, whole_bytes-nil)
+    (cons_equal (omega (arith, is, first)) (cons_equal (omega (arith, is, second))
+    (cons_equal (omega (arith, is, third)) refl)))
+
 pub same-below : (xs ys : List ℕ) → xs ≡ ys → EachBelow 64 ys → EachBelow 64 xs
 same-below xs ys e h i = rw e (h i)

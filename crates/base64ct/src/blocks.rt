@@ -1,6 +1,6 @@
 //! Blocks of three bytes and four characters.
 
-ghost use Rattle.std.specs.Prelude.{◌≡◌, ◌↔◌, ◌<◌, ◌≤◌, [], ◌∷◌, true, false, length, MatchOption};
+ghost use Rattle.std.specs.Prelude.{◌≡◌, ◌↔◌, ◌<◌, ◌≤◌, ◌+◌, ◌*◌, [], ◌∷◌, true, false, length, MatchOption};
 ghost use Rattle.base64ct.specs.Encoding.{groups, whole_bytes, unpadded_encoding, value_of, AreCharacters, EachBelow};
 
 use crate::alphabet::Alphabet;
@@ -47,6 +47,44 @@ pub(crate) fn bytes_low(v: u8, w: u8, x: u8, y: u8) -> [u8; 3]
     ensures { result ≡ whole_bytes true (v ∷ w ∷ x ∷ y ∷ []) }
 {
     [v | w << 6, w >> 2 | x << 4, x >> 4 | y << 2]
+}
+
+// The number of four values, the first highest.
+#[inline(always)]
+fn join_values(v: u8, w: u8, x: u8, y: u8) -> u32
+    requires v { v < 64 }
+    requires w { w < 64 }
+    requires x { x < 64 }
+    requires y { y < 64 }
+    ensures { result ≡ v * 262144 + w * 4096 + x * 64 + y }
+{
+    u32::from(v) << 18 | u32::from(w) << 12 | u32::from(x) << 6 | u32::from(y)
+}
+
+// As `bytes_high`, by one number: LLVM makes vectors of a few blocks of these, which it doesn't of single bytes.
+#[inline(always)]
+pub(crate) fn joined_high(v: u8, w: u8, x: u8, y: u8) -> [u8; 3]
+    requires v { v < 64 }
+    requires w { w < 64 }
+    requires x { x < 64 }
+    requires y { y < 64 }
+    ensures { result ≡ whole_bytes false (v ∷ w ∷ x ∷ y ∷ []) }
+{
+    let n = join_values(v, w, x, y);
+    [(n >> 16 & 255) as u8, (n >> 8 & 255) as u8, (n & 255) as u8]
+}
+
+// As `bytes_low`, by one number.
+#[inline(always)]
+pub(crate) fn joined_low(v: u8, w: u8, x: u8, y: u8) -> [u8; 3]
+    requires v { v < 64 }
+    requires w { w < 64 }
+    requires x { x < 64 }
+    requires y { y < 64 }
+    ensures { result ≡ whole_bytes true (v ∷ w ∷ x ∷ y ∷ []) }
+{
+    let n = join_values(y, x, w, v);
+    [(n & 255) as u8, (n >> 8 & 255) as u8, (n >> 16 & 255) as u8]
 }
 
 // The values of three bytes.

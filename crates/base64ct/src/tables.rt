@@ -8,7 +8,7 @@ ghost use Rattle.base64ct.specs.Tables.{is_table, shaped, filled, Passes};
 ghost use Rattle.base64ct.specs.Counts.{look_count, comparison_count};
 
 use crate::Error;
-use crate::blocks::{bytes_high, bytes_low, values_high, values_low};
+use crate::blocks::{joined_high, joined_low, put_three, values_high, values_low};
 use crate::decode::{bytes_of, count_padding};
 use subtle::{Choice, SameByte};
 
@@ -54,6 +54,7 @@ pub trait CodeTable {
 }
 
 // The value of `c`, or a number of at least 64 where it is no character.
+#[inline(always)]
 fn table_value<T: CodeTable>(table: &mut T, c: u8) -> u8
     requires { T.looks table.old < 2 ^ 63 }
     ensures value { MatchOption (position (λ x. x == c) (T.characters table.old)) (64 ≤ result) (λ v. result ≡ v) }
@@ -65,6 +66,7 @@ fn table_value<T: CodeTable>(table: &mut T, c: u8) -> u8
 }
 
 // The bytes of four characters, and a number that is 0 exactly where all four are characters.
+#[inline(always)]
 fn decode_four<T: CodeTable>(
     table: &mut T,
     shape: Shape,
@@ -89,14 +91,15 @@ fn decode_four<T: CodeTable>(
     let fault = (v | w | x | y) >> 6;
     let (v, w, x, y) = (v & 63, w & 63, x & 63, y & 63);
     let bytes = if shape.low_first {
-        bytes_low(v, w, x, y)
+        joined_low(v, w, x, y)
     } else {
-        bytes_high(v, w, x, y)
+        joined_high(v, w, x, y)
     };
     (bytes, fault)
 }
 
 // The characters of three bytes.
+#[inline(always)]
 fn encode_four<T: CodeTable>(table: &mut T, shape: Shape, a: u8, b: u8, c: u8) -> [u8; 4]
     requires { T.spells table.old + 4 ≤ 2 ^ 63 }
     ensures written { result ≡ unpadded_encoding (shaped (T.characters table.old) shape) (a ∷ b ∷ c ∷ []) }
@@ -119,6 +122,7 @@ fn encode_four<T: CodeTable>(table: &mut T, shape: Shape, a: u8, b: u8, c: u8) -
 
 // The bytes of a last block of less than four characters, filled up, and a number that is 0 exactly
 // where the block does not have one character and all of it is characters.
+#[inline(always)]
 fn read_filled<T: CodeTable>(table: &mut T, shape: Shape, zero: u8, rest: &[u8]) -> ([u8; 3], u8)
     requires short { length rest.now < 4 }
     requires looks { T.looks table.old + 4 ≤ 2 ^ 63 }
@@ -141,7 +145,50 @@ fn read_filled<T: CodeTable>(table: &mut T, shape: Shape, zero: u8, rest: &[u8])
     }
 }
 
+// Reads the blocks of `src` that stand in whole pairs, so that LLVM makes vectors of eight characters, and gives a
+// number that is 0 exactly where they are characters.
+#[inline(always)]
+fn read_pairs<T: CodeTable>(table: &mut T, shape: Shape, src: &[u8], dst: &mut [u8]) -> u8
+    requires room { byte_count (length src.now) ≤ length dst.old }
+    requires looks { T.looks table.old + length src.now ≤ 2 ^ 63 }
+    ensures read { result ≡ 0 → unpadded_encoding (shaped (T.characters table.old) shape) (take (3 * (2 * (length src.now / 8))) dst.new) ≡ take (4 * (2 * (length src.now / 8))) src.now }
+    ensures accepted { AreCharacters (shaped (T.characters table.old) shape) src.now → result ≡ 0 }
+    ensures rest { drop (3 * (2 * (length src.now / 8))) dst.new ≡ drop (3 * (2 * (length src.now / 8))) dst.old }
+    ensures looks { T.looks table.new ≡ T.looks table.old + 4 * (2 * (length src.now / 8)) }
+    ensures spells { T.spells table.new ≡ T.spells table.old }
+    ensures characters { T.characters table.new ≡ T.characters table.old }
+{
+    let mut fault = 0;
+    'pairs: for pair in 0..src.len() / 8 {
+        let first = 2 * pair;
+        let i = 4 * first;
+        let (bytes, first_fault) = decode_four(
+            table,
+            shape,
+            src[i],
+            src[i + 1],
+            src[i + 2],
+            src[i + 3],
+        );
+        let second = first + 1;
+        let i = 4 * second;
+        let (next_bytes, second_fault) = decode_four(
+            table,
+            shape,
+            src[i],
+            src[i + 1],
+            src[i + 2],
+            src[i + 3],
+        );
+        put_three(&mut dst[3 * first..3 * first + 3], bytes);
+        put_three(&mut dst[3 * second..3 * second + 3], next_bytes);
+        fault = fault | first_fault | second_fault;
+    }
+    fault
+}
+
 // Reads `src` as characters into the front of `dst`, and gives a number that is 0 exactly where they are such.
+#[inline(always)]
 fn read_stem<T: CodeTable>(table: &mut T, shape: Shape, zero: u8, src: &[u8], dst: &mut [u8]) -> u8
     requires room { byte_count (length src.now) ≤ length dst.old }
     requires looks { T.looks table.old + length src.now + 4 ≤ 2 ^ 63 }
@@ -155,12 +202,12 @@ fn read_stem<T: CodeTable>(table: &mut T, shape: Shape, zero: u8, src: &[u8], ds
     ensures characters { T.characters table.new ≡ T.characters table.old }
 {
     let blocks = src.len() / 4;
-    let mut fault = 0;
-    'whole: for block in 0..blocks {
+    let mut fault = read_pairs(table, shape, src, dst);
+    'whole: for block in 2 * (src.len() / 8)..blocks {
         let i = 4 * block;
         let o = 3 * block;
         let (bytes, wrong) = decode_four(table, shape, src[i], src[i + 1], src[i + 2], src[i + 3]);
-        dst[o..o + 3].copy_from_slice(&bytes);
+        put_three(&mut dst[o..o + 3], bytes);
         fault |= wrong;
     }
     let o = 3 * blocks;
@@ -171,6 +218,7 @@ fn read_stem<T: CodeTable>(table: &mut T, shape: Shape, zero: u8, src: &[u8], ds
 }
 
 // The characters of a block, filled up to four with the character of 0.
+#[inline(always)]
 fn fill_characters(last: &[u8], zero: u8) -> [u8; 4]
     requires some { 1 ≤ length last.now }
     requires few { length last.now ≤ 4 }
@@ -185,6 +233,7 @@ fn fill_characters(last: &[u8], zero: u8) -> [u8; 4]
 }
 
 // The bytes of a block, filled up to three with zeros.
+#[inline(always)]
 fn fill_bytes(bytes: &[u8]) -> [u8; 3]
     requires { length bytes.now ≤ 3 }
     ensures { result ≡ bytes.now ++ replicate (3 - length bytes.now) 0 }
@@ -198,6 +247,7 @@ fn fill_bytes(bytes: &[u8]) -> [u8; 3]
 }
 
 // Whether the characters of a last block are related to those of its bytes, both filled up to four.
+#[inline(always)]
 fn compare_last<T: CodeTable, C: SameByte>(
     table: &mut T,
     cmp: &mut C,
@@ -229,6 +279,7 @@ fn compare_last<T: CodeTable, C: SameByte>(
 }
 
 // How many bytes at the end are padding.
+#[inline(always)]
 fn padding_under(shape: Shape, src: &[u8]) -> usize
     ensures count { result ≡ padding_len (shaped [] shape) src.now }
     ensures few { result ≤ length src.now }
@@ -237,6 +288,7 @@ fn padding_under(shape: Shape, src: &[u8]) -> usize
 }
 
 // Whether the last block of `stem` is related to that of its bytes; of no characters none is compared.
+#[inline(always)]
 fn compare_stem<T: CodeTable, C: SameByte>(
     table: &mut T,
     cmp: &mut C,
@@ -275,6 +327,7 @@ fn compare_stem<T: CodeTable, C: SameByte>(
 
 // Whether `fault` is 0 and the comparison passed. Both are looked at as one number, so that no branch tells
 // which of the two it was.
+#[inline(always)]
 fn is_faultless(fault: u8, passed: Choice) -> bool
     ensures { result ≡ ((fault == 0) && passed) }
 {

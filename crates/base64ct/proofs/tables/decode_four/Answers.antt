@@ -30,7 +30,7 @@ returns-then-shape-clause-bytes g c =
       ← c.table_value-w.ensures.characters,
       ← c.table_value-x.ensures.characters,
     ) c.table_value-y.ensures.value)
-    (sym c.if-shape.true) c.bytes_low-bytes.ensures
+    (sym c.if-shape.true) c.joined_low-bytes.ensures
 
 pub returns-else-shape-clause-fault : goal.returns-else-shape-clause-fault
 returns-else-shape-clause-fault g c =
@@ -59,4 +59,4 @@ returns-else-shape-clause-bytes g c =
       ← c.table_value-w.ensures.characters,
       ← c.table_value-x.ensures.characters,
     ) c.table_value-y.ensures.value)
-    (sym c.if-shape.false) c.bytes_high-bytes.ensures
+    (sym c.if-shape.false) c.joined_high-bytes.ensures

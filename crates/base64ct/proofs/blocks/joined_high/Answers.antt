@@ -1,0 +1,7 @@
+use Rattle.base64ct.proofs.Shifts.{joined_high}
+use Rattle.base64ct.proofs.blocks.joined_high.Goals as goal
+
+pub returns : goal.returns
+returns c =
+    joined_high c.args.v c.args.w c.args.x c.args.y c.join_values-n.result c.requires.v c.requires.w c.requires.x
+    c.requires.y c.join_values-n.ensures
