@@ -1,4 +1,4 @@
--- The characters at which texts are cut (ASCII).
+-- Names of characters (ASCII).
 use Rattle.std.specs.Prelude.{ℕ}
 
 -- `$`
@@ -8,6 +8,10 @@ dollar = 36
 -- `,`
 abbrev pub comma : ℕ
 comma = 44
+
+-- `-`
+abbrev pub hyphen : ℕ
+hyphen = 45
 
 -- `=`
 abbrev pub equals : ℕ

@@ -2,7 +2,8 @@
 use Rattle.std.proofs.Common.{◌≡◌, ℕ, Bool, true, false, List, [], ◌∷◌, length, map, refl, Result, Ok, Err}
 use Rattle.std.specs.Prelude.{⊤, nat_le, nat_lt, ◌||◌, Option, Some, None, if◌then◌else◌, is_some, unwrap_or, codes}
 use Rattle.std.specs.List.{list_all}
-use Rattle.pieces.specs.Pieces.{behind, is_nil}
+use Rattle.pieces.specs.Pieces.{behind}
+use Rattle.pieces.specs.Lists.{is_empty}
 use Rattle.mcf.specs.Grammar as mcf_grammar
 use Rattle.mcf.specs.Grammar.{fault, parts}
 use Rattle.mcf.specs.declared.error.Error as mcf_error
@@ -10,9 +11,10 @@ use Rattle.mcf.specs.declared.error.Error.TheVariants as mcf_fault
 use Rattle.std.specs.declared.cmp.Ordering.TheVariants.{Less}
 use Rattle.base64ct.specs.declared.errors.Error.TheVariants.{InvalidEncoding, InvalidLength}
 use Rattle.phc.specs.Encoded.{decoding}
-use Rattle.phc.specs.Grammar.{decimal_value, has_value_bytes, is_name, fault_of, fault_of_layout, first_fault}
+use Rattle.phc.specs.Grammar.{decimal_value, has_value_bytes, is_name, fault_of, fault_of_layout}
+use Rattle.pieces.specs.Faults.{first_fault, or_else, unless, value_or_fault}
 use Rattle.phc.specs.Grammar.{hash_fault, cut_pairs, layout, name_fault, pair_fault, params_fault, salt_fault}
-use Rattle.phc.specs.Grammar.{text_fault, unless, value_or_fault, version_fault, is_empty, Layout}
+use Rattle.phc.specs.Grammar.{text_fault, version_fault, Layout}
 use Rattle.phc.specs.Record.{phc, record_of_layout}
 use Rattle.phc.specs.declared.error.Error as phc_error
 use Rattle.phc.specs.declared.error.Error.TheVariants as phc_fault
@@ -31,11 +33,11 @@ abbrev Mcf : Option mcf_error.Error → Type 0
 Mcf None = ⊤
 Mcf (Some e) = mcf_named (mcf_name e) ≡ e
 
-mcf_or : (a b : Option mcf_error.Error) → Mcf a → Mcf b → Mcf (mcf_grammar.or_else a b)
+mcf_or : (a b : Option mcf_error.Error) → Mcf a → Mcf b → Mcf (or_else a b)
 mcf_or None b ha hb = hb
 mcf_or (Some e) b ha hb = ha
 
-mcf_unless : (t : Bool) (e : mcf_error.Error) → mcf_named (mcf_name e) ≡ e → Mcf (mcf_grammar.unless t e)
+mcf_unless : (t : Bool) (e : mcf_error.Error) → mcf_named (mcf_name e) ≡ e → Mcf (unless t e)
 mcf_unless true e h = tt
 mcf_unless false e h = h
 
@@ -54,9 +56,9 @@ mcf_fields (field ∷ fields) =
 
 of_mcf : (stored : List ℕ) → Mcf (fault stored)
 of_mcf stored =
-    mcf_or (mcf_grammar.unless (mcf_grammar.is_delimited stored) mcf_fault.DelimiterInvalid) _
+    mcf_or (unless (mcf_grammar.is_delimited stored) mcf_fault.DelimiterInvalid) _
     (mcf_unless (mcf_grammar.is_delimited stored) mcf_fault.DelimiterInvalid refl)
-    (mcf_or (mcf_grammar.unless (mcf_grammar.is_identifier (parts stored).id) mcf_fault.IdentifierInvalid) _
+    (mcf_or (unless (mcf_grammar.is_identifier (parts stored).id) mcf_fault.IdentifierInvalid) _
     (mcf_unless (mcf_grammar.is_identifier (parts stored).id) mcf_fault.IdentifierInvalid refl)
     (mcf_fields (parts stored).fields))
 
@@ -81,7 +83,7 @@ sha_salt : (n : ℕ) (w : Bool) (pieces : List (List ℕ)) → Sha (from_salt n 
 sha_salt n w [] = refl
 sha_salt n w (s ∷ []) = refl
 sha_salt n w (s ∷ (h ∷ more)) =
-    sha_if (is_nil more) (fields_in_range n w s h) _ (sha_if (nat_lt n 1000 || nat_lt 999999999 n) _ _ refl tt) refl
+    sha_if (is_empty more) (fields_in_range n w s h) _ (sha_if (nat_lt n 1000 || nat_lt 999999999 n) _ _ refl tt) refl
 
 sha_with : (o : Option ℕ) (pieces : List (List ℕ)) → Sha (with_rounds o pieces)
 sha_with None pieces = refl
@@ -91,7 +93,7 @@ sha_rounds : (o : Option (List ℕ)) (first : List ℕ) (pieces : List (List ℕ
     → Sha (by_rounds plain_number o first pieces)
 sha_rounds None first pieces = sha_salt 5000 false (first ∷ pieces)
 sha_rounds (Some digits) first pieces =
-    sha_if (is_nil pieces) _ (with_rounds (plain_number digits) pieces) refl (sha_with (plain_number digits) pieces)
+    sha_if (is_empty pieces) _ (with_rounds (plain_number digits) pieces) refl (sha_with (plain_number digits) pieces)
 
 sha_form : (pieces : List (List ℕ)) → Sha (split_fields plain_number pieces)
 sha_form [] = refl
@@ -165,7 +167,7 @@ phc_pair : (pieces : List (List ℕ)) → Phc (pair_fault pieces)
 phc_pair [] = refl
 phc_pair (name ∷ []) = phc_two (is_name name) false phc_fault.ParamNameInvalid phc_fault.ParamValueInvalid refl refl
 phc_pair (name ∷ (value ∷ more)) =
-    phc_four (is_name name) (nat_le (length value) 64) (has_value_bytes value) (is_nil more)
+    phc_four (is_name name) (nat_le (length value) 64) (has_value_bytes value) (is_empty more)
     phc_fault.ParamNameInvalid phc_fault.ParamValueTooLong phc_fault.ParamValueInvalid phc_fault.ParamValueInvalid refl
     refl refl refl
 
@@ -200,14 +202,14 @@ of_layout id l =
     let params : Option phc_error.Error = fault_of text_fault l.params in
     let salt : Option phc_error.Error = fault_of salt_fault l.salt in
     let hash : Option phc_error.Error = fault_of hash_fault l.hash in
-    let rest : Option phc_error.Error = unless (is_nil l.rest) phc_fault.TrailingData in
+    let rest : Option phc_error.Error = unless (is_empty l.rest) phc_fault.TrailingData in
     phc_cons (name_fault id) (version ∷ (params ∷ (salt ∷ (hash ∷ (rest ∷ [])))))
     (phc_unless (is_name id) phc_fault.ParamNameInvalid refl)
     (phc_cons version (params ∷ (salt ∷ (hash ∷ (rest ∷ [])))) (phc_part version_fault phc_version l.version)
     (phc_cons params (salt ∷ (hash ∷ (rest ∷ []))) (phc_part text_fault phc_params l.params)
     (phc_cons salt (hash ∷ (rest ∷ [])) (phc_part salt_fault phc_salt l.salt)
     (phc_cons hash (rest ∷ []) (phc_part hash_fault phc_hash l.hash)
-    (phc_cons rest [] (phc_unless (is_nil l.rest) phc_fault.TrailingData refl) tt)))))
+    (phc_cons rest [] (phc_unless (is_empty l.rest) phc_fault.TrailingData refl) tt)))))
 
 phc_by : (r : PasswordHash) (o : Option phc_error.Error) (e : phc_error.Error) → Phc o → value_or_fault r o ≡ Err e
     → phc_named (phc_name e) ≡ e
