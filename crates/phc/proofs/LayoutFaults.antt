@@ -18,19 +18,19 @@ pub record HasGoodParts (id : List ℕ) (l : Layout) : Type 0 where
   pub end : is_empty l.rest ≡ true
 
 -- the faults behind each part
-abbrev behind_hash : Layout → List (Option Error)
+abbrev pub behind_hash : Layout → List (Option Error)
 behind_hash l = unless (is_empty l.rest) TrailingData ∷ []
 
-abbrev behind_salt : Layout → List (Option Error)
+abbrev pub behind_salt : Layout → List (Option Error)
 behind_salt l = fault_of hash_fault l.hash ∷ behind_hash l
 
-abbrev behind_params : Layout → List (Option Error)
+abbrev pub behind_params : Layout → List (Option Error)
 behind_params l = fault_of salt_fault l.salt ∷ behind_salt l
 
-abbrev behind_version : Layout → List (Option Error)
+abbrev pub behind_version : Layout → List (Option Error)
 behind_version l = fault_of text_fault l.params ∷ behind_params l
 
-abbrev behind_id : Layout → List (Option Error)
+abbrev pub behind_id : Layout → List (Option Error)
 behind_id l = fault_of version_fault l.version ∷ behind_version l
 
 pub good_parts : (id : List ℕ) (l : Layout) → fault_of_layout id l ≡ None → HasGoodParts id l

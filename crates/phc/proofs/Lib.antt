@@ -1,7 +1,7 @@
 pub mod NameLemmas
 pub mod Characters
 pub mod PairTexts
-mod LayoutFaults
+pub mod LayoutFaults
 pub mod BytesLemmas
 pub mod Decimals
 pub mod Joining
