@@ -2,7 +2,8 @@
 use Rattle.std.proofs.Common.{◌≡◌, ℕ, ◌≤◌, Bool, true, false, List, [], ◌++◌, Option, refl, sym, ap, ◌∙◌, append_assoc}
 use Rattle.std.proofs.Common.{arith}
 use Rattle.std.specs.Io.KnownBytes.{Appends}
-use Rattle.line_io.specs.Devices.{AppendsPrefix, HasRisen}
+use Rattle.line_io.specs.Devices.{AppendsPrefix}
+use Rattle.pieces.specs.FaultCounts.{HasRisen}
 use Rattle.line_io.proofs.Moved.{append-nil, appends_none, appends_more}
 use Rattle.line_io.specs.Output.{Puts, has_failed, waiting}
 use Rattle.line_io.specs.declared.output.OutputBuffer.{OutputBuffer}

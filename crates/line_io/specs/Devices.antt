@@ -1,15 +1,7 @@
--- What a source and a sink do to the bytes that they tell, and their counts of faults.
-use Rattle.std.specs.Prelude.{◌≡◌, ℕ, ◌+◌, ◌-◌, ◌^◌, ◌≤◌, ◌<◌, min, List, ◌++◌, length, Option, Result, IfOk, IfSome}
+-- What a source and a sink do to the bytes that they tell.
+use Rattle.std.specs.Prelude.{◌≡◌, ℕ, ◌<◌, List, ◌++◌, length, Option, Result, IfOk, IfSome}
 use Rattle.std.specs.Prelude.{OnSome}
 use Rattle.std.specs.Io.KnownBytes.{Appends, Consumes}
-
--- the count after one more fault; it stays at the greatest number of its type
-abbrev pub one_more : ℕ → ℕ
-one_more count = min (count + 1) (2 ^ 64 - 1)
-
--- a count of faults is greater than before, or stands at the greatest number of its type
-abbrev pub HasRisen : ℕ → ℕ → Type 0
-HasRisen before now = one_more before ≤ now
 
 -- a write of a nonempty piece that doesn't fail takes a byte or more
 abbrev pub WritesSome : {E : Type 0} → Result ℕ E → List ℕ → Type 0

@@ -1,7 +1,7 @@
 -- What a buffer before a sink does with the bytes that are put into it.
 use Rattle.std.specs.Prelude.{◌≡◌, ℕ, ◌≤◌, Bool, true, false, List, [], ◌++◌, take, Option}
 use Rattle.std.specs.Io.KnownBytes.{Appends}
-use Rattle.line_io.specs.Devices.{HasRisen}
+use Rattle.pieces.specs.FaultCounts.{HasRisen}
 use Rattle.line_io.specs.declared.output.OutputBuffer.{OutputBuffer}
 
 -- the bytes that wait to be written

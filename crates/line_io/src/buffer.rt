@@ -2,7 +2,7 @@
 ghost use Rattle.std.specs.Prelude.{◌≡◌, ◌≢◌, ◌≤◌, ◌<◌, ◌+◌, ◌-◌, ◌^◌, ◌⊎◌, ℕ, [], ◌∷◌, true, false, List, length, take, drop, slice_index, MatchOption, MatchResult, OnOk, OnErr, IfNone, OnSome, IfSome, Option, IsTrue, nat_lt, ◌||◌, if◌then◌else◌};
 ghost use Rattle.std.specs.Io.KnownBytes.{Keeps};
 ghost use Rattle.std.specs.List.{list_any};
-ghost use Rattle.line_io.specs.Devices.{HasRisen};
+ghost use Rattle.pieces.specs.FaultCounts.{HasRisen};
 ghost use Rattle.line_io.specs.Lines.{is_feed, NoFeed};
 
 use crate::{Failed, Source};

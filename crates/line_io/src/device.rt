@@ -2,7 +2,8 @@
 ghost use Rattle.std.specs.Prelude.{◌≤◌, ◌<◌, ℕ, List, length, Option, OnErr};
 ghost use Rattle.std.specs.Io.{ReadsAtMost, WritesAtMost};
 ghost use Rattle.std.specs.Io.KnownBytes.{ReadConsumes, WriteAppends};
-ghost use Rattle.line_io.specs.Devices.{HasRisen, WritesSome};
+ghost use Rattle.line_io.specs.Devices.{WritesSome};
+ghost use Rattle.pieces.specs.FaultCounts.{HasRisen};
 
 /// A read or a write failed. The device has counted it.
 #[derive(Clone, Copy, Debug, PartialEq, Eq)]

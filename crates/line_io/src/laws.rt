@@ -1,6 +1,6 @@
 //! Laws of the definitions and of whole runs, each the contract of a function that does nothing.
 ghost use Rattle.std.specs.Prelude.{◌≡◌, ◌<◌, ◌-◌, ◌^◌, ◌⊎◌, ◌↔◌};
-ghost use Rattle.line_io.specs.Devices.{HasRisen};
+ghost use Rattle.pieces.specs.FaultCounts.{HasRisen};
 ghost use Rattle.line_io.specs.Runs.{LinesOfBytes};
 
 /// For a source that tells its bytes, the lines that `next_line` gives on a new buffer before `End`

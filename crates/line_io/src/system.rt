@@ -2,7 +2,8 @@
 ghost use Rattle.std.specs.Prelude.{◌≡◌, ◌≤◌, ◌<◌, ℕ, None, Option, List, length, take, is_err, IfOk, IfSome, OnErr, if◌then◌else◌};
 ghost use Rattle.std.specs.Io.{ReadsAtMost, WritesAtMost};
 ghost use Rattle.std.specs.Io.KnownBytes.{Appends, Keeps, ReadConsumes, WriteAppends};
-ghost use Rattle.line_io.specs.Devices.{HasRisen, WritesSome, one_more};
+ghost use Rattle.line_io.specs.Devices.{WritesSome};
+ghost use Rattle.pieces.specs.FaultCounts.{HasRisen, one_more};
 
 use crate::{Failed, Sink, Source};
 use std::io::{ErrorKind, Read, Write};

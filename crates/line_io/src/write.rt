@@ -2,7 +2,8 @@
 
 ghost use Rattle.std.specs.Prelude.{◌≤◌, OnErr, OnOk};
 ghost use Rattle.std.specs.Io.KnownBytes.{Appends};
-ghost use Rattle.line_io.specs.Devices.{AppendsPrefix, HasRisen};
+ghost use Rattle.line_io.specs.Devices.{AppendsPrefix};
+ghost use Rattle.pieces.specs.FaultCounts.{HasRisen};
 
 use crate::{Failed, Sink};
 

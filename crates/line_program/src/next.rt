@@ -2,7 +2,7 @@
 
 ghost use Rattle.std.specs.Prelude.{◌≡◌, ◌≤◌, Ok, Err, [], false, true, is_err, IfOk, OnErr, OnOk, ◌⊎◌};
 ghost use Rattle.line_io.specs.Buffer.{is_closed};
-ghost use Rattle.line_io.specs.Devices.{HasRisen};
+ghost use Rattle.pieces.specs.FaultCounts.{HasRisen};
 ghost use Rattle.line_io.specs.Runs.{IsCall};
 ghost use Rattle.line_io.specs.Output.{Puts, has_failed, waiting};
 ghost use Rattle.line_program.specs.Next.{NextReply};

@@ -2,7 +2,8 @@
 
 ghost use Rattle.std.specs.Prelude.{◌≡◌, ◌≢◌, ◌≤◌, ◌^◌, ◌++◌, ◌∷◌, [], ℕ, Bool, List, None, Option, false, if◌then◌else◌, length, true, OnErr, IfOk};
 ghost use Rattle.std.specs.List.{after_last, before_last, list_any};
-ghost use Rattle.line_io.specs.Devices.{HasRisen, WhereTold};
+ghost use Rattle.line_io.specs.Devices.{WhereTold};
+ghost use Rattle.pieces.specs.FaultCounts.{HasRisen};
 ghost use Rattle.line_program.specs.Outcome.{Outcome};
 ghost use Rattle.line_program.specs.PlainOutput.{answer_rules, is_plain_match, is_tab, line_answer, line_may_lack, plain_word};
 

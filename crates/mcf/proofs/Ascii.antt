@@ -10,7 +10,8 @@ use Rattle.std.proofs.lemmas.Str.Ascii.{IsAscii-nil, IsAscii-cons}
 use Rattle.mcf.specs.Grammar.{fault, field_fault, first_field_fault, fields_text, is_field_byte, is_identifier_byte}
 use Rattle.mcf.specs.Grammar.{mcf, parts, parts_text}
 use Rattle.mcf.proofs.Built.{field_bytes, identifier_bytes}
-use Rattle.mcf.proofs.ValidTexts.{or_none, parts_text-mcf, valid_of}
+use Rattle.mcf.proofs.ValidTexts.{parts_text-mcf, valid_of}
+use Rattle.pieces.proofs.FaultLaws.{or_none}
 
 field_byte : (b : ℕ) → is_field_byte b ≡ true → b < 128
 field_byte b h = grind (arith, nat_tests, h)

@@ -14,7 +14,8 @@ use Rattle.mcf.specs.declared.error.Error.TheVariants.{FieldInvalid, EncodingInv
 use Rattle.mcf.specs.Grammar.{field_fault, first_field_fault, fields_text, is_field_byte, is_identifier_byte}
 use Rattle.mcf.specs.Grammar.{is_delimited, is_identifier, fault, mcf, parts, Parts, parts_of_pieces, parts_text}
 use Rattle.mcf.specs.Grammar.{with_dollar, with_field}
-use Rattle.mcf.proofs.ValidTexts.{some_none, or_none, valid_of, pieces_of_valid}
+use Rattle.mcf.proofs.ValidTexts.{valid_of, pieces_of_valid}
+use Rattle.pieces.proofs.FaultLaws.{or_none, some_none}
 
 -- ---- bytes that are no `$`
 

@@ -10,7 +10,7 @@ use Rattle.mcf.specs.Clean.{is_good, AreGood}
 use Rattle.mcf.specs.Grammar.{field_fault, first_field_fault, is_field_byte}
 use Rattle.mcf.proofs.Built.{field_bytes}
 use Rattle.mcf.specs.declared.error.Error.TheVariants.{FieldInvalid}
-use Rattle.mcf.proofs.ValidTexts.{or_none, some_none}
+use Rattle.pieces.proofs.FaultLaws.{or_none, some_none}
 
 -- a byte of a field in front of fields without a fault
 in_front : (b : ℕ) (pieces : List (List ℕ)) → is_field_byte b ≡ true → first_field_fault pieces ≡ None

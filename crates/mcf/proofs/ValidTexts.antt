@@ -1,5 +1,5 @@
 -- The pieces of a text without a fault.
-use Rattle.std.proofs.Common.{◌≡◌, ℕ, Bool, true, false, List, [], ◌∷◌, ◌++◌, ap, ◌∙◌, sym, refl, arith}
+use Rattle.std.proofs.Common.{◌≡◌, ℕ, true, List, [], ◌∷◌, ◌++◌, ap, ◌∙◌, sym, refl, arith}
 use Rattle.std.specs.Prelude.{Option, Some, None, Ok, ◌==◌}
 use Rattle.std.specs.List.{join_with_byte}
 use Rattle.std.proofs.lemmas.Bool.Decides.{nat_tests}
@@ -8,20 +8,10 @@ use Rattle.pieces.specs.Pieces.{pieces_at}
 use Rattle.pieces.proofs.Cuts.{cut_of, cut_in_front, join_pieces}
 use Rattle.mcf.specs.declared.error.Error.{Error}
 use Rattle.mcf.specs.declared.error.Error.TheVariants.{DelimiterInvalid, IdentifierInvalid}
-use Rattle.mcf.specs.Grammar.{or_else, unless, first_field_fault, is_delimited, is_identifier, fault, mcf, parts, Parts}
+use Rattle.mcf.specs.Grammar.{first_field_fault, is_delimited, is_identifier, fault, mcf, parts, Parts}
+use Rattle.pieces.specs.Faults.{or_else, unless}
+use Rattle.pieces.proofs.FaultLaws.{or_none, some_none, unless_none}
 use Rattle.mcf.specs.Grammar.{parts_of_pieces, parts_or_fault, parts_text, fields_text}
-
-pub some_none : (e : Error) → Some e ≡ None → ⊥
-some_none e h = cc
-
--- where neither of two faults is found, each is absent
-pub or_none : (a b : Option Error) → or_else a b ≡ None → (a ≡ None) × (b ≡ None)
-or_none None b h = (refl, h)
-or_none (Some e) b h = absurd (some_none e h)
-
-pub unless_none : (test : Bool) (e : Error) → unless test e ≡ None → test ≡ true
-unless_none true e h = refl
-unless_none false e h = absurd (some_none e h)
 
 -- what holds of a text without a fault
 pub record IsValid (s : List ℕ) : Type 0 where

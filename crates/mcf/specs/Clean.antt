@@ -1,6 +1,7 @@
 -- Texts of fields without a fault, told by neighbouring bytes.
 use Rattle.std.specs.Prelude.{◌≡◌, ℕ, ◌+◌, ◌<◌, ◌≤◌, Bool, true, not, ◌&&◌, ◌||◌, ◌==◌, List, slice_index}
-use Rattle.mcf.specs.Grammar.{dollar, is_field_byte}
+use Rattle.mcf.specs.Grammar.{is_field_byte}
+use Rattle.pieces.specs.Characters.{dollar}
 
 -- a byte of a field, or a `$` before another byte than `$`
 abbrev pub is_good : ℕ → ℕ → Bool

@@ -1,25 +1,16 @@
 -- The modular crypt format (crypt(5), "hashed passphrases"; the rules on characters are those of the
 -- documentation of Rust's crate mcf): a first fault, or an identifier and fields.
-use Rattle.std.specs.Prelude.{ℕ, Bool, true, false, not, ◌&&◌, ◌||◌, ◌==◌, List, [], ◌∷◌, ◌++◌, nat_eq, Option, Some}
+use Rattle.std.specs.Prelude.{ℕ, Bool, not, ◌&&◌, ◌||◌, ◌==◌, List, [], ◌∷◌, ◌++◌, nat_eq, Option, Some}
 use Rattle.std.specs.Prelude.{None, Result, Ok, Err, if◌then◌else◌, codes}
 use Rattle.std.specs.List.{list_all, list_any, starts_with, ends_with}
 use Rattle.std.specs.Char.{is_ascii_lowercase, is_ascii_digit, is_ascii_alphanumeric}
+use Rattle.pieces.specs.Characters.{dollar, hyphen}
+use Rattle.pieces.specs.Faults.{or_else, unless}
+use Rattle.pieces.specs.Lists.{is_empty}
 use Rattle.pieces.specs.Pieces.{pieces_at}
 use Rattle.mcf.specs.declared.error.Error.{Error}
 use Rattle.mcf.specs.declared.error.Error.TheVariants.{DelimiterInvalid, EncodingInvalid, FieldInvalid}
 use Rattle.mcf.specs.declared.error.Error.TheVariants.{IdentifierInvalid}
-
--- `$`
-abbrev pub dollar : ℕ
-dollar = 36
-
--- `-`
-abbrev pub hyphen : ℕ
-hyphen = 45
-
-abbrev pub is_empty : List ℕ → Bool
-is_empty [] = true
-is_empty (b ∷ s) = false
 
 -- the text begins with `$` and does not end with it
 abbrev pub is_delimited : List ℕ → Bool
@@ -44,16 +35,6 @@ abbrev pub field_fault : List ℕ → Option Error
 field_fault s =
     if is_empty s then Some FieldInvalid
     else (if list_all is_field_byte s then None else Some EncodingInvalid)
-
--- the first of two faults
-abbrev pub or_else : Option Error → Option Error → Option Error
-or_else (Some e) other = Some e
-or_else None other = other
-
--- a fault where the test does not hold
-abbrev pub unless : Bool → Error → Option Error
-unless true e = None
-unless false e = Some e
 
 -- the fault of the first field that has one
 abbrev pub first_field_fault : List (List ℕ) → Option Error

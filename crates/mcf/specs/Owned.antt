@@ -1,6 +1,7 @@
 -- What the makers of a text of one's own answer, and the pushes.
 use Rattle.std.specs.Prelude.{◌≡◌, ◌⊎◌, ℕ, List, ◌++◌, Option, Some, None, Result, Ok, Err, if◌then◌else◌}
-use Rattle.mcf.specs.Grammar.{is_empty, with_dollar}
+use Rattle.mcf.specs.Grammar.{with_dollar}
+use Rattle.pieces.specs.Lists.{is_empty}
 use Rattle.mcf.specs.declared.error.Error.{Error}
 use Rattle.mcf.specs.declared.error.Error.TheVariants.{FieldInvalid, OutOfMemory}
 

@@ -4,7 +4,7 @@ use Rattle.pieces.specs.Pieces.{pieces_left}
 use Rattle.mcf.specs.declared.PasswordHashRef.{PasswordHashRef}
 use Rattle.mcf.specs.declared.fields.Field.{Field}
 use Rattle.mcf.specs.declared.fields.Fields.{Fields}
-use Rattle.mcf.specs.Grammar.{dollar}
+use Rattle.pieces.specs.Characters.{dollar}
 
 -- the text of a password hash
 abbrev pub hash_text : PasswordHashRef → List ℕ

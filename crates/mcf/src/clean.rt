@@ -3,7 +3,8 @@
 ghost use Rattle.std.specs.Prelude.{◌≡◌, ◌+◌, ◌≤◌, IsTrue, None, length};
 ghost use Rattle.pieces.specs.Pieces.{pieces_at};
 ghost use Rattle.mcf.specs.Clean.{AreGood};
-ghost use Rattle.mcf.specs.Grammar.{dollar, first_field_fault};
+ghost use Rattle.mcf.specs.Grammar.{first_field_fault};
+ghost use Rattle.pieces.specs.Characters.{dollar};
 
 use crate::fields::is_field_byte;
 use std::simd::prelude::*;

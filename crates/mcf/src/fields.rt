@@ -4,7 +4,8 @@ ghost use Rattle.std.specs.Prelude.{◌≡◌, ◌≢◌, ◌⊎◌, ◌<◌, �
 ghost use Rattle.std.specs.Result.{result_err};
 ghost use Rattle.std.specs.List.{list_all};
 ghost use Rattle.pieces.specs.Pieces.{pieces_left};
-ghost use Rattle.mcf.specs.Grammar.{dollar, field_fault, first_field_fault, is_field_byte};
+ghost use Rattle.mcf.specs.Grammar.{field_fault, first_field_fault, is_field_byte};
+ghost use Rattle.pieces.specs.Characters.{dollar};
 
 use crate::clean::are_fields;
 use crate::{Base64, Error, Result};

@@ -2,7 +2,8 @@
 
 ghost use Rattle.std.specs.Prelude.{◌≡◌, ℕ, IsAscii, List, [], ◌∷◌, ◌++◌, None, Ok, true};
 ghost use Rattle.pieces.specs.Pieces.{pieces_at};
-ghost use Rattle.mcf.specs.Grammar.{dollar, fault, field_fault, first_field_fault, is_identifier, mcf, parts, Parts, parts_text, with_dollar, with_field};
+ghost use Rattle.mcf.specs.Grammar.{fault, field_fault, first_field_fault, is_identifier, mcf, parts, Parts, parts_text, with_dollar, with_field};
+ghost use Rattle.pieces.specs.Characters.{dollar};
 
 /// A text without a fault is cut into an empty piece, its identifier and its fields.
 pub fn pieces_of_valid()

@@ -6,7 +6,8 @@ ghost use Rattle.std.specs.Cmp.Lexicographic.{nat_list_cmp_total, nat_list_eq_eq
 ghost use Rattle.std.specs.Ordering.{nat_cmp};
 ghost use Rattle.base64ct.specs.Encoding.{encoding, longest_input};
 ghost use Rattle.mcf.specs.Alphabets.{alphabet_of};
-ghost use Rattle.mcf.specs.Grammar.{fault, field_fault, is_identifier, parts, unless, with_dollar, with_field};
+ghost use Rattle.mcf.specs.Grammar.{fault, field_fault, is_identifier, parts, with_dollar, with_field};
+ghost use Rattle.pieces.specs.Faults.{unless};
 ghost use Rattle.mcf.specs.Owned.{IsFaultOrMemory, IsMade, IsPush, bytes_fault};
 ghost use Rattle.mcf.specs.Views.{field_text, fields_left, hash_text};
 

@@ -4,7 +4,7 @@ use Rattle.std.specs.Prelude.{None, is_none, Result, Ok, Err, if◌then◌else�
 use Rattle.mcf.specs.Grammar.{mcf, Parts}
 use Rattle.mcf.specs.declared.error.Error as mcf_error
 use Rattle.phc.specs.declared.password_hash.PasswordHash.{PasswordHash}
-use Rattle.pieces.specs.Pieces.{is_nil}
+use Rattle.pieces.specs.Lists.{is_empty}
 use Rattle.sha_crypt.specs.HashField.{is_hash_field}
 use Rattle.stored_check.specs.Verdict.{mcf_name, may_lack_memory, same_text, verdict}
 use Rattle.stored_check.specs.declared.error.StoredError.{StoredError}
@@ -33,7 +33,7 @@ pub record Md5Fields : Type 0 where
 abbrev pub split_fields : List (List ℕ) → Result Md5Fields Md5Fault
 split_fields [] = Err NoSalt
 split_fields (salt ∷ []) = Err NoHash
-split_fields (salt ∷ (hash ∷ more)) = if is_nil more then Ok (record { salt = salt; hash = hash }) else Err Trailing
+split_fields (salt ∷ (hash ∷ more)) = if is_empty more then Ok (record { salt = salt; hash = hash }) else Err Trailing
 
 -- the last two faults: the salt has more than 8 bytes; the text of the hash is the hash field of no digest
 abbrev pub checked_fields : Result Md5Fields Md5Fault → Result Md5Fields Md5Fault

@@ -1,7 +1,8 @@
 //! The top calls.
 
 ghost use Rattle.std.specs.Prelude.{◌≡◌, ◌≢◌, ◌≤◌, ◌^◌};
-ghost use Rattle.line_io.specs.Devices.{HasRisen, WhereTold};
+ghost use Rattle.line_io.specs.Devices.{WhereTold};
+ghost use Rattle.pieces.specs.FaultCounts.{HasRisen};
 ghost use Rattle.line_program.specs.Outcome.{Outcome};
 ghost use Rattle.md5_crypt.specs.Run.{is_costly, legacy_rules, verdict_with_scrypt};
 ghost use Rattle.md5_crypt.specs.Verdict.{IsLegacyVerdict};

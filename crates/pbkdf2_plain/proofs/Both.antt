@@ -5,7 +5,8 @@ use Rattle.std.specs.Prelude.{◌&&◌, nat_lt, is_ok, if◌then◌else◌}
 use Rattle.base64ct.proofs.DecodingLaws.{same_true}
 use Rattle.mcf.specs.Grammar.{mcf, Parts}
 use Rattle.mcf.specs.declared.error.Error as mcf_error
-use Rattle.phc.specs.Grammar.{Layout, layout, fault_of_layout, value_or_fault}
+use Rattle.phc.specs.Grammar.{Layout, layout, fault_of_layout}
+use Rattle.pieces.specs.Faults.{value_or_fault}
 use Rattle.phc.specs.Record.{phc, record_of_layout}
 use Rattle.phc.specs.declared.error.Error as phc_error
 use Rattle.phc.specs.declared.password_hash.PasswordHash.{PasswordHash}

@@ -1,7 +1,8 @@
 //! The top calls.
 
 ghost use Rattle.std.specs.Prelude.{◌≡◌, ◌≢◌, ◌≤◌, ◌^◌, codes};
-ghost use Rattle.line_io.specs.Devices.{HasRisen, WhereTold};
+ghost use Rattle.line_io.specs.Devices.{WhereTold};
+ghost use Rattle.pieces.specs.FaultCounts.{HasRisen};
 ghost use Rattle.line_program.specs.Outcome.{Outcome};
 ghost use Rattle.stored_check.specs.Verdict.{IsVerdict};
 ghost use Rattle.pbkdf2_plain.specs.Run.{either_rules, is_costly, verdict_of_either};

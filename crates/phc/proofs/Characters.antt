@@ -10,7 +10,7 @@ use Rattle.std.proofs.lemmas.Bool.Decides.{nat_tests}
 use Rattle.std.proofs.lemmas.Fmt.{digits_decimal}
 use Rattle.pieces.specs.Pieces.{LacksByte}
 use Rattle.base64ct.specs.Alphabets.{base64_unpadded}
-use Rattle.base64ct.specs.Encoding.{Alphabet, EachBelow, character, groups}
+use Rattle.base64ct.specs.Encoding.{EachBelow, character, groups}
 use Rattle.base64ct.specs.Encoding as base64
 use Rattle.base64ct.proofs.Encodings.{groups-below}
 use Rattle.phc.specs.Encoded.{encoding}

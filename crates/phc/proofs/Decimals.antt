@@ -8,7 +8,8 @@ use Rattle.std.specs.Str.Parse.{ParsesUnsigned}
 use Rattle.std.proofs.lemmas.Str.Parse.{IsNumeralModel, numerals_by_fold, parse_digits}
 use Rattle.std.proofs.lemmas.Bool.Decides.{nat_tests}
 use Rattle.std.proofs.lemmas.Bool.{and_parts}
-use Rattle.phc.specs.Grammar.{number_after, decimal_value, is_plain, has_leading_zero}
+use Rattle.phc.specs.Grammar.{decimal_value, is_plain}
+use Rattle.pieces.specs.Numbers.{has_leading_zero, number_after}
 
 pub own : IsNumeralModel (λ ds. list_all is_ascii_digit ds ≡ true) (number_after 0)
 own = numerals_by_fold _ (search rules) number_after (search rules)

@@ -12,9 +12,10 @@ use Rattle.base64ct.specs.declared.errors.Error.TheVariants.{InvalidEncoding}
 use Rattle.base64ct.proofs.Ascii.{encoding_ascii}
 use Rattle.base64ct.proofs.DecodingLaws.{decoding-Some, decoding-encoding, length-decodable, length-decoding}
 use Rattle.base64ct.proofs.DecodingLaws.{decoded_len-unpadded}
-use Rattle.phc.proofs.PairTexts.{both, holds}
+use Rattle.pieces.proofs.FaultLaws.{first_none, unless_none}
 use Rattle.phc.specs.Encoded.{decoding, encoding}
-use Rattle.phc.specs.Grammar.{salt_fault, unless}
+use Rattle.phc.specs.Grammar.{salt_fault}
+use Rattle.pieces.specs.Faults.{unless}
 use Rattle.phc.specs.declared.error.Error.TheVariants.{Base64, SaltTooShort, SaltTooLong}
 
 -- a text of at most k characters stands for at most as many bytes
@@ -53,14 +54,14 @@ pub record SaltBytes (t : List ℕ) : Type 0 where
 
 pub salt_bytes : (t : List ℕ) → salt_fault t ≡ None → SaltBytes t
 salt_bytes t h =
-    let one = both (unless (nat_le 11 (length t)) SaltTooShort)
+    let one = first_none (unless (nat_le 11 (length t)) SaltTooShort)
     (unless (nat_le (length t) 64) SaltTooLong ∷ (unless (is_some (decoding t)) (Base64 InvalidEncoding) ∷ [])) h in
-    let two = both (unless (nat_le (length t) 64) SaltTooLong)
+    let two = first_none (unless (nat_le (length t) 64) SaltTooLong)
     (unless (is_some (decoding t)) (Base64 InvalidEncoding) ∷ []) one.1 in
-    let three = both (unless (is_some (decoding t)) (Base64 InvalidEncoding)) [] two.1 in
-    let least : 11 ≤ length t = grind (arith, nat_tests, holds (nat_le 11 (length t)) SaltTooShort one.0) in
-    let most : length t ≤ 64 = grind (arith, nat_tests, holds (nat_le (length t) 64) SaltTooLong two.0) in
-    let is = found (decoding t) (holds (is_some (decoding t)) (Base64 InvalidEncoding) three.0) in
+    let three = first_none (unless (is_some (decoding t)) (Base64 InvalidEncoding)) [] two.1 in
+    let least : 11 ≤ length t = grind (arith, nat_tests, unless_none (nat_le 11 (length t)) SaltTooShort one.0) in
+    let most : length t ≤ 64 = grind (arith, nat_tests, unless_none (nat_le (length t) 64) SaltTooLong two.0) in
+    let is = found (decoding t) (unless_none (is_some (decoding t)) (Base64 InvalidEncoding) three.0) in
     let parts = decoding-Some base64_unpadded t is.0 is.1 in
     let size = decoded_length t is.0 is.1 in
     record {

@@ -2,9 +2,10 @@
 use Rattle.std.proofs.Common.{◌≡◌, ℕ, true, false, List, refl, sym, ap, Ok, Err}
 use Rattle.std.specs.Prelude.{Option, Some, None}
 use Rattle.std.specs.Option.{option_and_then}
-use Rattle.pieces.specs.Pieces.{is_nil}
+use Rattle.pieces.specs.Lists.{is_empty}
 use Rattle.phc.specs.Encoded.{decoding}
-use Rattle.phc.specs.Grammar.{Layout, value_or_fault, name_fault, fault_of, version_fault, text_fault, salt_fault}
+use Rattle.phc.specs.Grammar.{Layout, name_fault, fault_of, version_fault, text_fault, salt_fault}
+use Rattle.pieces.specs.Faults.{value_or_fault}
 use Rattle.phc.specs.Grammar.{hash_fault, pairs_of, decimal_value, fault_of_layout}
 use Rattle.phc.specs.Record.{record_of_layout}
 use Rattle.phc.specs.declared.error.Error.{Error}
@@ -86,7 +87,7 @@ pub rest_refused : (id : List ℕ) (l : Layout) (name : List ℕ) (version : Opt
     → Ok params ≡ value_or_fault (pairs_of l.params) (fault_of text_fault l.params)
     → Ok salt ≡ value_or_fault (option_and_then decoding l.salt) (fault_of salt_fault l.salt)
     → Ok hash ≡ value_or_fault (option_and_then decoding l.hash) (fault_of hash_fault l.hash)
-    → false ≡ is_nil l.rest
+    → false ≡ is_empty l.rest
     → Err TrailingData ≡ value_or_fault (record_of_layout id l) (fault_of_layout id l)
 rest_refused id l name version params salt hash name_is version_is params_is salt_is hash_is more =
     rw (
@@ -105,7 +106,7 @@ pub joined : (id : List ℕ) (l : Layout) (name : List ℕ) (version : Option �
     → Ok params ≡ value_or_fault (pairs_of l.params) (fault_of text_fault l.params)
     → Ok salt ≡ value_or_fault (option_and_then decoding l.salt) (fault_of salt_fault l.salt)
     → Ok hash ≡ value_or_fault (option_and_then decoding l.hash) (fault_of hash_fault l.hash)
-    → true ≡ is_nil l.rest
+    → true ≡ is_empty l.rest
     → Ok (record { algorithm = name; version = version; params = params; salt = salt; hash = hash })
     ≡ value_or_fault (record_of_layout id l) (fault_of_layout id l)
 joined id l name version params salt hash name_is version_is params_is salt_is hash_is end =

@@ -1,6 +1,7 @@
 pub mod NameLemmas
 pub mod Characters
 pub mod PairTexts
+pub mod LayoutFaults
 pub mod BytesLemmas
 pub mod Decimals
 pub mod Joining
@@ -11,6 +12,7 @@ mod Vectors
 pub mod EncodedBytes
 pub mod TextParts
 pub mod ValueBytes
+pub mod ValueFaults
 pub mod PairLemmas
 pub mod ParamsLemmas
 mod PartVectors

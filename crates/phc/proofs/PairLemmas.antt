@@ -9,57 +9,24 @@ use Rattle.std.proofs.lemmas.Bool.{and_parts}
 use Rattle.std.proofs.lemmas.Bool.Decides.{nat_tests}
 use Rattle.std.proofs.lemmas.Str.{IsUtf8-from_ascii, IsAscii-append}
 use Rattle.std.proofs.lemmas.Str.Ascii.{IsAscii-nil, IsAscii-cons}
-use Rattle.pieces.specs.Pieces.{pieces_at, is_nil}
+use Rattle.pieces.specs.Pieces.{pieces_at}
+use Rattle.pieces.specs.Lists.{is_empty}
 use Rattle.pieces.proofs.Cuts.{cut_of, join_pieces}
-use Rattle.phc.specs.Grammar.{cut_pairs, has_value_bytes, is_empty, is_name, pair_fault, pair_of, text_fault}
-use Rattle.phc.specs.Grammar.{text_pairs, unless, value_fault}
+use Rattle.phc.specs.Grammar.{cut_pairs, is_name, pair_fault, pair_of, text_fault}
+use Rattle.phc.specs.Grammar.{text_pairs, value_fault}
+use Rattle.pieces.specs.Faults.{unless}
 use Rattle.phc.specs.Params.{Pairs, add, appended, get, pair_text, pairs_fault, pairs_text}
 use Rattle.phc.specs.Record.{is_pair}
 use Rattle.phc.specs.PairsOfText.{pairs_text-text_pairs}
-use Rattle.phc.specs.declared.error.Error.TheVariants.{ParamNameInvalid, ParamValueInvalid, ParamValueTooLong}
 use Rattle.phc.specs.declared.error.Error.TheVariants.{ParamsMaxExceeded}
-use Rattle.phc.proofs.PairTexts.{both, holds, pairs_valid, some_none, valid_pairs}
+use Rattle.phc.proofs.PairTexts.{good_pair, pairs_valid, valid_pairs}
+use Rattle.pieces.proofs.FaultLaws.{first_none}
 use Rattle.phc.proofs.ValueBytes.{name_ascii, value_ascii, value_parts}
 
 false_true : false ≡ true → ⊥
 false_true x = cc
 
 -- ---- one pair
-
--- a name and a value
-pub record GoodPair (pieces : List (List ℕ)) : Type 0 where
-  pub name : List ℕ
-  pub value : List ℕ
-  pub are : pieces ≡ name ∷ value ∷ []
-  pub is_name : is_name name ≡ true
-  pub is_value : value_fault value ≡ None
-
-pub good_pair : (pieces : List (List ℕ)) → pair_fault pieces ≡ None → GoodPair pieces
-good_pair [] h = absurd (some_none ParamNameInvalid h)
-good_pair (name ∷ []) h =
-    absurd (some_none ParamValueInvalid
-    (both (unless (is_name name) ParamNameInvalid) (Some ParamValueInvalid ∷ []) h).1)
-good_pair (name ∷ (value ∷ more)) h =
-    let one = both (unless (is_name name) ParamNameInvalid)
-    (unless (nat_le (length value) 64) ParamValueTooLong
-    ∷ (unless (has_value_bytes value) ParamValueInvalid ∷ (unless (is_nil more) ParamValueInvalid ∷ []))) h in
-    let two = both (unless (nat_le (length value) 64) ParamValueTooLong)
-    (unless (has_value_bytes value) ParamValueInvalid ∷ (unless (is_nil more) ParamValueInvalid ∷ [])) one.1 in
-    let three = both (unless (has_value_bytes value) ParamValueInvalid) (unless (is_nil more) ParamValueInvalid ∷ [])
-    two.1 in
-    let four = both (unless (is_nil more) ParamValueInvalid) [] three.1 in
-    record {
-      name = name;
-      value = value;
-      are = ap (λ (ps : List (List ℕ)). name ∷ value ∷ ps)
-          (none_left more (holds (is_nil more) ParamValueInvalid four.0));
-      is_name = holds (is_name name) ParamNameInvalid one.0;
-      is_value = rw (two.0, three.0) refl;
-    }
-  where
-    none_left : (ps : List (List ℕ)) → is_nil ps ≡ true → ps ≡ []
-    none_left [] e = refl
-    none_left (p ∷ ps) e = absurd (false_true e)
 
 heads : (a b : List ℕ) (ps qs : List (List ℕ)) → (a ∷ ps) ≡ (b ∷ qs) → (a ≡ b) × (ps ≡ qs)
 heads a b ps qs h = (cc, cc)
@@ -88,9 +55,9 @@ part_ascii part h =
 
 parts_ascii : (parts : List (List ℕ)) → pairs_fault parts ≡ None → IsAscii (join_with_byte 44 parts)
 parts_ascii [] h = IsAscii-nil
-parts_ascii (part ∷ []) h = part_ascii part (both (pair_fault (pieces_at 61 part)) [] h).0
+parts_ascii (part ∷ []) h = part_ascii part (first_none (pair_fault (pieces_at 61 part)) [] h).0
 parts_ascii (part ∷ (next ∷ parts)) h =
-    let cut = both (pair_fault (pieces_at 61 part)) (map pair_fault (map (pieces_at 61) (next ∷ parts))) h in
+    let cut = first_none (pair_fault (pieces_at 61 part)) (map pair_fault (map (pieces_at 61) (next ∷ parts))) h in
     IsAscii-append part (44 ∷ join_with_byte 44 (next ∷ parts)) (part_ascii part cut.0)
     (IsAscii-cons 44 (join_with_byte 44 (next ∷ parts)) (omega arith) (parts_ascii (next ∷ parts) cut.1))
 
@@ -98,7 +65,7 @@ parts_ascii (part ∷ (next ∷ parts)) h =
 pub pairs_good : (s : List ℕ) → text_fault s ≡ None → is_empty s ≡ false → pairs_fault (pieces_at 44 s) ≡ None
 pairs_good [] h some = absurd (false_true (sym some))
 pairs_good (b ∷ s) h some =
-    (both (unless (nat_le (length (b ∷ s)) 127) ParamsMaxExceeded) (map pair_fault (cut_pairs (b ∷ s))) h).1
+    (first_none (unless (nat_le (length (b ∷ s)) 127) ParamsMaxExceeded) (map pair_fault (cut_pairs (b ∷ s))) h).1
 
 pub text_utf8 : (s : List ℕ) → text_fault s ≡ None → IsUtf8 s
 text_utf8 [] h = IsUtf8-from_ascii [] IsAscii-nil

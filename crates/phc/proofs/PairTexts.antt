@@ -1,19 +1,21 @@
 -- The text of pairs, cut again.
 use Rattle.std.proofs.Common.{◌≡◌, ℕ, ◌≤◌, Bool, true, false, List, [], ◌∷◌, ◌++◌, length, map, refl, ap, ◌∙◌, arith}
-use Rattle.std.specs.Prelude.{◌==◌, ◌&&◌, ◌||◌, nat_le, Option, Some, None}
+use Rattle.std.specs.Prelude.{◌==◌, ◌&&◌, ◌||◌, nat_le, Some, None}
 use Rattle.std.specs.List.{list_all}
 use Rattle.std.proofs.lemmas.Bool.{and_parts}
 use Rattle.std.proofs.lemmas.Bool.Decides.{nat_tests}
-use Rattle.pieces.specs.Pieces.{EachLacks, is_nil, pieces_at}
+use Rattle.pieces.specs.Pieces.{EachLacks, pieces_at}
+use Rattle.pieces.specs.Lists.{is_empty}
 use Rattle.pieces.proofs.Cuts.{cut_joined, first_cut, one_piece}
-use Rattle.phc.specs.Grammar.{cut_pairs, first_fault, has_value_bytes, is_empty, is_name, is_name_byte, is_value_byte}
-use Rattle.phc.specs.Grammar.{pair_fault, pair_of, text_fault, text_pairs, unless}
+use Rattle.phc.specs.Grammar.{cut_pairs, has_value_bytes, is_name, is_name_byte, is_value_byte}
+use Rattle.pieces.specs.Faults.{first_fault, unless}
+use Rattle.pieces.proofs.FaultLaws.{first_none, or_none, some_none, unless_none}
+use Rattle.phc.specs.Grammar.{behind_name_fault, name_fault, pair_fault, pair_of, text_fault, text_pairs, value_fault}
 use Rattle.phc.specs.Params.{Pairs, pair_text, pairs_text}
 use Rattle.phc.specs.Record.{is_pair}
-use Rattle.phc.specs.declared.error.Error.{Error}
-use Rattle.phc.specs.declared.error.Error.TheVariants.{ParamNameInvalid, ParamValueInvalid, ParamValueTooLong}
-use Rattle.phc.specs.declared.error.Error.TheVariants.{ParamsMaxExceeded}
+use Rattle.phc.specs.declared.error.Error.TheVariants.{ParamNameInvalid, ParamValueInvalid, ParamsMaxExceeded}
 use Rattle.phc.proofs.Characters.{all_append, all_weaker, lacks, name_bytes}
+use Rattle.phc.proofs.ValueBytes.{value_parts}
 
 -- a byte of a pair
 abbrev pub is_pair_byte : ℕ → Bool
@@ -108,46 +110,50 @@ valid_pairs (p ∷ ps) h short =
 
 -- ---- the pairs of a text without a fault
 
-pub some_none : {A : Type 0} (e : A) → Some e ≡ None → ⊥
-some_none e h = cc
+-- a name and a value
+pub record GoodPair (pieces : List (List ℕ)) : Type 0 where
+  pub name : List ℕ
+  pub value : List ℕ
+  pub are : pieces ≡ name ∷ value ∷ []
+  pub is_name : is_name name ≡ true
+  pub is_value : value_fault value ≡ None
 
-pub both : (e : Option Error) (faults : List (Option Error)) → first_fault (e ∷ faults) ≡ None
-    → (e ≡ None) × (first_fault faults ≡ None)
-both None faults h = (refl, h)
-both (Some e) faults h = absurd (some_none e h)
+none_left : (ps : List (List ℕ)) → is_empty ps ≡ true → ps ≡ []
+none_left [] e = refl
+none_left (p ∷ ps) e = cc
 
-pub holds : (t : Bool) (e : Error) → unless t e ≡ None → t ≡ true
-holds true e h = refl
-holds false e h = absurd (some_none e h)
+pub good_pair : (pieces : List (List ℕ)) → pair_fault pieces ≡ None → GoodPair pieces
+good_pair [] h = absurd (some_none ParamNameInvalid h)
+good_pair (name ∷ []) h =
+    absurd (some_none ParamValueInvalid (or_none (name_fault name) (Some ParamValueInvalid) h).1)
+good_pair (name ∷ (value ∷ more)) h =
+    let parts = or_none (name_fault name) (behind_name_fault (value ∷ more)) h in
+    let behind = or_none (value_fault value) (unless (is_empty more) ParamValueInvalid) parts.1 in
+    record {
+      name = name;
+      value = value;
+      are = ap (λ (ps : List (List ℕ)). name ∷ value ∷ ps)
+          (none_left more (unless_none (is_empty more) ParamValueInvalid behind.1));
+      is_name = unless_none (is_name name) ParamNameInvalid parts.0;
+      is_value = behind.0;
+    }
 
 pair_of_pieces : (pieces : List (List ℕ)) → pair_fault pieces ≡ None → is_pair (pair_of pieces) ≡ true
-pair_of_pieces [] h = absurd (some_none ParamNameInvalid h)
-pair_of_pieces (name ∷ []) h =
-    absurd (some_none ParamValueInvalid
-    (both (unless (is_name name) ParamNameInvalid) (Some ParamValueInvalid ∷ []) h).1)
-pair_of_pieces (name ∷ (value ∷ more)) h =
-    let one = both (unless (is_name name) ParamNameInvalid)
-    (unless (nat_le (length value) 64) ParamValueTooLong
-    ∷ (unless (has_value_bytes value) ParamValueInvalid ∷ (unless (is_nil more) ParamValueInvalid ∷ []))) h in
-    let two = both (unless (nat_le (length value) 64) ParamValueTooLong)
-    (unless (has_value_bytes value) ParamValueInvalid ∷ (unless (is_nil more) ParamValueInvalid ∷ [])) one.1 in
-    let three = both (unless (has_value_bytes value) ParamValueInvalid) (unless (is_nil more) ParamValueInvalid ∷ [])
-    two.1 in
-    rw (
-      holds (is_name name) ParamNameInvalid one.0,
-      holds (nat_le (length value) 64) ParamValueTooLong two.0,
-      holds (has_value_bytes value) ParamValueInvalid three.0,
-    ) refl
+pair_of_pieces pieces h =
+    let good = good_pair pieces h in
+    let value = value_parts good.value good.is_value in
+    let short : nat_le (length good.value) 64 ≡ true = grind (arith, nat_tests, value.0) in
+    rw (good.are, good.is_name, short, value.1) refl
 
 each_pair : (cuts : List (List (List ℕ))) → first_fault (map pair_fault cuts) ≡ None
     → list_all is_pair (map pair_of cuts) ≡ true
 each_pair [] h = refl
 each_pair (cut ∷ cuts) h =
-    let parts = both (pair_fault cut) (map pair_fault cuts) h in
+    let parts = first_none (pair_fault cut) (map pair_fault cuts) h in
     rw (pair_of_pieces cut parts.0) (each_pair cuts parts.1)
 
 pub pairs_valid : (s : List ℕ) → text_fault s ≡ None → list_all is_pair (text_pairs s) ≡ true
 pairs_valid [] h = refl
 pairs_valid (b ∷ s) h =
     each_pair (cut_pairs (b ∷ s))
-    (both (unless (nat_le (length (b ∷ s)) 127) ParamsMaxExceeded) (map pair_fault (cut_pairs (b ∷ s))) h).1
+    (first_none (unless (nat_le (length (b ∷ s)) 127) ParamsMaxExceeded) (map pair_fault (cut_pairs (b ∷ s))) h).1

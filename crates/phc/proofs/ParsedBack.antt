@@ -19,8 +19,10 @@ use Rattle.base64ct.specs.Encoding.{EachBelow}
 use Rattle.base64ct.proofs.DecodingLaws.{decoding-encoding, length-decodable}
 use Rattle.phc.specs.Encoded.{decoding, encoding}
 use Rattle.phc.specs.Grammar.{Layout, pieces_behind, decimal_value, fault_of, fault_of_layout, read_first, has}
-use Rattle.phc.specs.Grammar.{has_leading_zero, hash_fault, is_name, is_name_byte, is_value_byte, layout, number_after}
-use Rattle.phc.specs.Grammar.{pairs_of, params_text, salt_fault, text_fault, value_or_fault, version_digits}
+use Rattle.phc.specs.Grammar.{hash_fault, is_name, is_name_byte, is_value_byte, layout}
+use Rattle.pieces.specs.Numbers.{has_leading_zero, number_after}
+use Rattle.phc.specs.Grammar.{pairs_of, params_text, salt_fault, text_fault, version_digits}
+use Rattle.pieces.specs.Faults.{value_or_fault}
 use Rattle.phc.specs.Grammar.{version_fault}
 use Rattle.phc.specs.Params.{Pairs, pair_text, pairs_text}
 use Rattle.phc.specs.Record.{IsRecord, bytes_part, hash_part, is_lone_v, is_pair, is_printable, params_part, phc}

@@ -11,25 +11,29 @@ use Rattle.std.proofs.lemmas.List.{append-nil}
 use Rattle.std.proofs.lemmas.Fmt.{decimal-digits_value}
 use Rattle.std.proofs.lemmas.Bool.{and_parts}
 use Rattle.std.proofs.lemmas.Bool.Decides.{nat_tests}
-use Rattle.pieces.specs.Pieces.{pieces_at, first, is_nil}
+use Rattle.pieces.specs.Pieces.{pieces_at, first}
+use Rattle.pieces.specs.Lists.{is_empty}
 use Rattle.pieces.proofs.Cuts.{cut_of, join_pieces}
 use Rattle.base64ct.specs.Alphabets.{base64_unpadded}
 use Rattle.base64ct.proofs.DecodingLaws.{decoding-Some, same_true}
 use Rattle.phc.specs.Encoded.{decoding}
-use Rattle.phc.specs.Grammar.{first_fault, unless, name_fault, fault_of, version_fault, text_fault, salt_fault}
+use Rattle.phc.specs.Grammar.{fault_of, version_fault, text_fault, salt_fault}
+use Rattle.pieces.specs.Faults.{unless, value_or_fault}
 use Rattle.phc.specs.Grammar.{hash_fault, pairs_of, pair_of, text_pairs, decimal_value, fault_of_layout, layout}
-use Rattle.phc.specs.Grammar.{value_or_fault, version_digits, params_text, read_first, pieces_behind, has, is_plain}
-use Rattle.phc.specs.Grammar.{has_leading_zero, number_after}
+use Rattle.phc.specs.Grammar.{version_digits, params_text, read_first, pieces_behind, has, is_plain}
+use Rattle.pieces.specs.Numbers.{has_leading_zero, number_after}
+use Rattle.pieces.proofs.FaultLaws.{first_none, unless_none}
 use Rattle.phc.specs.Params.{Pairs, pairs_text}
 use Rattle.phc.specs.PairsOfText.{pairs_text-text_pairs}
 use Rattle.phc.specs.Record.{record_of_layout, phc, phc_of_pieces, phc_text, version_part, params_part, bytes_part}
 use Rattle.phc.specs.Record.{hash_part, record_text}
 use Rattle.phc.specs.declared.error.Error.{Error}
 use Rattle.phc.specs.declared.error.Error.TheVariants.{Base64, MissingField, ParamValueInvalid, ParamValueTooLong}
-use Rattle.phc.specs.declared.error.Error.TheVariants.{SaltTooShort, SaltTooLong, TrailingData}
+use Rattle.phc.specs.declared.error.Error.TheVariants.{SaltTooShort, SaltTooLong}
 use Rattle.base64ct.specs.declared.errors.Error.TheVariants.{InvalidEncoding, InvalidLength}
 use Rattle.phc.specs.declared.password_hash.PasswordHash.{PasswordHash}
 use Rattle.phc.proofs.Decimals.{own}
+use Rattle.phc.proofs.LayoutFaults.{good_parts}
 
 -- pieces with a `$` before each
 abbrev pub shown : List (List ℕ) → List ℕ
@@ -40,23 +44,11 @@ pub join_shown : (id : List ℕ) (pieces : List (List ℕ)) → join_with_byte 3
 join_shown id [] = sym (append-nil id)
 join_shown id (p ∷ ps) = ap (λ (t : List ℕ). id ++ (36 ∷ t)) (join_shown p ps)
 
-some_none : {A : Type 0} (e : A) → Some e ≡ None → ⊥
-some_none e h = cc
-
 none_some : {A : Type 0} (e : A) → None ≡ Some e → ⊥
 none_some e h = cc
 
 some_same : {A : Type 0} (a b : A) → Some a ≡ Some b → a ≡ b
 some_same a b h = cc
-
-both : (e : Option Error) (faults : List (Option Error)) → first_fault (e ∷ faults) ≡ None
-    → (e ≡ None) × (first_fault faults ≡ None)
-both None faults h = (refl, h)
-both (Some e) faults h = absurd (some_none e h)
-
-holds : (t : Bool) (e : Error) → unless t e ≡ None → t ≡ true
-holds true e h = refl
-holds false e h = absurd (some_none e h)
 
 false_true : false ≡ true → ⊥
 false_true x = cc
@@ -106,10 +98,10 @@ version_case q qs (Some digits) is h = by_value (decimal_value digits) refl
   where
     by_value : (n : Option ℕ) → decimal_value digits ≡ n → shown (q ∷ qs) ≡ version_part n ++ shown qs
     by_value None e =
-        let tests = both (unless (nat_le (length digits) 64) ParamValueTooLong)
+        let tests = first_none (unless (nat_le (length digits) 64) ParamValueTooLong)
         (unless (is_some (decimal_value digits)) ParamValueInvalid ∷ []) h in
-        let some = holds (is_some (decimal_value digits)) ParamValueInvalid
-        (both (unless (is_some (decimal_value digits)) ParamValueInvalid) [] tests.1).0 in
+        let some = unless_none (is_some (decimal_value digits)) ParamValueInvalid
+        (first_none (unless (is_some (decimal_value digits)) ParamValueInvalid) [] tests.1).0 in
         absurd (false_true (ap is_some (sym e) ∙ some))
     by_value (Some n) e = rw (version_text q digits is, decimal_back digits n e) refl
 
@@ -156,32 +148,32 @@ salt_shown : (pieces : List (List ℕ)) → fault_of salt_fault (first pieces) �
     → shown pieces ≡ bytes_part (option_and_then decoding (first pieces)) ++ shown (drop 1 pieces)
 salt_shown [] h = refl
 salt_shown (q ∷ qs) h =
-    let one = both (unless (nat_le 11 (length q)) SaltTooShort)
+    let one = first_none (unless (nat_le 11 (length q)) SaltTooShort)
     (unless (nat_le (length q) 64) SaltTooLong ∷ (unless (is_some (decoding q)) (Base64 InvalidEncoding) ∷ [])) h in
-    let two = both (unless (nat_le (length q) 64) SaltTooLong)
+    let two = first_none (unless (nat_le (length q) 64) SaltTooLong)
     (unless (is_some (decoding q)) (Base64 InvalidEncoding) ∷ []) one.1 in
-    let three = both (unless (is_some (decoding q)) (Base64 InvalidEncoding)) [] two.1 in
-    bytes_case q qs (decoding q) refl (holds (is_some (decoding q)) (Base64 InvalidEncoding) three.0)
+    let three = first_none (unless (is_some (decoding q)) (Base64 InvalidEncoding)) [] two.1 in
+    bytes_case q qs (decoding q) refl (unless_none (is_some (decoding q)) (Base64 InvalidEncoding) three.0)
 
 hash_shown : (pieces : List (List ℕ)) → fault_of hash_fault (first pieces) ≡ None
     → shown pieces ≡ bytes_part (option_and_then decoding (first pieces)) ++ shown (drop 1 pieces)
 hash_shown [] h = refl
 hash_shown (q ∷ qs) h =
-    let one = both (unless (nat_le (length q) 86) (Base64 InvalidLength))
+    let one = first_none (unless (nat_le (length q) 86) (Base64 InvalidLength))
     (unless (is_some (decoding q)) (Base64 InvalidEncoding)
     ∷ (unless (nat_le 10 (length (unwrap_or (decoding q) []))) _ ∷ [])) h in
-    let two = both (unless (is_some (decoding q)) (Base64 InvalidEncoding))
+    let two = first_none (unless (is_some (decoding q)) (Base64 InvalidEncoding))
     (unless (nat_le 10 (length (unwrap_or (decoding q) []))) _ ∷ []) one.1 in
-    bytes_case q qs (decoding q) refl (holds (is_some (decoding q)) (Base64 InvalidEncoding) two.0)
+    bytes_case q qs (decoding q) refl (unless_none (is_some (decoding q)) (Base64 InvalidEncoding) two.0)
 
 salt_found : (q : List ℕ) → salt_fault q ≡ None → is_some (decoding q) ≡ true
 salt_found q h =
-    let one = both (unless (nat_le 11 (length q)) SaltTooShort)
+    let one = first_none (unless (nat_le 11 (length q)) SaltTooShort)
     (unless (nat_le (length q) 64) SaltTooLong ∷ (unless (is_some (decoding q)) (Base64 InvalidEncoding) ∷ [])) h in
-    let two = both (unless (nat_le (length q) 64) SaltTooLong)
+    let two = first_none (unless (nat_le (length q) 64) SaltTooLong)
     (unless (is_some (decoding q)) (Base64 InvalidEncoding) ∷ []) one.1 in
-    let three = both (unless (is_some (decoding q)) (Base64 InvalidEncoding)) [] two.1 in
-    holds (is_some (decoding q)) (Base64 InvalidEncoding) three.0
+    let three = first_none (unless (is_some (decoding q)) (Base64 InvalidEncoding)) [] two.1 in
+    unless_none (is_some (decoding q)) (Base64 InvalidEncoding) three.0
 
 -- a hash stands behind a salt
 behind_salt : (pieces : List (List ℕ)) → fault_of salt_fault (first pieces) ≡ None
@@ -197,7 +189,7 @@ behind_salt (q ∷ qs) hs hh = by_salt (decoding q) refl (salt_found q hs)
     by_salt None is some = absurd (false_true some)
     by_salt (Some b) is some = hash_shown qs hh
 
-nothing_shown : (pieces : List (List ℕ)) → is_nil pieces ≡ true → shown pieces ≡ []
+nothing_shown : (pieces : List (List ℕ)) → is_empty pieces ≡ true → shown pieces ≡ []
 nothing_shown [] h = refl
 nothing_shown (q ∷ qs) h = absurd (false_true h)
 
@@ -212,22 +204,15 @@ layout_printed : (id : List ℕ) (pieces : List (List ℕ)) → fault_of_layout 
     → record_text (record_of_layout id (layout pieces)) ≡ 36 ∷ (id ++ shown pieces)
 unfolding record_text
 layout_printed id pieces h =
-    let l = layout pieces in
     let version = read_first version_digits pieces in
     let after_version = pieces_behind version pieces in
     let params = read_first params_text after_version in
     let after_params = pieces_behind params after_version in
-    let one = both (name_fault id) _ h in
-    let two = both (fault_of version_fault version) _ one.1 in
-    let three = both (fault_of text_fault params) _ two.1 in
-    let four = both (fault_of salt_fault (first after_params)) _ three.1 in
-    let five = both (fault_of hash_fault (first (drop 1 after_params))) _ four.1 in
-    let six = both (unless (is_nil (drop 1 (drop 1 after_params))) TrailingData) _ five.1 in
-    let end = holds (is_nil (drop 1 (drop 1 after_params))) TrailingData six.0 in
+    let good = good_parts id (layout pieces) h in
     join_five (36 ∷ id) _ _ _ _ (shown pieces) (shown after_version) (shown after_params) (shown (drop 1 after_params))
     (shown (drop 1 (drop 1 after_params)))
-    (version_shown pieces two.0) (params_shown after_version three.0) (salt_shown after_params four.0)
-    (behind_salt after_params four.0 five.0) (nothing_shown (drop 1 (drop 1 after_params)) end)
+    (version_shown pieces good.version) (params_shown after_version good.params) (salt_shown after_params good.salt)
+    (behind_salt after_params good.salt good.hash) (nothing_shown (drop 1 (drop 1 after_params)) good.end)
 
 accepted : (id : List ℕ) (pieces : List (List ℕ)) (r : PasswordHash) (f : Option Error)
     → fault_of_layout id (layout pieces) ≡ f → value_or_fault (record_of_layout id (layout pieces)) f ≡ Ok r

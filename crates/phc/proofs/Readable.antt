@@ -16,19 +16,23 @@ use Rattle.base64ct.specs.declared.errors.Error.TheVariants.{InvalidEncoding, In
 use Rattle.std.specs.declared.cmp.Ordering.TheVariants.{Less}
 use Rattle.phc.specs.Encoded.{decoding}
 use Rattle.phc.specs.Grammar.{pieces_behind, cut_pairs, decimal_value, fault_of, fault_of_layout, read_first, has}
-use Rattle.phc.specs.Grammar.{hash_fault, is_name, is_plain, layout, name_fault, number_after, pair_fault, pairs_of}
-use Rattle.phc.specs.Grammar.{params_text, salt_fault, text_fault, text_pairs, unless, value_or_fault, version_digits}
+use Rattle.phc.specs.Grammar.{hash_fault, is_plain, layout, pair_fault, pairs_of}
+use Rattle.pieces.specs.Numbers.{number_after}
+use Rattle.phc.specs.Grammar.{params_text, salt_fault, text_fault, text_pairs, version_digits}
+use Rattle.pieces.specs.Faults.{unless, value_or_fault}
 use Rattle.phc.specs.Grammar.{version_fault}
 use Rattle.phc.specs.Params.{Pairs, pair_text, pairs_text}
 use Rattle.phc.specs.PairsOfText.{pairs_text-text_pairs}
 use Rattle.phc.specs.Record.{IsRecord, is_lone_v, is_pair, is_printable, phc, phc_of_pieces, phc_text, record_of_layout}
 use Rattle.phc.specs.declared.error.Error.{Error}
-use Rattle.phc.specs.declared.error.Error.TheVariants.{Base64, MissingField, OutputSize, ParamNameInvalid}
+use Rattle.phc.specs.declared.error.Error.TheVariants.{Base64, MissingField, OutputSize}
 use Rattle.phc.specs.declared.error.Error.TheVariants.{ParamValueInvalid, ParamValueTooLong, ParamsMaxExceeded}
 use Rattle.phc.specs.declared.error.Error.TheVariants.{SaltTooLong, SaltTooShort}
 use Rattle.phc.specs.declared.password_hash.PasswordHash.{PasswordHash}
 use Rattle.phc.proofs.Characters.{has_none}
-use Rattle.phc.proofs.PairTexts.{both, holds, is_pair_byte, pair_bytes, pairs_valid}
+use Rattle.phc.proofs.LayoutFaults.{good_parts}
+use Rattle.phc.proofs.PairTexts.{is_pair_byte, pair_bytes, pairs_valid}
+use Rattle.pieces.proofs.FaultLaws.{first_none, unless_none}
 
 none_some : {A : Type 0} (a : A) → None ≡ Some a → ⊥
 none_some a h = cc
@@ -45,12 +49,12 @@ some_not_none (Some a) h = refl
 
 salt_decoded : (q : List ℕ) → salt_fault q ≡ None → is_some (decoding q) ≡ true
 salt_decoded q h =
-    let one = both (unless (nat_le 11 (length q)) SaltTooShort)
+    let one = first_none (unless (nat_le 11 (length q)) SaltTooShort)
     (unless (nat_le (length q) 64) SaltTooLong ∷ (unless (is_some (decoding q)) (Base64 InvalidEncoding) ∷ [])) h in
-    let two = both (unless (nat_le (length q) 64) SaltTooLong)
+    let two = first_none (unless (nat_le (length q) 64) SaltTooLong)
     (unless (is_some (decoding q)) (Base64 InvalidEncoding) ∷ []) one.1 in
-    holds (is_some (decoding q)) (Base64 InvalidEncoding)
-    (both (unless (is_some (decoding q)) (Base64 InvalidEncoding)) [] two.1).0
+    unless_none (is_some (decoding q)) (Base64 InvalidEncoding)
+    (first_none (unless (is_some (decoding q)) (Base64 InvalidEncoding)) [] two.1).0
 
 hash_behind_salt : (pieces : List (List ℕ)) → fault_of salt_fault (first pieces) ≡ None
     → (is_some (option_and_then decoding (first (drop 1 pieces))) && is_none (option_and_then decoding (first pieces)))
@@ -88,10 +92,10 @@ lone_pairs q (p ∷ []) is h none = by_test (pointwise nat_eq p.0 (codes "v")) r
 
 decimal_found : (digits : List ℕ) → version_fault digits ≡ None → is_some (decimal_value digits) ≡ true
 decimal_found digits h =
-    let one = both (unless (nat_le (length digits) 64) ParamValueTooLong)
+    let one = first_none (unless (nat_le (length digits) 64) ParamValueTooLong)
     (unless (is_some (decimal_value digits)) ParamValueInvalid ∷ []) h in
-    holds (is_some (decimal_value digits)) ParamValueInvalid
-    (both (unless (is_some (decimal_value digits)) ParamValueInvalid) [] one.1).0
+    unless_none (is_some (decimal_value digits)) ParamValueInvalid
+    (first_none (unless (is_some (decimal_value digits)) ParamValueInvalid) [] one.1).0
 
 params_case : (q : List ℕ) (test : Bool) → version_digits q ≡ None
     → fault_of text_fault (if test then Some q else None) ≡ None
@@ -136,8 +140,8 @@ pairs_are (Some s) h = pairs_valid s h
 pub text_bound : (s : List ℕ) → text_fault s ≡ None → length s ≤ 127
 text_bound [] h = omega arith
 text_bound (b ∷ s) h =
-    let short = holds (nat_le (length (b ∷ s)) 127) ParamsMaxExceeded
-    (both (unless (nat_le (length (b ∷ s)) 127) ParamsMaxExceeded) (map_faults (b ∷ s)) h).0 in
+    let short = unless_none (nat_le (length (b ∷ s)) 127) ParamsMaxExceeded
+    (first_none (unless (nat_le (length (b ∷ s)) 127) ParamsMaxExceeded) (map_faults (b ∷ s)) h).0 in
     grind (arith, nat_tests, short)
   where
     map_faults : List ℕ → List (Option Error)
@@ -150,12 +154,12 @@ params_bound (Some s) h = rw (pairs_text-text_pairs s h) (text_bound s h)
 salt_bounds : (q b : List ℕ) → decoding q ≡ Some b → salt_fault q ≡ None
     → EachBelow 256 b × (8 ≤ length b) × (length b ≤ 48)
 salt_bounds q b is h =
-    let one = both (unless (nat_le 11 (length q)) SaltTooShort)
+    let one = first_none (unless (nat_le 11 (length q)) SaltTooShort)
     (unless (nat_le (length q) 64) SaltTooLong ∷ (unless (is_some (decoding q)) (Base64 InvalidEncoding) ∷ [])) h in
-    let two = both (unless (nat_le (length q) 64) SaltTooLong)
+    let two = first_none (unless (nat_le (length q) 64) SaltTooLong)
     (unless (is_some (decoding q)) (Base64 InvalidEncoding) ∷ []) one.1 in
-    let long = holds (nat_le 11 (length q)) SaltTooShort one.0 in
-    let short = holds (nat_le (length q) 64) SaltTooLong two.0 in
+    let long = unless_none (nat_le 11 (length q)) SaltTooShort one.0 in
+    let short = unless_none (nat_le (length q) 64) SaltTooLong two.0 in
     let least : 11 ≤ length q = grind (arith, nat_tests, long) in
     let most : length q ≤ 64 = grind (arith, nat_tests, short) in
     let size : length q ≡ (4 * length b + 2) / 3 = length-decodable base64_unpadded q b refl is in
@@ -174,15 +178,15 @@ salt_valid (Some q) h = salt_case q (decoding q) refl h
 hash_bounds : (q b : List ℕ) → decoding q ≡ Some b → hash_fault q ≡ None
     → EachBelow 256 b × (10 ≤ length b) × (length b ≤ 64)
 hash_bounds q b is h =
-    let one = both (unless (nat_le (length q) 86) (Base64 InvalidLength))
+    let one = first_none (unless (nat_le (length q) 86) (Base64 InvalidLength))
     (unless (is_some (decoding q)) (Base64 InvalidEncoding)
     ∷ (unless (nat_le 10 (length (unwrap_or (decoding q) []))) (OutputSize Less 10) ∷ [])) h in
-    let two = both (unless (is_some (decoding q)) (Base64 InvalidEncoding))
+    let two = first_none (unless (is_some (decoding q)) (Base64 InvalidEncoding))
     (unless (nat_le 10 (length (unwrap_or (decoding q) []))) (OutputSize Less 10) ∷ []) one.1 in
-    let three = both (unless (nat_le 10 (length (unwrap_or (decoding q) []))) (OutputSize Less 10)) [] two.1 in
-    let short = holds (nat_le (length q) 86) (Base64 InvalidLength) one.0 in
+    let three = first_none (unless (nat_le 10 (length (unwrap_or (decoding q) []))) (OutputSize Less 10)) [] two.1 in
+    let short = unless_none (nat_le (length q) 86) (Base64 InvalidLength) one.0 in
     let long : nat_le 10 (length b) ≡ true = ap (λ (o : Option (List ℕ)). nat_le 10 (length (unwrap_or o []))) (sym is)
-    ∙ holds (nat_le 10 (length (unwrap_or (decoding q) []))) (OutputSize Less 10) three.0 in
+    ∙ unless_none (nat_le 10 (length (unwrap_or (decoding q) []))) (OutputSize Less 10) three.0 in
     let least : 10 ≤ length b = grind (arith, nat_tests, long) in
     let most : length q ≤ 86 = grind (arith, nat_tests, short) in
     let size : length q ≡ (4 * length b + 2) / 3 = length-decodable base64_unpadded q b refl is in
@@ -215,21 +219,17 @@ read_layout id pieces h =
     let after_version = pieces_behind version pieces in
     let params = read_first params_text after_version in
     let after_params = pieces_behind params after_version in
-    let one = both (name_fault id) _ h in
-    let two = both (fault_of version_fault version) _ one.1 in
-    let three = both (fault_of text_fault params) _ two.1 in
-    let four = both (fault_of salt_fault (first after_params)) _ three.1 in
-    let five = both (fault_of hash_fault (first (drop 1 after_params))) _ four.1 in
+    let good = good_parts id (layout pieces) h in
     record {
       valid = record {
-        algorithm = holds (is_name id) ParamNameInvalid one.0;
+        algorithm = good.name;
         version = version_bound version;
-        pairs = pairs_are params three.0;
-        params = params_bound params three.0;
-        salt = salt_valid (first after_params) four.0;
-        hash = hash_valid (first (drop 1 after_params)) five.0;
+        pairs = pairs_are params good.params;
+        params = params_bound params good.params;
+        salt = salt_valid (first after_params) good.salt;
+        hash = hash_valid (first (drop 1 after_params)) good.hash;
       };
-      printable = two_tests _ _ (hash_behind_salt after_params four.0) (no_lone_v pieces two.0 three.0);
+      printable = two_tests _ _ (hash_behind_salt after_params good.salt) (no_lone_v pieces good.version good.params);
     }
 
 accepted : (id : List ℕ) (pieces : List (List ℕ)) (r : PasswordHash) (fault : Option Error)

@@ -12,12 +12,13 @@ use Rattle.std.proofs.lemmas.Str.{IsUtf8-from_ascii}
 use Rattle.std.proofs.lemmas.Str.Ascii.{IsAscii-nil, IsAscii-cons}
 use Rattle.base64ct.specs.Encoding.{EachBelow}
 use Rattle.phc.specs.Encoded.{encoding}
-use Rattle.phc.specs.Grammar.{first_fault, has_value_bytes, is_name, is_name_byte, is_value_byte, unless, value_fault}
+use Rattle.phc.specs.Grammar.{has_value_bytes, is_name, is_name_byte, is_value_byte, value_fault}
+use Rattle.pieces.specs.Faults.{first_fault, unless}
 use Rattle.phc.specs.declared.error.Error.{Error}
 use Rattle.phc.specs.declared.error.Error.TheVariants.{ParamValueInvalid, ParamValueTooLong}
 use Rattle.phc.proofs.Characters.{all_weaker, encoding_value}
 use Rattle.phc.proofs.EncodedBytes.{encoded_length}
-use Rattle.phc.proofs.PairTexts.{some_none}
+use Rattle.pieces.proofs.FaultLaws.{some_none}
 
 -- ---- a test of each byte
 

@@ -1,6 +1,7 @@
 -- How often the fields of a text are looked up in the alphabet, and how often the decoder compares.
 use Rattle.std.specs.Prelude.{ℕ, ◌+◌, List, Option, Some, None, drop}
 use Rattle.base64ct.specs.Counts.{field_looks}
+use Rattle.pieces.specs.Characters.{dollar}
 use Rattle.pieces.specs.Pieces.{pieces_at}
 use Rattle.phc.specs.Grammar.{Layout, layout}
 
@@ -16,7 +17,7 @@ comparisons_of (Some field) = 4
 
 -- the parts of a text behind its identifier
 abbrev pub layout_of_text : List ℕ → Layout
-layout_of_text s = layout (drop 2 (pieces_at 36 s))
+layout_of_text s = layout (drop 2 (pieces_at dollar s))
 
 -- the look-ups of the salt and the hash of these parts
 abbrev pub layout_looks : Layout → ℕ

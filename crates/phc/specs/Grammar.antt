@@ -2,13 +2,17 @@
 -- By the limits of `phc` 0.6.1 it is narrower than the format's (a salt is a canonical encoding of 11 to 64 characters,
 -- a hash of 10 bytes to 86 characters, parameters have at most 127 characters), and wider: a parameter may be named
 -- `v`, a name may stand twice, and a value may be empty.
-use Rattle.std.specs.Prelude.{ℕ, ◌+◌, ◌*◌, ◌-◌, ◌^◌, Bool, true, false, not, ◌&&◌, ◌||◌, List, [], ◌∷◌, ◌==◌, nat_eq}
-use Rattle.std.specs.Prelude.{nat_lt, nat_le, length, drop, Option, Some, None, is_some, unwrap_or, Result, Ok, Err}
+use Rattle.std.specs.Prelude.{ℕ, ◌+◌, ◌-◌, ◌^◌, Bool, not, ◌&&◌, ◌||◌, List, [], ◌∷◌, ◌==◌}
+use Rattle.std.specs.Prelude.{nat_lt, nat_le, length, drop, Option, Some, None, is_some, unwrap_or}
 use Rattle.std.specs.Prelude.{if◌then◌else◌, codes, map}
-use Rattle.std.specs.List.{list_all, list_any, starts_with}
+use Rattle.std.specs.List.{list_all, list_any}
 use Rattle.std.specs.Char.{is_ascii_lowercase, is_ascii_digit, is_ascii_alphanumeric}
 use Rattle.std.specs.declared.cmp.Ordering.TheVariants.{Less}
-use Rattle.pieces.specs.Pieces.{pieces_at, first, is_nil, behind}
+use Rattle.pieces.specs.Numbers.{has_leading_zero, number_after}
+use Rattle.pieces.specs.Faults.{first_fault, or_else, unless}
+use Rattle.pieces.specs.Characters.{comma, equals, hyphen}
+use Rattle.pieces.specs.Pieces.{pieces_at, first, behind}
+use Rattle.pieces.specs.Lists.{is_empty}
 use Rattle.base64ct.specs.declared.errors.Error.TheVariants.{InvalidEncoding, InvalidLength}
 use Rattle.phc.specs.Encoded.{decoding}
 use Rattle.phc.specs.declared.error.Error.{Error}
@@ -20,7 +24,7 @@ use Rattle.phc.specs.declared.error.Error.TheVariants.{TrailingData}
 
 -- a-z, 0-9 or `-`
 abbrev pub is_name_byte : ℕ → Bool
-is_name_byte b = is_ascii_lowercase b || is_ascii_digit b || b == 45
+is_name_byte b = is_ascii_lowercase b || is_ascii_digit b || b == hyphen
 
 -- 1 to 32 such characters
 abbrev pub is_name : List ℕ → Bool
@@ -33,14 +37,6 @@ is_value_byte b = is_ascii_alphanumeric b || list_any (λ c. c == b) (codes "/+.
 abbrev pub has_value_bytes : List ℕ → Bool
 has_value_bytes s = list_all is_value_byte s
 
--- the number that digits write, after those of n
-abbrev pub number_after : ℕ → List ℕ → ℕ
-number_after n [] = n
-number_after n (d ∷ ds) = number_after (n * 10 + (d - 48)) ds
-
-abbrev pub has_leading_zero : List ℕ → Bool
-has_leading_zero s = nat_lt 1 (length s) && starts_with nat_eq s (codes "0")
-
 -- digits without a leading zero
 abbrev pub is_plain : List ℕ → Bool
 is_plain s = list_all is_ascii_digit s && not (has_leading_zero s)
@@ -52,26 +48,10 @@ decimal_value s =
 
 -- ---- faults, one after another
 
--- a fault exactly where the fact does not hold
-abbrev pub unless : Bool → Error → Option Error
-unless true e = None
-unless false e = Some e
-
--- the first fault of a list
-abbrev pub first_fault : List (Option Error) → Option Error
-first_fault [] = None
-first_fault (Some e ∷ faults) = Some e
-first_fault (None ∷ faults) = first_fault faults
-
 -- the fault of a part that may be absent
 abbrev pub fault_of : (List ℕ → Option Error) → Option (List ℕ) → Option Error
 fault_of fault None = None
 fault_of fault (Some s) = fault s
-
--- a value, unless there is a fault
-abbrev pub value_or_fault : {A : Type 0} → A → Option Error → Result A Error
-value_or_fault a (Some e) = Err e
-value_or_fault a None = Ok a
 
 -- the fault of a name
 abbrev pub name_fault : List ℕ → Option Error
@@ -97,11 +77,11 @@ has c s = list_any (λ b. b == c) s
 
 -- what stands behind `v=` in a piece without a comma
 abbrev pub version_digits : List ℕ → Option (List ℕ)
-version_digits s = if has 44 s then None else behind s (codes "v=")
+version_digits s = if has comma s then None else behind s (codes "v=")
 
 -- a piece with `=`
 abbrev pub params_text : List ℕ → Option (List ℕ)
-params_text s = if has 61 s then Some s else None
+params_text s = if has equals s then Some s else None
 
 -- what the first piece is read as
 abbrev pub read_first : (List ℕ → Option (List ℕ)) → List (List ℕ) → Option (List ℕ)
@@ -136,20 +116,19 @@ layout pieces = layout_from_params (read_first version_digits pieces)
 
 -- ---- the parts
 
+-- the fault of what stands behind the name of a pair, cut at every further `=`
+abbrev pub behind_name_fault : List (List ℕ) → Option Error
+behind_name_fault [] = Some ParamValueInvalid
+behind_name_fault (value ∷ more) = or_else (value_fault value) (unless (is_empty more) ParamValueInvalid)
+
 -- the fault of a pair, cut at every `=`
 abbrev pub pair_fault : List (List ℕ) → Option Error
 pair_fault [] = Some ParamNameInvalid
-pair_fault (name ∷ []) = first_fault (unless (is_name name) ParamNameInvalid ∷ (Some ParamValueInvalid ∷ []))
-pair_fault (name ∷ (value ∷ more)) = first_fault
-    (unless (is_name name) ParamNameInvalid
-    ∷ (unless (nat_le (length value) 64) ParamValueTooLong
-    ∷ (unless (has_value_bytes value) ParamValueInvalid
-    ∷ (unless (is_nil more) ParamValueInvalid
-    ∷ []))))
+pair_fault (name ∷ pieces) = or_else (name_fault name) (behind_name_fault pieces)
 
 -- each pair of the parameters, cut at its `=`
 abbrev pub cut_pairs : List ℕ → List (List (List ℕ))
-cut_pairs s = map (pieces_at 61) (pieces_at 44 s)
+cut_pairs s = map (pieces_at equals) (pieces_at comma s)
 
 -- the name and the value of a cut pair
 abbrev pub pair_of : List (List ℕ) → List ℕ × List ℕ
@@ -165,10 +144,6 @@ version_fault s = first_fault
 
 abbrev pub params_fault : List ℕ → Option Error
 params_fault s = first_fault (unless (nat_le (length s) 127) ParamsMaxExceeded ∷ map pair_fault (cut_pairs s))
-
-abbrev pub is_empty : List ℕ → Bool
-is_empty [] = true
-is_empty (b ∷ s) = false
 
 -- the fault of a text, of which the empty one has none
 abbrev pub text_fault : List ℕ → Option Error
@@ -203,7 +178,7 @@ fault_of_layout id l = first_fault
     ∷ (fault_of text_fault l.params
     ∷ (fault_of salt_fault l.salt
     ∷ (fault_of hash_fault l.hash
-    ∷ (unless (is_nil l.rest) TrailingData
+    ∷ (unless (is_empty l.rest) TrailingData
     ∷ []))))))
 
 abbrev pub pairs_of : Option (List ℕ) → List (List ℕ × List ℕ)

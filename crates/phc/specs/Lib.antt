@@ -5,7 +5,6 @@ pub mod Parts
 pub mod Params
 pub mod PairsOfText
 pub mod Record
-pub mod Refusals
 pub mod Views
 pub mod Counts
 pub mod Kept

@@ -4,9 +4,11 @@ use Rattle.std.specs.Prelude.{Result, Ok, Err, if◌then◌else◌}
 use Rattle.std.specs.List.{join_with_byte}
 use Rattle.std.specs.Cmp.Lexicographic.{pointwise}
 use Rattle.phc.specs.Encoded.{encoding}
+use Rattle.pieces.specs.Characters.{comma, equals}
 use Rattle.pieces.specs.Pieces.{pieces_at}
-use Rattle.phc.specs.Grammar.{first_fault, is_empty, is_name, pair_fault, text_pairs, text_fault, value_fault}
-use Rattle.phc.specs.Grammar.{value_or_fault}
+use Rattle.phc.specs.Grammar.{is_name, pair_fault, text_pairs, text_fault, value_fault}
+use Rattle.pieces.specs.Faults.{first_fault, value_or_fault}
+use Rattle.pieces.specs.Lists.{is_empty}
 use Rattle.phc.specs.declared.error.Error.{Error}
 use Rattle.phc.specs.declared.error.Error.TheVariants.{ParamNameDuplicated, ParamNameInvalid, ParamValueInvalid}
 use Rattle.phc.specs.declared.error.Error.TheVariants.{ParamValueTooLong, ParamsMaxExceeded}
@@ -17,11 +19,11 @@ Pairs = List (List ℕ × List ℕ)
 
 -- `name=value`
 abbrev pub pair_text : (List ℕ × List ℕ) → List ℕ
-pair_text p = p.0 ++ 61 ∷ p.1
+pair_text p = p.0 ++ equals ∷ p.1
 
 -- the pairs with commas between
 abbrev pub pairs_text : Pairs → List ℕ
-pairs_text ps = join_with_byte 44 (map pair_text ps)
+pairs_text ps = join_with_byte comma (map pair_text ps)
 
 -- the pairs of a text, or its fault
 abbrev pub params_or_fault : List ℕ → Result Pairs Error
@@ -29,7 +31,7 @@ params_or_fault s = value_or_fault (text_pairs s) (text_fault s)
 
 -- the first fault of pairs that are not cut yet
 abbrev pub pairs_fault : List (List ℕ) → Option Error
-pairs_fault pairs = first_fault (map pair_fault (map (pieces_at 61) pairs))
+pairs_fault pairs = first_fault (map pair_fault (map (pieces_at equals) pairs))
 
 -- the first value of a name
 abbrev pub get : Pairs → List ℕ → Option (List ℕ)
@@ -45,7 +47,7 @@ add ps name value =
 
 -- the text with one more pair behind it
 abbrev pub appended : List ℕ → List ℕ → List ℕ → List ℕ
-appended s name value = if is_empty s then pair_text (name, value) else s ++ 44 ∷ pair_text (name, value)
+appended s name value = if is_empty s then pair_text (name, value) else s ++ comma ∷ pair_text (name, value)
 
 -- what a text that has to be a name leads to
 abbrev pub with_name : List ℕ → Result Pairs Error → Result Pairs Error

@@ -3,7 +3,8 @@
 use Rattle.std.specs.Prelude.{ℕ, List, [], nat_lt, length, unwrap_or, Result, Ok, Err, if◌then◌else◌}
 use Rattle.std.specs.declared.cmp.Ordering.TheVariants.{Less, Greater}
 use Rattle.phc.specs.Encoded.{decoding}
-use Rattle.phc.specs.Grammar.{hash_fault, salt_fault, value_or_fault}
+use Rattle.phc.specs.Grammar.{hash_fault, salt_fault}
+use Rattle.pieces.specs.Faults.{value_or_fault}
 use Rattle.phc.specs.declared.error.Error.{Error}
 use Rattle.phc.specs.declared.error.Error.TheVariants.{OutputSize, SaltTooShort, SaltTooLong}
 

@@ -6,9 +6,12 @@ use Rattle.std.specs.Fmt.{decimal}
 use Rattle.std.specs.List.{list_all}
 use Rattle.base64ct.specs.Encoding.{EachBelow}
 use Rattle.std.specs.Cmp.Lexicographic.{pointwise}
+use Rattle.pieces.specs.Characters.{dollar}
 use Rattle.pieces.specs.Pieces.{pieces_at}
 use Rattle.phc.specs.Encoded.{decoding, encoding}
-use Rattle.phc.specs.Grammar.{Layout, layout, fault_of_layout, pairs_of, decimal_value, value_or_fault, is_empty}
+use Rattle.phc.specs.Grammar.{Layout, layout, fault_of_layout, pairs_of, decimal_value}
+use Rattle.pieces.specs.Faults.{value_or_fault}
+use Rattle.pieces.specs.Lists.{is_empty}
 use Rattle.phc.specs.Grammar.{is_name, has_value_bytes}
 use Rattle.phc.specs.Params.{Pairs, pairs_text}
 use Rattle.phc.specs.declared.error.Error.{Error}
@@ -40,7 +43,7 @@ phc_of_pieces (front ∷ others) = if is_empty front then from_id others else Er
 
 -- a whole text: its record, or its first fault
 unfoldable pub phc_text : List ℕ → Result PasswordHash Error
-phc_text s = phc_of_pieces (pieces_at 36 s)
+phc_text s = phc_of_pieces (pieces_at dollar s)
 
 -- ---- how a record prints
 
@@ -50,11 +53,11 @@ version_part (Some n) = codes "$v=" ++ decimal n
 
 abbrev pub params_part : Pairs → List ℕ
 params_part [] = []
-params_part (p ∷ ps) = 36 ∷ pairs_text (p ∷ ps)
+params_part (p ∷ ps) = dollar ∷ pairs_text (p ∷ ps)
 
 abbrev pub bytes_part : Option (List ℕ) → List ℕ
 bytes_part None = []
-bytes_part (Some b) = 36 ∷ encoding b
+bytes_part (Some b) = dollar ∷ encoding b
 
 -- a hash is printed behind a salt alone
 abbrev pub hash_part : Option (List ℕ) → Option (List ℕ) → List ℕ
@@ -63,7 +66,7 @@ hash_part (Some salt) hash = bytes_part hash
 
 -- `$id[$v=version][$params][$salt[$hash]]`
 unfoldable pub record_text : PasswordHash → List ℕ
-record_text r = 36 ∷ r.algorithm ++ version_part r.version ++ params_part r.params ++ bytes_part r.salt
+record_text r = dollar ∷ r.algorithm ++ version_part r.version ++ params_part r.params ++ bytes_part r.salt
     ++ hash_part r.salt r.hash
 
 -- ---- which records are read back

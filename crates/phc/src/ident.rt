@@ -6,7 +6,8 @@ ghost use Rattle.std.specs.Cmp.{on_equiv, partial_order_from_own_ties};
 ghost use Rattle.std.specs.Cmp.Lexicographic.{slice_cmp};
 ghost use Rattle.std.specs.Cmp.Rules.{comparing};
 ghost use Rattle.std.proofs.Common.{rules};
-ghost use Rattle.phc.specs.Grammar.{is_name, is_name_byte, name_fault, value_or_fault};
+ghost use Rattle.phc.specs.Grammar.{is_name, is_name_byte, name_fault};
+ghost use Rattle.pieces.specs.Faults.{value_or_fault};
 ghost use Rattle.std.specs.List.{list_all};
 
 use crate::{Error, Result};
@@ -126,7 +127,8 @@ impl fmt::Display for Ident {
 
 impl FromStr for Ident {
     ghost use Rattle.std.specs.Prelude.{◌≡◌};
-    ghost use Rattle.phc.specs.Grammar.{name_fault, value_or_fault};
+    ghost use Rattle.phc.specs.Grammar.{name_fault};
+    ghost use Rattle.pieces.specs.Faults.{value_or_fault};
 
     type Err = Error;
 

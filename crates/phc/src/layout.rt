@@ -1,6 +1,7 @@
 //! Which piece of a text is what part of a record.
 
 ghost use Rattle.std.specs.Prelude.{◌≡◌, ◌==◌};
+ghost use Rattle.pieces.specs.Characters.{dollar};
 ghost use Rattle.pieces.specs.Pieces.{lent, pieces_left};
 ghost use Rattle.phc.specs.Grammar.{pieces_behind, read_first, has, layout, params_text, layout_from_salt, version_digits};
 ghost use Rattle.phc.specs.Views.{parts_of, pieces_of};
@@ -59,7 +60,7 @@ pub(crate) struct Cut<'a> {
 
 // The next piece cut off, where there is one.
 fn cut_off<'a>(pieces: Option<&'a str>) -> Option<Cut<'a>>
-    ensures { pieces_of result ≡ pieces_left 36 pieces.entry }
+    ensures { pieces_of result ≡ pieces_left dollar pieces.entry }
 {
     let Some(text) = pieces else {
         return None;
@@ -125,7 +126,7 @@ fn layout_from_salt<'a>(
 
 /// Which of the pieces behind the identifier is what.
 pub(crate) fn layout<'a>(pieces: Option<&'a str>) -> FormParts<'a>
-    ensures { parts_of result ≡ layout (pieces_left 36 pieces.entry) }
+    ensures { parts_of result ≡ layout (pieces_left dollar pieces.entry) }
 {
     let (version, pieces) = take_version(cut_off(pieces));
     let (params, pieces) = take_params(pieces);

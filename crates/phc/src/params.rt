@@ -1,21 +1,24 @@
 //! Parameters: names and values, and their text.
 
-ghost use Rattle.std.specs.Prelude.{◌≡◌, ◌≤◌, ◌+◌, [], ◌∷◌, ◌++◌, List, None, Some, Ok, IsOk, length, map, nat_eq, nat_lt, if◌then◌else◌};
+ghost use Rattle.std.specs.Prelude.{◌≡◌, ◌&&◌, ◌≤◌, ◌+◌, [], ◌∷◌, ◌++◌, List, None, Some, Ok, IsOk, length, map, nat_eq, nat_le, nat_lt, if◌then◌else◌};
 ghost use Rattle.std.specs.Cmp.{on_equiv, on_per, partial_equiv_from_equiv};
 ghost use Rattle.std.specs.Cmp.Lexicographic.{pointwise, nat_list_eq_equiv};
 ghost use Rattle.std.specs.Fmt.{decimal};
 ghost use Rattle.std.specs.Iterator.{IsFinite, DrainsIf};
 ghost use Rattle.std.specs.Option.{option_and_then, option_map};
+ghost use Rattle.pieces.specs.Characters.{comma, equals};
 ghost use Rattle.pieces.specs.Pieces.{pieces_at, pieces_left};
-ghost use Rattle.phc.specs.Grammar.{cut_pairs, decimal_value, first_fault, is_empty, pair_fault, pair_of, text_fault, text_pairs};
+ghost use Rattle.phc.specs.Grammar.{behind_name_fault, cut_pairs, decimal_value, has_value_bytes, pair_fault, pair_of, text_fault, text_pairs};
+ghost use Rattle.pieces.specs.Faults.{first_fault};
+ghost use Rattle.pieces.specs.Lists.{is_empty};
 ghost use Rattle.phc.specs.Params.{add, add_bytes, add_each, add_named, appended, added_or_kept, get, pairs_fault, pairs_text, params_or_fault, with_name};
 
 use crate::ident::is_name;
 use crate::value::has_value_bytes;
 use crate::{Decimal, Error, Ident, Result, Value};
 use base64ct::{Base64Unpadded, Encoding};
+use pieces::first_piece;
 use pieces::short_bytes::ShortBytes;
-use pieces::{first_piece, is_end};
 use std::alloc::AllocError;
 use std::fmt;
 use std::marker::Model;
@@ -49,28 +52,41 @@ impl Model for ParamsString {
     ghost inverse_ok = { λ p h i. record { text = pairs_text-text_pairs p.text h i } };
 }
 
+// Whether a text is a value.
+fn is_value(text: &str) -> bool
+    ensures { result ≡ (nat_le (length text.now) 64 && has_value_bytes text.now) }
+{
+    text.len() <= 64 && has_value_bytes(text.as_bytes())
+}
+
+// The fault of what stands behind the name of a pair.
+fn fault_behind_name(text: &str) -> Option<Error>
+    ensures { result ≡ behind_name_fault (pieces_at equals text.now) }
+{
+    // No value has a `=`, so that a good one isn't searched for it.
+    if is_value(text) {
+        return None;
+    }
+    let (value, _) = first_piece(text, '=');
+    if value.len() > 64 {
+        Some(Error::ParamValueTooLong)
+    } else {
+        Some(Error::ParamValueInvalid)
+    }
+}
+
 // The fault of one pair.
 fn fault_of_pair(pair: &str) -> Option<Error>
-    ensures { result ≡ pair_fault (pieces_at 61 pair.now) }
+    ensures { result ≡ pair_fault (pieces_at equals pair.now) }
 {
-    let (name, others) = first_piece(pair, '=');
+    let (name, behind) = first_piece(pair, '=');
     if !is_name(name) {
         return Some(Error::ParamNameInvalid);
     }
-    let Some(text) = others else {
-        return Some(Error::ParamValueInvalid);
-    };
-    let (value, more) = first_piece(text, '=');
-    if value.len() > 64 {
-        return Some(Error::ParamValueTooLong);
+    match behind {
+        Some(text) => fault_behind_name(text),
+        None => Some(Error::ParamValueInvalid),
     }
-    if !has_value_bytes(value.as_bytes()) {
-        return Some(Error::ParamValueInvalid);
-    }
-    if !is_end(more) {
-        return Some(Error::ParamValueInvalid);
-    }
-    None
 }
 
 // The fault of the first pair that has one.
@@ -405,7 +421,7 @@ impl FromStr for ParamsString {
 #[derive(Debug, Drop)]
 pub struct Iter<'a> {
     left: Option<&'a str>,
-    ghost valid: { pairs_fault (pieces_left 44 left) ≡ None },
+    ghost valid: { pairs_fault (pieces_left comma left) ≡ None },
 }
 
 impl Clone for Iter<'_> {
@@ -426,8 +442,8 @@ impl<'a> Iter<'a> {
 
     // The name and the value of a pair without a fault.
     fn split_pair(pair: &'a str) -> Pair<'a>
-        requires { pair_fault (pieces_at 61 pair.now) ≡ None }
-        ensures { pair_view result ≡ pair_of (pieces_at 61 pair.now) }
+        requires { pair_fault (pieces_at equals pair.now) ≡ None }
+        ensures { pair_view result ≡ pair_of (pieces_at equals pair.now) }
     {
         let (name, rest) = first_piece(pair, '=');
         match rest {

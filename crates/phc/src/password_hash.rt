@@ -4,9 +4,11 @@ ghost use Rattle.std.specs.Prelude.{◌≡◌, ◌+◌, ◌++◌, ◌^◌, ◌<�
 ghost use Rattle.std.specs.Fmt.{HasWritten, IsPlainFormatter};
 ghost use Rattle.std.specs.Option.{option_and_then};
 ghost use Rattle.base64ct.specs.Encoding.{EachBelow};
+ghost use Rattle.pieces.specs.Characters.{dollar};
 ghost use Rattle.pieces.specs.Pieces.{lent, pieces_left};
 ghost use Rattle.phc.specs.Counts.{comparisons_of, layout_comparisons, layout_looks, layout_of_text, looks_of};
-ghost use Rattle.phc.specs.Grammar.{decimal_value, fault_of, fault_of_layout, hash_fault, layout, pairs_of, salt_fault, text_fault, value_or_fault, version_fault};
+ghost use Rattle.phc.specs.Grammar.{decimal_value, fault_of, fault_of_layout, hash_fault, layout, pairs_of, salt_fault, text_fault, version_fault};
+ghost use Rattle.pieces.specs.Faults.{value_or_fault};
 ghost use Rattle.phc.specs.Record.{IsRecord, bytes_part, hash_part, is_lone_v, is_printable, params_part, phc, phc_text, record_of_layout, record_text, version_part};
 ghost use Rattle.phc.specs.Encoded.{decoding};
 ghost use Rattle.phc.specs.Views.{parts_of};
@@ -165,9 +167,9 @@ fn record_of(id: &str, parts: FormParts<'_>, counts: &mut Counts) -> Result<Pass
 fn record_of_pieces(id: &str, pieces: Option<&str>, counts: &mut Counts) -> Result<PasswordHash>
     requires looks { counts.old.looks ≤ 2 ^ 62 }
     requires sames { counts.old.sames ≤ 2 ^ 62 }
-    ensures record_or_fault { result ≡ phc id.now (pieces_left 36 pieces.entry) }
-    ensures looks { OnOk result (counts.new.looks ≡ counts.old.looks + layout_looks (layout (pieces_left 36 pieces.entry))) }
-    ensures sames { OnOk result (counts.new.sames ≡ counts.old.sames + layout_comparisons (layout (pieces_left 36 pieces.entry))) }
+    ensures record_or_fault { result ≡ phc id.now (pieces_left dollar pieces.entry) }
+    ensures looks { OnOk result (counts.new.looks ≡ counts.old.looks + layout_looks (layout (pieces_left dollar pieces.entry))) }
+    ensures sames { OnOk result (counts.new.sames ≡ counts.old.sames + layout_comparisons (layout (pieces_left dollar pieces.entry))) }
     ensures most_looks { counts.new.looks ≤ counts.old.looks + 156 }
     ensures most_sames { counts.new.sames ≤ counts.old.sames + 8 }
     ensures looks_stay { counts.old.looks ≤ counts.new.looks }

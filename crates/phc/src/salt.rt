@@ -7,7 +7,7 @@ ghost use Rattle.base64ct.specs.Counts.{field_looks};
 ghost use Rattle.phc.specs.Encoded.{decoding, encoding};
 ghost use Rattle.phc.specs.Grammar.{salt_fault};
 ghost use Rattle.phc.specs.Parts.{salt_of_bytes, salt_or_fault, salt_text_or_fault};
-ghost use Rattle.phc.specs.Refusals.{HasRisen};
+ghost use Rattle.pieces.specs.FaultCounts.{HasRisen};
 
 use crate::{Error, Result, TryFill};
 use base64ct::{Base64Unpadded, Counts, Encoding};

@@ -2,7 +2,7 @@
 
 ghost use Rattle.std.specs.Prelude.{◌≤◌, ℕ, List, Option, OnErr, OnOk};
 ghost use Rattle.std.specs.Io.KnownBytes.{Consumes};
-ghost use Rattle.phc.specs.Refusals.{HasRisen};
+ghost use Rattle.pieces.specs.FaultCounts.{HasRisen};
 
 /// A generator of random bytes that may refuse.
 ///

@@ -5,7 +5,8 @@ ghost use Rattle.std.specs.Char.{is_ascii_digit};
 ghost use Rattle.std.specs.List.{list_all};
 ghost use Rattle.std.specs.Option.{ok_or};
 ghost use Rattle.std.specs.Result.{result_err};
-ghost use Rattle.phc.specs.Grammar.{decimal_value, has_value_bytes, is_empty, is_plain, is_value_byte, value_fault};
+ghost use Rattle.phc.specs.Grammar.{decimal_value, has_value_bytes, is_plain, is_value_byte, value_fault};
+ghost use Rattle.pieces.specs.Lists.{is_empty};
 
 use crate::{Error, Result};
 use base64ct::{Base64Unpadded, Encoding};
@@ -149,7 +150,8 @@ impl fmt::Display for Value<'_> {
 fn is_value_byte(b: u8) -> bool
     ensures { result ≡ is_value_byte b }
 {
-    b.is_ascii_alphanumeric() || b == b'/' || b == b'+' || b == b'.' || b == b'-'
+    // `-`, `.` and `/` stand before the digits.
+    b.is_ascii_alphabetic() || (b'-' <= b && b <= b'9') || b == b'+'
 }
 
 /// Whether a text has characters of values alone.

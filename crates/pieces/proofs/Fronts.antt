@@ -7,14 +7,15 @@ use Rattle.std.specs.Str.Pattern.{FindsTextPrefix}
 use Rattle.std.specs.Str.{IsCharBoundary}
 use Rattle.std.proofs.lemmas.Bool.Decides.{nat_tests}
 use Rattle.std.proofs.lemmas.Str.Pattern.{starts_text}
-use Rattle.pieces.specs.Pieces.{pieces_at, pieces_left, is_nil, lent, behind}
+use Rattle.pieces.specs.Pieces.{pieces_at, pieces_left, lent, behind}
+use Rattle.pieces.specs.Lists.{is_empty}
 use Rattle.pieces.proofs.Cuts.{cut_in_front, cut_of, same_byte}
 
-pub left_none : (c : ℕ) → true ≡ is_nil (pieces_left c None)
+pub left_none : (c : ℕ) → true ≡ is_empty (pieces_left c None)
 left_none c = refl
 
-pub left_some : (c : ℕ) (text : List ℕ) → false ≡ is_nil (pieces_at c text)
-left_some c text = sym (ap is_nil (cut_of c text).are)
+pub left_some : (c : ℕ) (text : List ℕ) → false ≡ is_empty (pieces_at c text)
+left_some c text = sym (ap is_empty (cut_of c text).are)
 
 pub behind_is : (text front : List ℕ) (r : Option (Bor (List ℕ)))
     → MatchOption r (FindsTextPrefix front text None) (λ x. (n : ℕ) × FindsTextPrefix front text (Some n)

@@ -1,4 +1,5 @@
 pub mod Cuts
+pub mod FaultLaws
 pub mod Fronts
 mod Vectors
 mod Ascii

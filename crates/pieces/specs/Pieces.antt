@@ -31,11 +31,6 @@ abbrev pub lent : Option (Bor (List ℕ)) → Option (List ℕ)
 lent None = None
 lent (Some text) = Some text.now
 
--- no pieces
-abbrev pub is_nil : List (List ℕ) → Bool
-is_nil [] = true
-is_nil (piece ∷ pieces) = false
-
 -- what stands behind a front, where the text begins with it
 abbrev pub behind : List ℕ → List ℕ → Option (List ℕ)
 behind text front = if starts_with nat_eq text front then Some (drop (length front) text) else None

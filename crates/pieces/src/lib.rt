@@ -6,7 +6,8 @@
 
 ghost use Rattle.std.specs.Prelude.{◌≡◌, ◌<◌, ◌∷◌, drop, ℕ, nat_eq, true};
 ghost use Rattle.std.specs.List.{starts_with, ends_with};
-ghost use Rattle.pieces.specs.Pieces.{pieces_at, pieces_left, first, lent, is_nil, behind};
+ghost use Rattle.pieces.specs.Pieces.{pieces_at, pieces_left, first, lent, behind};
+ghost use Rattle.pieces.specs.Lists.{is_empty};
 
 pub mod laws;
 pub mod places;
@@ -48,7 +49,7 @@ pub fn next_piece<'a>(left: Option<&'a str>, cut: char) -> (Option<&'a str>, Opt
 
 /// Whether no piece is left.
 pub fn is_end(left: Option<&str>) -> bool
-    ensures end { (c : ℕ) → result ≡ is_nil (pieces_left c left.entry) }
+    ensures end { (c : ℕ) → result ≡ is_empty (pieces_left c left.entry) }
 {
     match left {
         None => true,

@@ -13,7 +13,8 @@ use Rattle.base64ct.specs.Encoding.{EachBelow, longest_input}
 use Rattle.std.proofs.lemmas.List.{append_assoc}
 use Rattle.phc.specs.Encoded.{decoding, encoding}
 use Rattle.scrypt_plain.specs.Scrypt.{scrypt}
-use Rattle.phc.specs.Grammar.{salt_fault, value_or_fault}
+use Rattle.phc.specs.Grammar.{salt_fault}
+use Rattle.pieces.specs.Faults.{value_or_fault}
 use Rattle.phc.specs.Parts.{salt_text_or_fault}
 use Rattle.phc.specs.declared.error.Error as phc_error
 use Rattle.phc.proofs.EncodedBytes.{encoded_length}

@@ -2,7 +2,8 @@
 
 ghost use Rattle.std.specs.Prelude.{◌≡◌, ◌⊎◌, ◌≤◌, ◌++◌, ◌%◌, ◌==◌, codes, Err, IfSome, IsAscii, if◌then◌else◌, length, string_bytes};
 ghost use Rattle.std.specs.Io.KnownBytes.{Appends};
-ghost use Rattle.line_io.specs.Devices.{AppendsPrefix, HasRisen};
+ghost use Rattle.line_io.specs.Devices.{AppendsPrefix};
+ghost use Rattle.pieces.specs.FaultCounts.{HasRisen};
 ghost use Rattle.rand_chacha.specs.ChaCha.{of_seed};
 ghost use Rattle.rand_core.specs.Stream.{Stream, fill_bytes};
 ghost use Rattle.sha_crypt.specs.Simple.{characters, sha256_text, sha512_text};

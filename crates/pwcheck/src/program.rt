@@ -1,7 +1,8 @@
 //! The top calls.
 
 ghost use Rattle.std.specs.Prelude.{◌≡◌, ◌≢◌, ◌⊎◌, ◌≤◌, ◌^◌, ◌↔◌, ℕ, min};
-ghost use Rattle.line_io.specs.Devices.{HasRisen, WhereTold};
+ghost use Rattle.line_io.specs.Devices.{WhereTold};
+ghost use Rattle.pieces.specs.FaultCounts.{HasRisen};
 ghost use Rattle.line_program.specs.Outcome.{Outcome};
 ghost use Rattle.pwcheck.specs.Answer.{line_rules};
 ghost use Rattle.pwcheck.specs.BenchOutcome.{BenchOutcome};

@@ -1,7 +1,8 @@
 //! Inputs wrapped and unwrapped.
 
 ghost use Rattle.std.specs.Prelude.{◌≡◌, ◌≢◌, ◌≤◌, ◌<◌, ◌^◌, [], ◌∷◌, ℕ, List, length, min, IfOk, MatchResult};
-ghost use Rattle.line_io.specs.Devices.{HasRisen, WhereTold};
+ghost use Rattle.line_io.specs.Devices.{WhereTold};
+ghost use Rattle.pieces.specs.FaultCounts.{HasRisen};
 ghost use Rattle.base64ct.specs.Encoding.{encoding};
 ghost use Rattle.base64ct.specs.Alphabets.{base64};
 ghost use Rattle.base64ct.specs.Wrapping.{wrap};

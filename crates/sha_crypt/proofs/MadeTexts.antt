@@ -8,7 +8,6 @@ use Rattle.std.specs.List.{list_all, starts_with}
 use Rattle.std.specs.Str.{all_ascii_digits}
 use Rattle.std.proofs.lemmas.Bool.{and_parts, false≢true}
 use Rattle.std.proofs.lemmas.Bool.Decides.{nat_tests}
-use Rattle.std.proofs.lemmas.Fmt.{digits_decimal}
 use Rattle.base64ct.proofs.DecodingLaws.{same_true, true_same}
 use Rattle.pieces.specs.Pieces.{EachLacks, LacksByte, behind, pieces_at}
 use Rattle.pieces.proofs.Cuts.{cut_joined}
@@ -22,9 +21,8 @@ use Rattle.sha_crypt.specs.Simple.{characters, made_fields, made_text, sha256_te
 use Rattle.sha_crypt.specs.declared.errors.Family.{Family}
 use Rattle.sha_crypt.specs.declared.errors.Family.TheVariants.{Sha256, Sha512}
 use Rattle.sha_crypt.proofs.Decimals.{decimal_lacks, plain_number-decimal}
-use Rattle.sha_crypt.proofs.Digests.{IsScheme, all_append, characters_pass, hash_is_field, hash_passes, is_scheme}
+use Rattle.sha_crypt.proofs.Digests.{IsScheme, characters_pass, hash_is_field, hash_passes, is_scheme}
 use Rattle.sha_crypt.proofs.Digests.{length-characters, made_hash}
-use Rattle.sha_crypt.proofs.Numbers.{own}
 use Rattle.sha_crypt.proofs.Shapes.{HasForm, Stands, of_form}
 use Rattle.sha_crypt.proofs.Spellings.{id_lacks, join-pieces, lacks_front, lacks_none, of_cut, ok_short, ok_tested}
 use Rattle.sha_crypt.proofs.Spellings.{rounds_lack}
@@ -107,13 +105,6 @@ digits_pass p weaker [] h = refl
 digits_pass p weaker (b ∷ s) h =
     let parts = and_parts (is_ascii_digit b) (all_ascii_digits s) h in
     rw (weaker b parts.0) (digits_pass p weaker s parts.1)
-
--- what holds of digits and of the name holds of a piece that names the rounds
-pub rounds_pass : (p : ℕ → Bool) → ((b : ℕ) → is_ascii_digit b ≡ true → p b ≡ true)
-    → list_all p (codes "rounds=") ≡ true → (n : ℕ) → n < 2 ^ 64
-    → list_all p (codes "rounds=" ++ decimal n) ≡ true
-rounds_pass p weaker front n small =
-    all_append p (codes "rounds=") (decimal n) front (digits_pass p weaker (decimal n) (digits_decimal own n small))
 
 each_lacks : (n : ℕ) (salt hash : List ℕ) → n < 2 ^ 64 → LacksByte 36 salt → LacksByte 36 hash
     → EachLacks 36 (rounds_pieces (not (n == 5000)) n ++ salt ∷ (hash ∷ []))

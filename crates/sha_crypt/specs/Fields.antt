@@ -5,11 +5,12 @@
 -- bytes of the salt count. There rounds out of range are clamped, and a longer salt is cut; here both are faults, and
 -- so are rounds that aren't a plain decimal, so that each record has one text. The order of the faults is ours. Earlier
 -- texts, in which the rounds had zeros and one `+` in front and the salt any length, are read by `old_fields`.
-use Rattle.std.specs.Prelude.{ℕ, ◌+◌, ◌*◌, ◌-◌, ◌^◌, Bool, false, true, ◌&&◌, ◌||◌, List, [], ◌∷◌, ◌==◌, nat_eq, nat_lt}
+use Rattle.std.specs.Prelude.{ℕ, ◌^◌, Bool, false, true, ◌&&◌, ◌||◌, List, [], ◌∷◌, ◌==◌, nat_lt}
 use Rattle.std.specs.Prelude.{nat_le, length, take, Option, Some, None, Result, Ok, Err, if◌then◌else◌, codes}
-use Rattle.std.specs.List.{starts_with}
 use Rattle.std.specs.Str.{all_ascii_digits}
-use Rattle.pieces.specs.Pieces.{behind, is_nil}
+use Rattle.pieces.specs.Numbers.{has_leading_zero, number_after}
+use Rattle.pieces.specs.Pieces.{behind}
+use Rattle.pieces.specs.Lists.{is_empty}
 use Rattle.sha_crypt.specs.declared.errors.CheckError.{CheckError}
 use Rattle.sha_crypt.specs.declared.errors.CheckError.TheVariants.{InvalidFormat, Crypt}
 use Rattle.sha_crypt.specs.declared.errors.CryptError.TheVariants.{RoundsError}
@@ -18,19 +19,10 @@ use Rattle.sha_crypt.specs.declared.errors.FormatFault.TheVariants.{SaltTooLong,
 
 -- ---- the number of rounds
 
--- the number that decimal digits write, behind those of n
-abbrev pub number_after : ℕ → List ℕ → ℕ
-number_after n [] = n
-number_after n (d ∷ ds) = number_after (n * 10 + (d - 48)) ds
-
 -- the number of one or more digits, below 2 ^ 64
 abbrev pub number_of_digits : List ℕ → Option ℕ
 number_of_digits s = if nat_le 1 (length s) && all_ascii_digits s
     && nat_lt (number_after 0 s) (2 ^ 64) then Some (number_after 0 s) else None
-
--- a zero stands before further digits
-abbrev pub has_leading_zero : List ℕ → Bool
-has_leading_zero s = nat_lt 1 (length s) && starts_with nat_eq s (codes "0")
 
 -- a plain decimal: digits, without a leading zero unless it is `0` alone
 abbrev pub plain_number : List ℕ → Option ℕ
@@ -61,7 +53,7 @@ abbrev pub from_salt : ℕ → Bool → List (List ℕ) → Result ShaFields Che
 from_salt rounds written [] = Err (InvalidFormat NoSalt)
 from_salt rounds written (salt ∷ []) = Err (InvalidFormat NoHash)
 from_salt rounds written (salt ∷ (hash ∷ more)) =
-    if is_nil more then fields_in_range rounds written salt hash else Err (InvalidFormat Trailing)
+    if is_empty more then fields_in_range rounds written salt hash else Err (InvalidFormat Trailing)
 
 -- behind a piece that gives the rounds
 abbrev pub with_rounds : Option ℕ → List (List ℕ) → Result ShaFields CheckError
@@ -72,7 +64,7 @@ with_rounds (Some rounds) pieces = from_salt rounds true pieces
 abbrev pub by_rounds : (List ℕ → Option ℕ) → Option (List ℕ) → List ℕ → List (List ℕ) → Result ShaFields CheckError
 by_rounds number None first pieces = from_salt 5000 false (first ∷ pieces)
 by_rounds number (Some digits) first pieces =
-    if is_nil pieces then Err (InvalidFormat NoSalt) else with_rounds (number digits) pieces
+    if is_empty pieces then Err (InvalidFormat NoSalt) else with_rounds (number digits) pieces
 
 -- the fields by their form: all faults but those of the salt's length and of the hash
 abbrev pub split_fields : (List ℕ → Option ℕ) → List (List ℕ) → Result ShaFields CheckError

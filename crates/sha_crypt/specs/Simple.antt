@@ -19,13 +19,13 @@ abbrev pub word_character : ℕ → ℕ
 word_character word = character base64_sha_crypt (word / 2 ^ 26 % 64)
 
 -- a word behind characters, and what is left of its stream
-abbrev pub one_more : List ℕ → ℕ × Stream → List ℕ × Stream
-one_more front word = (front ++ word_character word.0 ∷ [], word.1)
+abbrev pub with_word : List ℕ → ℕ × Stream → List ℕ × Stream
+with_word front word = (front ++ word_character word.0 ∷ [], word.1)
 
 -- the characters of the next n words of a stream, and what is left of it
 unfoldable pub characters : ℕ → Stream → List ℕ × Stream
 characters zero s = ([], s)
-characters (suc n) s = let front = characters n s in one_more front.0 (next_u32 front.1)
+characters (suc n) s = let front = characters n s in with_word front.0 (next_u32 front.1)
 
 -- ---- texts
 

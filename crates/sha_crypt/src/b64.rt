@@ -1,7 +1,7 @@
 //! Hash fields, for digests of any length whose bytes stand in the field in an order of their own: SHA-crypt's, and
 //! those of other schemes that have the same field.
 
-ghost use Rattle.std.specs.Prelude.{◌≡◌, ◌≢◌, ◌≤◌, ◌+◌, ◌*◌, ◌/◌, ◌^◌, ◌==◌, ℕ, List, OnSome, length, true, MatchResult};
+ghost use Rattle.std.specs.Prelude.{◌≡◌, ◌≤◌, ◌+◌, ◌*◌, ◌/◌, ◌^◌, ◌==◌, ℕ, List, OnSome, length, true, MatchResult};
 ghost use Rattle.base64ct.specs.Encoding.{EachBelow, byte_count, unpadded_len};
 ghost use Rattle.sha_crypt.specs.HashField.{are_places, field_bytes, hash_field, in_order, undoes, IsHashFieldOf};
 

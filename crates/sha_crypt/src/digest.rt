@@ -1,6 +1,6 @@
 //! The digest, under any hash function.
 
-ghost use Rattle.std.specs.Prelude.{◌≡◌, ℕ, ◌+◌, ◌*◌, ◌^◌, ◌<◌, ◌≤◌, List, [], ◌++◌, length, take};
+ghost use Rattle.std.specs.Prelude.{◌≡◌, ℕ, ◌+◌, ◌<◌, ◌≤◌, List, ◌++◌, length, take};
 ghost use Rattle.sha_crypt.specs.Digest.{by_digits, copies, repeated_to, sha_crypt_digest, start_digest};
 
 use crate::SALT_MAX_LEN;

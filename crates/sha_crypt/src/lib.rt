@@ -5,7 +5,6 @@
 #![tactic(auto)]
 
 ghost use Rattle.std.specs.Prelude.{◌≡◌, ◌≤◌, ◌+◌, ◌^◌, ◌<◌, ℕ, List, IfOk, IsOkUnless, MatchResult, false, length, string_bytes, true};
-ghost use Rattle.rand_core.specs.Stream.{Stream};
 ghost use Rattle.sha2.specs.Sha256.{sha256};
 ghost use Rattle.sha2.specs.Sha512.{sha512};
 ghost use Rattle.sha_crypt.specs.Check.{is_verdict};

@@ -1,7 +1,6 @@
 //! Texts that are made of a password.
 
-ghost use Rattle.std.specs.Prelude.{◌≡◌, ◌≤◌, ◌<◌, ◌^◌, ◌++◌, ◌==◌, not, codes, IfOk, IsAscii, IsOkUnless, length, string_bytes, true};
-ghost use Rattle.rand_core.specs.Stream.{Stream};
+ghost use Rattle.std.specs.Prelude.{◌≡◌, ◌≤◌, ◌<◌, ◌++◌, ◌==◌, not, codes, IfOk, IsAscii, IsOkUnless, string_bytes, true};
 ghost use Rattle.sha_crypt.specs.Digest.{sha_crypt_digest};
 ghost use Rattle.sha_crypt.specs.HashField.{are_places, hash_field};
 ghost use Rattle.sha_crypt.specs.Records.{rounds_part};

@@ -7,7 +7,8 @@ use Rattle.base64ct.proofs.DecodingLaws.{decoding-Some}
 use Rattle.mcf.specs.Grammar.{mcf, fault, parts, parts_or_fault}
 use Rattle.mcf.specs.declared.error.Error as mcf_error
 use Rattle.phc.specs.Encoded.{decoding, encoding}
-use Rattle.phc.specs.Grammar.{fault_of_layout, layout, value_or_fault}
+use Rattle.phc.specs.Grammar.{fault_of_layout, layout}
+use Rattle.pieces.specs.Faults.{value_or_fault}
 use Rattle.phc.specs.Record.{phc, record_of_layout}
 use Rattle.phc.specs.declared.error.Error as phc_error
 use Rattle.phc.specs.declared.password_hash.PasswordHash.{PasswordHash}

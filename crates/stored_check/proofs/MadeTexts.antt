@@ -7,7 +7,8 @@ use Rattle.base64ct.proofs.DecodingLaws.{true_same}
 use Rattle.mcf.specs.Grammar.{mcf, field_fault, first_field_fault, is_field_byte, is_identifier, Parts}
 use Rattle.mcf.proofs.Built.{mcf-parts_text}
 use Rattle.phc.specs.declared.password_hash.PasswordHash.{PasswordHash}
-use Rattle.sha_crypt.specs.Families.{Scheme, scheme_fields, scheme_hash_field}
+use Rattle.sha_crypt.specs.Check.{hash_matches}
+use Rattle.sha_crypt.specs.Families.{Scheme, scheme_fields}
 use Rattle.sha_crypt.specs.Fields.{ShaFields}
 use Rattle.sha_crypt.specs.Records.{family_id, family_scheme, field_pieces, rounds_pieces}
 use Rattle.sha_crypt.specs.Simple.{made_fields, made_text}
@@ -15,7 +16,7 @@ use Rattle.sha_crypt.specs.declared.errors.Family.{Family}
 use Rattle.sha_crypt.specs.declared.errors.Family.TheVariants.{Sha256, Sha512}
 use Rattle.sha_crypt.proofs.Digests.{hash_passes, hash_some, is_scheme, made_hash}
 use Rattle.sha_crypt.proofs.MadeTexts.{IsSalt, by_default, made_read}
-use Rattle.stored_check.specs.Verdict.{parts_answer, same_text, scheme_of, sha_answer, text_answer, verdict}
+use Rattle.stored_check.specs.Verdict.{parts_answer, scheme_of, sha_answer, text_answer, verdict}
 use Rattle.stored_check.proofs.Normals.{rounds_field}
 use Rattle.stored_check.proofs.Records.{printed_is}
 
@@ -81,7 +82,7 @@ module _ (accepted : PasswordHash → List ℕ → ℕ → Bool) (tag : List ℕ
         let p : Parts = record { id = family_id family; fields = field_pieces f } in
         let fields : scheme_fields s (field_pieces f) ≡ Ok f =
         made_read s (is_scheme family) password salt n least most good in (
-          λ (asked : List ℕ). same_text (scheme_hash_field s asked f) f.hash,
+          λ (asked : List ℕ). hash_matches s.hash s.places asked f,
           λ (asked : List ℕ) fits. of_parts asked (made_text family password salt n) p fits read
               ∙ ap (λ o. parts_answer accepted tag asked o p) (is_family family) ∙ ap (sha_answer s asked) fields,
           true_same f.hash,

@@ -1,18 +1,22 @@
 -- Each fault that the grammars give is the one that its name stands for.
 use Rattle.std.proofs.Common.{◌≡◌, ℕ, Bool, true, false, List, [], ◌∷◌, length, map, refl, Result, Ok, Err}
-use Rattle.std.specs.Prelude.{⊤, nat_le, nat_lt, ◌||◌, Option, Some, None, if◌then◌else◌, is_some, unwrap_or, codes}
+use Rattle.std.specs.Prelude.{⊤, IfSome, nat_le, nat_lt, ◌||◌, Option, Some, None, if◌then◌else◌, is_some, unwrap_or}
+use Rattle.std.specs.Prelude.{codes}
 use Rattle.std.specs.List.{list_all}
-use Rattle.pieces.specs.Pieces.{behind, is_nil}
-use Rattle.mcf.specs.Grammar as mcf_grammar
-use Rattle.mcf.specs.Grammar.{fault, parts}
+use Rattle.pieces.specs.Pieces.{behind}
+use Rattle.pieces.specs.Lists.{is_empty}
+use Rattle.mcf.specs.Grammar.{fault, field_fault, first_field_fault, is_delimited, is_field_byte, is_identifier, parts}
 use Rattle.mcf.specs.declared.error.Error as mcf_error
 use Rattle.mcf.specs.declared.error.Error.TheVariants as mcf_fault
 use Rattle.std.specs.declared.cmp.Ordering.TheVariants.{Less}
 use Rattle.base64ct.specs.declared.errors.Error.TheVariants.{InvalidEncoding, InvalidLength}
 use Rattle.phc.specs.Encoded.{decoding}
-use Rattle.phc.specs.Grammar.{decimal_value, has_value_bytes, is_name, fault_of, fault_of_layout, first_fault}
+use Rattle.phc.specs.Grammar.{behind_name_fault, decimal_value, has_value_bytes, is_name, fault_of, fault_of_layout}
+use Rattle.pieces.specs.Faults.{first_fault, unless, value_or_fault}
+use Rattle.pieces.proofs.FaultLaws.{each_or, each_unless, of_found}
 use Rattle.phc.specs.Grammar.{hash_fault, cut_pairs, layout, name_fault, pair_fault, params_fault, salt_fault}
-use Rattle.phc.specs.Grammar.{text_fault, unless, value_or_fault, version_fault, is_empty, Layout}
+use Rattle.phc.specs.Grammar.{text_fault, value_fault, version_fault, Layout}
+use Rattle.phc.proofs.LayoutFaults.{behind_hash, behind_id, behind_params, behind_salt, behind_version}
 use Rattle.phc.specs.Record.{phc, record_of_layout}
 use Rattle.phc.specs.declared.error.Error as phc_error
 use Rattle.phc.specs.declared.error.Error.TheVariants as phc_fault
@@ -27,45 +31,32 @@ use Rattle.stored_check.specs.Verdict.{mcf_name, phc_name, sha_name}
 
 -- ---- the modular crypt format
 
-abbrev Mcf : Option mcf_error.Error → Type 0
-Mcf None = ⊤
-Mcf (Some e) = mcf_named (mcf_name e) ≡ e
+abbrev McfNamed : mcf_error.Error → Type 0
+McfNamed e = mcf_named (mcf_name e) ≡ e
 
-mcf_or : (a b : Option mcf_error.Error) → Mcf a → Mcf b → Mcf (mcf_grammar.or_else a b)
-mcf_or None b ha hb = hb
-mcf_or (Some e) b ha hb = ha
-
-mcf_unless : (t : Bool) (e : mcf_error.Error) → mcf_named (mcf_name e) ≡ e → Mcf (mcf_grammar.unless t e)
-mcf_unless true e h = tt
-mcf_unless false e h = h
-
-mcf_bytes : (t : Bool) → Mcf (if t then None else Some mcf_fault.EncodingInvalid)
+mcf_bytes : (t : Bool) → IfSome (if t then None else Some mcf_fault.EncodingInvalid) McfNamed
 mcf_bytes true = tt
 mcf_bytes false = refl
 
-mcf_field : (s : List ℕ) → Mcf (mcf_grammar.field_fault s)
+mcf_field : (s : List ℕ) → IfSome (field_fault s) McfNamed
 mcf_field [] = refl
-mcf_field (b ∷ s) = mcf_bytes (list_all mcf_grammar.is_field_byte (b ∷ s))
+mcf_field (b ∷ s) = mcf_bytes (list_all is_field_byte (b ∷ s))
 
-mcf_fields : (fields : List (List ℕ)) → Mcf (mcf_grammar.first_field_fault fields)
+mcf_fields : (fields : List (List ℕ)) → IfSome (first_field_fault fields) McfNamed
 mcf_fields [] = tt
 mcf_fields (field ∷ fields) =
-    mcf_or (mcf_grammar.field_fault field) (mcf_grammar.first_field_fault fields) (mcf_field field) (mcf_fields fields)
+    each_or McfNamed (field_fault field) (first_field_fault fields) (mcf_field field) (mcf_fields fields)
 
-of_mcf : (stored : List ℕ) → Mcf (fault stored)
+of_mcf : (stored : List ℕ) → IfSome (fault stored) McfNamed
 of_mcf stored =
-    mcf_or (mcf_grammar.unless (mcf_grammar.is_delimited stored) mcf_fault.DelimiterInvalid) _
-    (mcf_unless (mcf_grammar.is_delimited stored) mcf_fault.DelimiterInvalid refl)
-    (mcf_or (mcf_grammar.unless (mcf_grammar.is_identifier (parts stored).id) mcf_fault.IdentifierInvalid) _
-    (mcf_unless (mcf_grammar.is_identifier (parts stored).id) mcf_fault.IdentifierInvalid refl)
+    each_or McfNamed (unless (is_delimited stored) mcf_fault.DelimiterInvalid) _
+    (each_unless McfNamed (is_delimited stored) mcf_fault.DelimiterInvalid refl)
+    (each_or McfNamed (unless (is_identifier (parts stored).id) mcf_fault.IdentifierInvalid) _
+    (each_unless McfNamed (is_identifier (parts stored).id) mcf_fault.IdentifierInvalid refl)
     (mcf_fields (parts stored).fields))
 
-mcf_by : (o : Option mcf_error.Error) (e : mcf_error.Error) → Mcf o → o ≡ Some e → mcf_named (mcf_name e) ≡ e
-mcf_by None e h is = absurd cc
-mcf_by (Some f) e h is = let same : f ≡ e = cc in rw same at h
-
 pub mcf_has_name : (stored : List ℕ) (e : mcf_error.Error) → fault stored ≡ Some e → mcf_named (mcf_name e) ≡ e
-mcf_has_name stored e is = mcf_by (fault stored) e (of_mcf stored) is
+mcf_has_name stored e is = of_found McfNamed (fault stored) e (of_mcf stored) is
 
 -- ---- SHA-crypt
 
@@ -81,7 +72,7 @@ sha_salt : (n : ℕ) (w : Bool) (pieces : List (List ℕ)) → Sha (from_salt n 
 sha_salt n w [] = refl
 sha_salt n w (s ∷ []) = refl
 sha_salt n w (s ∷ (h ∷ more)) =
-    sha_if (is_nil more) (fields_in_range n w s h) _ (sha_if (nat_lt n 1000 || nat_lt 999999999 n) _ _ refl tt) refl
+    sha_if (is_empty more) (fields_in_range n w s h) _ (sha_if (nat_lt n 1000 || nat_lt 999999999 n) _ _ refl tt) refl
 
 sha_with : (o : Option ℕ) (pieces : List (List ℕ)) → Sha (with_rounds o pieces)
 sha_with None pieces = refl
@@ -91,7 +82,7 @@ sha_rounds : (o : Option (List ℕ)) (first : List ℕ) (pieces : List (List ℕ
     → Sha (by_rounds plain_number o first pieces)
 sha_rounds None first pieces = sha_salt 5000 false (first ∷ pieces)
 sha_rounds (Some digits) first pieces =
-    sha_if (is_nil pieces) _ (with_rounds (plain_number digits) pieces) refl (sha_with (plain_number digits) pieces)
+    sha_if (is_empty pieces) _ (with_rounds (plain_number digits) pieces) refl (sha_with (plain_number digits) pieces)
 
 sha_form : (pieces : List (List ℕ)) → Sha (split_fields plain_number pieces)
 sha_form [] = refl
@@ -120,97 +111,88 @@ sha_has_name s pieces e is = sha_by (scheme_fields s pieces) e (of_sha s pieces)
 
 -- ---- PHC texts
 
-abbrev Phc : Option phc_error.Error → Type 0
-Phc None = ⊤
-Phc (Some e) = phc_named (phc_name e) ≡ e
+abbrev PhcNamed : phc_error.Error → Type 0
+PhcNamed e = phc_named (phc_name e) ≡ e
 
-phc_unless : (t : Bool) (e : phc_error.Error) → phc_named (phc_name e) ≡ e → Phc (unless t e)
-phc_unless true e h = tt
-phc_unless false e h = h
-
-phc_part : (f : List ℕ → Option phc_error.Error) → ((s : List ℕ) → Phc (f s)) → (o : Option (List ℕ))
-    → Phc (fault_of f o)
+phc_part : (f : List ℕ → Option phc_error.Error) → ((s : List ℕ) → IfSome (f s) PhcNamed) → (o : Option (List ℕ))
+    → IfSome (fault_of f o) PhcNamed
 phc_part f h None = tt
 phc_part f h (Some s) = h s
 
--- the first of two, three or four tests that fails
-phc_two : (a b : Bool) (e f : phc_error.Error) → phc_named (phc_name e) ≡ e → phc_named (phc_name f) ≡ f
-    → Phc (first_fault (unless a e ∷ (unless b f ∷ [])))
+-- the first of two or three tests that fails
+phc_two : (a b : Bool) (e f : phc_error.Error) → PhcNamed e → PhcNamed f
+    → IfSome (first_fault (unless a e ∷ (unless b f ∷ []))) PhcNamed
 phc_two false b e f he hf = he
 phc_two true false e f he hf = hf
 phc_two true true e f he hf = tt
 
-phc_three : (a b c : Bool) (e f g : phc_error.Error) → phc_named (phc_name e) ≡ e → phc_named (phc_name f) ≡ f
-    → phc_named (phc_name g) ≡ g
-    → Phc (first_fault (unless a e ∷ (unless b f ∷ (unless c g ∷ []))))
+phc_three : (a b c : Bool) (e f g : phc_error.Error) → PhcNamed e → PhcNamed f → PhcNamed g
+    → IfSome (first_fault (unless a e ∷ (unless b f ∷ (unless c g ∷ [])))) PhcNamed
 phc_three false b c e f g he hf hg = he
 phc_three true b c e f g he hf hg = phc_two b c f g hf hg
 
-phc_four : (a b c d : Bool) (e f g h : phc_error.Error) → phc_named (phc_name e) ≡ e → phc_named (phc_name f) ≡ f
-    → phc_named (phc_name g) ≡ g → phc_named (phc_name h) ≡ h
-    → Phc (first_fault (unless a e ∷ (unless b f ∷ (unless c g ∷ (unless d h ∷ [])))))
-phc_four false b c d e f g h he hf hg hh = he
-phc_four true b c d e f g h he hf hg hh = phc_three b c d f g h hf hg hh
-
-phc_cons : (o : Option phc_error.Error) (os : List (Option phc_error.Error)) → Phc o → Phc (first_fault os)
-    → Phc (first_fault (o ∷ os))
-phc_cons (Some e) os h hs = h
-phc_cons None os h hs = hs
-
-phc_version : (s : List ℕ) → Phc (version_fault s)
+phc_version : (s : List ℕ) → IfSome (version_fault s) PhcNamed
 phc_version s = phc_two (nat_le (length s) 64) (is_some (decimal_value s)) phc_fault.ParamValueTooLong
     phc_fault.ParamValueInvalid refl refl
 
-phc_pair : (pieces : List (List ℕ)) → Phc (pair_fault pieces)
+phc_id : (s : List ℕ) → IfSome (name_fault s) PhcNamed
+phc_id s = each_unless PhcNamed (is_name s) phc_fault.ParamNameInvalid refl
+
+phc_behind : (pieces : List (List ℕ)) → IfSome (behind_name_fault pieces) PhcNamed
+phc_behind [] = refl
+phc_behind (value ∷ more) =
+    each_or PhcNamed (value_fault value) (unless (is_empty more) phc_fault.ParamValueInvalid)
+    (phc_two (nat_le (length value) 64) (has_value_bytes value) phc_fault.ParamValueTooLong phc_fault.ParamValueInvalid
+    refl refl)
+    (each_unless PhcNamed (is_empty more) phc_fault.ParamValueInvalid refl)
+
+phc_pair : (pieces : List (List ℕ)) → IfSome (pair_fault pieces) PhcNamed
 phc_pair [] = refl
-phc_pair (name ∷ []) = phc_two (is_name name) false phc_fault.ParamNameInvalid phc_fault.ParamValueInvalid refl refl
-phc_pair (name ∷ (value ∷ more)) =
-    phc_four (is_name name) (nat_le (length value) 64) (has_value_bytes value) (is_nil more)
-    phc_fault.ParamNameInvalid phc_fault.ParamValueTooLong phc_fault.ParamValueInvalid phc_fault.ParamValueInvalid refl
-    refl refl refl
+phc_pair (name ∷ pieces) =
+    each_or PhcNamed (name_fault name) (behind_name_fault pieces) (phc_id name) (phc_behind pieces)
 
-phc_pairs : (pairs : List (List (List ℕ))) → Phc (first_fault (map pair_fault pairs))
+phc_pairs : (pairs : List (List (List ℕ))) → IfSome (first_fault (map pair_fault pairs)) PhcNamed
 phc_pairs [] = tt
-phc_pairs (pair ∷ pairs) = phc_cons (pair_fault pair) (map pair_fault pairs) (phc_pair pair) (phc_pairs pairs)
+phc_pairs (pair ∷ pairs) =
+    each_or PhcNamed (pair_fault pair) (first_fault (map pair_fault pairs)) (phc_pair pair) (phc_pairs pairs)
 
-phc_if : (t : Bool) (x y : Option phc_error.Error) → Phc x → Phc y → Phc (if t then x else y)
+phc_if : (t : Bool) (x y : Option phc_error.Error) → IfSome x PhcNamed → IfSome y PhcNamed
+    → IfSome (if t then x else y) PhcNamed
 phc_if true x y hx hy = hx
 phc_if false x y hx hy = hy
 
-phc_params : (s : List ℕ) → Phc (text_fault s)
+phc_params : (s : List ℕ) → IfSome (text_fault s) PhcNamed
 phc_params s =
     phc_if (is_empty s) None (params_fault s) tt
-    (phc_cons (unless (nat_le (length s) 127) phc_fault.ParamsMaxExceeded) (map pair_fault (cut_pairs s))
-    (phc_unless (nat_le (length s) 127) phc_fault.ParamsMaxExceeded refl)
+    (each_or PhcNamed (unless (nat_le (length s) 127) phc_fault.ParamsMaxExceeded)
+    (first_fault (map pair_fault (cut_pairs s)))
+    (each_unless PhcNamed (nat_le (length s) 127) phc_fault.ParamsMaxExceeded refl)
     (phc_pairs (cut_pairs s)))
 
-phc_salt : (s : List ℕ) → Phc (salt_fault s)
+phc_salt : (s : List ℕ) → IfSome (salt_fault s) PhcNamed
 phc_salt s =
     phc_three (nat_le 11 (length s)) (nat_le (length s) 64) (is_some (decoding s))
     phc_fault.SaltTooShort phc_fault.SaltTooLong (phc_fault.Base64 InvalidEncoding) refl refl refl
 
-phc_hash : (s : List ℕ) → Phc (hash_fault s)
+phc_hash : (s : List ℕ) → IfSome (hash_fault s) PhcNamed
 phc_hash s =
     phc_three (nat_le (length s) 86) (is_some (decoding s)) (nat_le 10 (length (unwrap_or (decoding s) [])))
     (phc_fault.Base64 InvalidLength) (phc_fault.Base64 InvalidEncoding) (phc_fault.OutputSize Less 10) refl refl refl
 
-of_layout : (id : List ℕ) (l : Layout) → Phc (fault_of_layout id l)
+of_layout : (id : List ℕ) (l : Layout) → IfSome (fault_of_layout id l) PhcNamed
 of_layout id l =
-    let version : Option phc_error.Error = fault_of version_fault l.version in
-    let params : Option phc_error.Error = fault_of text_fault l.params in
-    let salt : Option phc_error.Error = fault_of salt_fault l.salt in
-    let hash : Option phc_error.Error = fault_of hash_fault l.hash in
-    let rest : Option phc_error.Error = unless (is_nil l.rest) phc_fault.TrailingData in
-    phc_cons (name_fault id) (version ∷ (params ∷ (salt ∷ (hash ∷ (rest ∷ [])))))
-    (phc_unless (is_name id) phc_fault.ParamNameInvalid refl)
-    (phc_cons version (params ∷ (salt ∷ (hash ∷ (rest ∷ [])))) (phc_part version_fault phc_version l.version)
-    (phc_cons params (salt ∷ (hash ∷ (rest ∷ []))) (phc_part text_fault phc_params l.params)
-    (phc_cons salt (hash ∷ (rest ∷ [])) (phc_part salt_fault phc_salt l.salt)
-    (phc_cons hash (rest ∷ []) (phc_part hash_fault phc_hash l.hash)
-    (phc_cons rest [] (phc_unless (is_nil l.rest) phc_fault.TrailingData refl) tt)))))
+    each_or PhcNamed (name_fault id) (first_fault (behind_id l)) (phc_id id)
+    (each_or PhcNamed (fault_of version_fault l.version) (first_fault (behind_version l))
+    (phc_part version_fault phc_version l.version)
+    (each_or PhcNamed (fault_of text_fault l.params) (first_fault (behind_params l))
+    (phc_part text_fault phc_params l.params)
+    (each_or PhcNamed (fault_of salt_fault l.salt) (first_fault (behind_salt l)) (phc_part salt_fault phc_salt l.salt)
+    (each_or PhcNamed (fault_of hash_fault l.hash) (first_fault (behind_hash l)) (phc_part hash_fault phc_hash l.hash)
+    (each_or PhcNamed (unless (is_empty l.rest) phc_fault.TrailingData) None
+    (each_unless PhcNamed (is_empty l.rest) phc_fault.TrailingData refl) tt)))))
 
-phc_by : (r : PasswordHash) (o : Option phc_error.Error) (e : phc_error.Error) → Phc o → value_or_fault r o ≡ Err e
-    → phc_named (phc_name e) ≡ e
+phc_by : (r : PasswordHash) (o : Option phc_error.Error) (e : phc_error.Error) → IfSome o PhcNamed
+    → value_or_fault r o ≡ Err e → PhcNamed e
 phc_by r None e h is = absurd cc
 phc_by r (Some f) e h is = let same : f ≡ e = cc in rw same at h
 

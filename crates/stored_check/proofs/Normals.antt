@@ -10,12 +10,14 @@ use Rattle.std.specs.Str.{all_ascii_digits}
 use Rattle.std.proofs.lemmas.Bool.{and_parts}
 use Rattle.std.proofs.lemmas.Fmt.{digits_decimal}
 use Rattle.std.proofs.lemmas.Str.Parse.{numerals_by_value, tells_all_ascii_digits}
-use Rattle.mcf.specs.Grammar.{mcf, fault, field_fault, first_field_fault, is_empty, is_field_byte, is_identifier, parts}
+use Rattle.mcf.specs.Grammar.{mcf, fault, field_fault, first_field_fault, is_field_byte, is_identifier, parts}
+use Rattle.pieces.specs.Lists.{is_empty}
 use Rattle.mcf.specs.Grammar.{Parts, parts_or_fault, parts_text}
 use Rattle.mcf.specs.declared.error.Error as mcf_error
 use Rattle.mcf.specs.declared.error.Error.TheVariants.{FieldInvalid, EncodingInvalid}
 use Rattle.mcf.proofs.Built.{mcf-parts_text}
-use Rattle.mcf.proofs.ValidTexts.{or_none, some_none, valid_of}
+use Rattle.mcf.proofs.ValidTexts.{valid_of}
+use Rattle.pieces.proofs.FaultLaws.{or_none, some_none}
 use Rattle.phc.specs.declared.password_hash.PasswordHash.{PasswordHash}
 use Rattle.sha_crypt.specs.Families.{Scheme, scheme_fields, old_scheme_fields}
 use Rattle.sha_crypt.specs.Fields.{ShaFields, cut_salt, old_number}

@@ -26,7 +26,8 @@ use Rattle.sha_crypt.proofs.Shapes.{Stands}
 use Rattle.sha_crypt.proofs.Spellings.{join-pieces, old_form}
 use Rattle.stored_check.specs.Normal.{normal, normal_fields, normal_parts, written_anew}
 use Rattle.stored_check.specs.NormalViews.{text_or_record}
-use Rattle.stored_check.specs.Verdict.{same_text, scheme_of}
+use Rattle.stored_check.specs.Verdict.{named_family, same_text, scheme_of}
+use Rattle.stored_check.proofs.FamilyTexts.{id_of_family}
 
 true_false : true ≡ false → ⊥
 true_false h = cc
@@ -65,12 +66,13 @@ by_record family stored id (Ok f) (Some x) is h same =
     ∙ sym (printed_is family (fields_of_record x)) ∙ ap (λ (k : Family). record_text k (fields_of_record x)) (sym same)
 
 pub normal_of_record : (family : Family) (stored : List ℕ) (r : Option ShaRecord) → fault stored ≡ None
-    → scheme_of (parts stored).id ≡ Some (family_scheme family)
-    → same_text (parts stored).id (family_id family) ≡ true → kept_fields r ≡ old_record_of family stored
+    → named_family (parts stored).id ≡ Some family → kept_fields r ≡ old_record_of family stored
     → IfSome r (λ (x : ShaRecord). family_of x ≡ family)
     → normal stored ≡ text_or_record stored r
-normal_of_record family stored r valid scheme same kept is =
-    normal_valid stored valid ∙ ap (λ (o : Option Scheme). normal_parts stored o (parts stored)) scheme
+normal_of_record family stored r valid named kept is =
+    let same = id_of_family (parts stored).id family named in
+    normal_valid stored valid
+    ∙ ap (λ (o : Option Family). normal_parts stored (option_map family_scheme o) (parts stored)) named
     ∙ by_record family stored (parts stored).id (old_scheme_fields (family_scheme family) (parts stored).fields) r
     (same_true (parts stored).id (family_id family) same)
     (kept ∙ old_record_is family stored valid same) is

@@ -8,11 +8,11 @@ ghost use Rattle.phc.specs.Record.{phc_text};
 ghost use Rattle.stored_check.specs.Counts.{hash_length, record_hash_length, verdict_comparisons, verdict_looks};
 ghost use Rattle.stored_check.specs.Verdict.{IsVerdict, key_answer, may_lack_memory, phc_answer, record_needs, same_text, verdict};
 
+use crate::family::{check_family, named_family};
 use crate::names::{mcf_name, phc_name, sha_verdict};
 use crate::{PhcKdf, StoredError};
 use base64ct::Counts;
 use mcf::PasswordHashRef;
-use sha_crypt::{sha256_check_counted, sha512_check_counted};
 use std::alloc::Global;
 
 /// The most bytes of a password.
@@ -149,12 +149,8 @@ pub fn check_stored_counted<K: PhcKdf>(
         Ok(text) => text,
         Err(e) => return Err(StoredError::Mcf(mcf_name(e))),
     };
-    let id = text.id();
-    if id == "5" {
-        return sha_verdict(sha256_check_counted(password, stored, counts));
+    match named_family(text.id()) {
+        Some(family) => sha_verdict(check_family(family, password, stored, counts)),
+        None => check_phc(alloc, kdf, password, stored, counts),
     }
-    if id == "6" {
-        return sha_verdict(sha512_check_counted(password, stored, counts));
-    }
-    check_phc(alloc, kdf, password, stored, counts)
 }

@@ -6,6 +6,7 @@
 
 mod check;
 mod error;
+mod family;
 mod kdf;
 pub mod laws;
 mod names;

@@ -1,7 +1,8 @@
 //! Unwrapping between a source and a sink.
 
 ghost use Rattle.std.specs.Prelude.{◌≡◌, ◌≢◌, ◌≤◌, ◌^◌, ◌⊎◌, true, false};
-ghost use Rattle.line_io.specs.Devices.{AppendsPrefix, HasRisen, WhereTold};
+ghost use Rattle.line_io.specs.Devices.{AppendsPrefix, WhereTold};
+ghost use Rattle.pieces.specs.FaultCounts.{HasRisen};
 ghost use Rattle.std.specs.Io.KnownBytes.{Appends};
 ghost use Rattle.wrap_stream.specs.Outcomes.{UnwrapOutcome};
 ghost use Rattle.wrap_stream.specs.Reading.{begins_block, end_bytes, is_complete};

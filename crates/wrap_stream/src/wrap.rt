@@ -4,7 +4,8 @@ ghost use Rattle.std.specs.Prelude.{◌≡◌, ◌≢◌, ◌<◌, ◌≤◌, �
 ghost use Rattle.std.specs.Io.KnownBytes.{Consumes, IsAtEnd, Keeps};
 ghost use Rattle.base64ct.specs.Alphabets.{base64};
 ghost use Rattle.base64ct.specs.Encoding.{encoding, EachBelow};
-ghost use Rattle.line_io.specs.Devices.{HasRisen, WhereTold};
+ghost use Rattle.line_io.specs.Devices.{WhereTold};
+ghost use Rattle.pieces.specs.FaultCounts.{HasRisen};
 ghost use Rattle.wrap_stream.specs.Outcomes.{WrapOutcome};
 ghost use Rattle.base64ct.specs.Encoders.{room_after, wrap_from};
 

@@ -1,7 +1,8 @@
 //! Notes: a program with a state and with replies as long as all that it keeps.
 
 ghost use Rattle.std.specs.Prelude.{◌≡◌, ◌≢◌, ◌≤◌, ◌^◌, ℕ, List, [], ◌∷◌, ◌++◌, length, map, vec_items, OnErr, OnOk};
-ghost use Rattle.line_io.specs.Devices.{HasRisen, WhereTold};
+ghost use Rattle.line_io.specs.Devices.{WhereTold};
+ghost use Rattle.pieces.specs.FaultCounts.{HasRisen};
 ghost use Rattle.line_io.specs.Output.{Puts};
 ghost use Rattle.line_program.specs.Outcome.{Outcome};
 ghost use Rattle.line_program.specs.Toys.{listing, program_rules};

@@ -1,6 +1,7 @@
 use Rattle.std.proofs.Common.{◌≡◌, length}
 use Rattle.pieces.specs.Pieces.{pieces_left}
-use Rattle.mcf.specs.Grammar.{dollar, first_field_fault}
+use Rattle.mcf.specs.Grammar.{first_field_fault}
+use Rattle.pieces.specs.Characters.{dollar}
 use Rattle.mcf.proofs.fields.first_fault.Given as goal
 
 -- the fields that are left have the first fault of all

@@ -1,5 +1,4 @@
-use Rattle.std.proofs.Common.{rules, arith, lit<, ◌≡◌, ◌≤◌, ◌^◌, ◌<◌, length}
-use Rattle.std.specs.Fmt.{decimal}
+use Rattle.std.proofs.Common.{rules, arith, lit<, ◌≡◌, ◌^◌, ◌<◌, length}
 use Rattle.std.proofs.lemmas.Fmt.{length-decimal-le}
 use Rattle.pieces.proofs.tests.digits_of.Goals as goal
 
