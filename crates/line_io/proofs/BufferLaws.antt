@@ -1,5 +1,5 @@
 -- Laws of a line buffer.
-use Rattle.std.proofs.Common.{zero, suc, ◌≡◌, ℕ, ◌<◌, ◌≤◌, ◌+◌, ◌-◌, Bool, true, false, List, [], ◌∷◌, ◌++◌, inl, inr}
+use Rattle.std.proofs.Common.{zero, suc, ◌≡◌, ◌≢◌, ℕ, ◌<◌, ◌≤◌, ◌+◌, ◌-◌, Bool, true, false, List, [], ◌∷◌, ◌++◌, inl, inr}
 use Rattle.std.proofs.Common.{length, get_or, take, drop, Option, refl, sym, ap, ◌∙◌, append_assoc, add-one, arith}
 use Rattle.std.proofs.Common.{rules, drop-cons, length-drop, length-append, eqb}
 use borrow.Rule.Slice.PartMut.{put_mid, post_of}
@@ -11,14 +11,16 @@ use Rattle.std.proofs.lemmas.List.{drop-append-le}
 use Rattle.std.proofs.lemmas.List.Folds.{list_any-append}
 use Rattle.std.proofs.lemmas.Slice.{take-put_mid_below}
 use Rattle.std.proofs.Math.Seq.{take-append-add, take-length}
-use Rattle.std.specs.Io.KnownBytes.{Consumes, Keeps}
+use Rattle.std.specs.Io.KnownBytes.{Consumes}
 use Rattle.line_io.specs.Lines.{is_feed, NoFeed}
-use Rattle.line_io.proofs.Moved.{append-nil, consumes_none, consumes_more, consumes_keeps}
+use Rattle.line_io.proofs.Moved.{append-nil, consumes_none, consumes_more}
 use Rattle.line_io.specs.declared.buffer.LineBuffer.{LineBuffer}
 use Rattle.line_io.specs.declared.buffer.Line.{Line}
 use Rattle.line_io.specs.declared.buffer.Line.TheVariants.{Whole, TooLong, End, Failed, Budget}
-use Rattle.line_io.specs.Buffer.{pending, line, taken, max_bytes, is_ended, among_first, IsFirstLine, Answers, Takes}
-use Rattle.line_io.specs.Steps.{Fills, KeepsRest, KeepsAll}
+use Rattle.line_io.specs.Buffer.{pending, line, taken, max_bytes, is_ended, is_closed, is_last, among_first, IsFirstLine, Answers}
+use Rattle.line_io.specs.Buffer.{Takes, KnowsEnd}
+use Rattle.line_io.specs.Steps.{Fills, KeepsRest, Closes}
+use Rattle.line_io.specs.Runs.{IsCall}
 
 pub dropped : (bytes : List ℕ) (start end k : ℕ) → k ≤ end - start →
     take (end - (start + k)) (drop (start + k) bytes) ≡ drop k (take (end - start) (drop start bytes))
@@ -86,6 +88,38 @@ pub split_at : (text : List ℕ) (at : ℕ) → at < length text
     → take at text ++ get_or text at 0 ∷ drop (at + 1) text ≡ text
 split_at text at within = rw (add-one, ← drop-cons text at 0) (take-append-drop at text)
 
+-- the budget is the same, the buffer is open, and an end that was seen stays one
+pub record StaysOpen (left left_now : Option (List ℕ)) (before now : LineBuffer) : Type 0 where
+  pub max_same : max_bytes now ≡ max_bytes before
+  pub unclosed : is_closed now ≡ false
+  pub after_end : is_ended before ≡ true → (is_ended now ≡ true) × (taken now ≡ taken before)
+  pub at_end : KnowsEnd before left → KnowsEnd now left_now
+
+-- a step that reads nothing
+stays_open : (left left_now : Option (List ℕ)) (before mid now : LineBuffer) → StaysOpen left left_now before mid
+    → KeepsRest mid now → StaysOpen left left_now before now
+stays_open left left_now before mid now o k = record {
+  max_same = k.max_same ∙ o.max_same;
+  unclosed = k.closed_same ∙ o.unclosed;
+  after_end = λ e. (k.ended_same ∙ (o.after_end e).0, k.taken_same ∙ (o.after_end e).1);
+  at_end = λ known ended. o.at_end known (sym k.ended_same ∙ ended);
+}
+
+-- a step that reads
+reads_open : (left mid_left left_now : Option (List ℕ)) (before mid now : LineBuffer)
+    → StaysOpen left mid_left before mid → is_ended mid ≡ false → Fills mid_left left_now mid now
+    → StaysOpen left left_now before now
+reads_open left mid_left left_now before mid now o unended f = record {
+  max_same = f.max_same ∙ o.max_same;
+  unclosed = f.closed_same ∙ o.unclosed;
+  after_end = λ e. absurd (let w = (o.after_end e).0 in cc);
+  at_end = λ known ended. f.at_end (read_end _ _ f.end ended);
+}
+  where
+    -- a read that ended gave nothing
+    read_end : (now : Bool) (n : ℕ) → now ≡ eqb n 0 → now ≡ true → n ≡ 0
+    read_end now n e on = let t : eqb n 0 ≡ true = sym e ∙ on in search rules
+
 -- What a call has gathered: `gone` is the dropped end of a long line, and none of the first `seen` pending bytes is a
 -- feed.
 pub record Gathered (left left_now : Option (List ℕ)) (before now : LineBuffer) (long : Bool) (seen : ℕ) : Type 0 where
@@ -99,26 +133,45 @@ pub record Gathered (left left_now : Option (List ℕ)) (before now : LineBuffer
   pub longer : long ≡ true → 8192 < length gone
   pub seen_free : NoFeed (take seen (pending now))
   pub seen_within : seen ≤ length (pending now)
+  pub stays : StaysOpen left left_now before now
 
-pub start : (left : Option (List ℕ)) (b : LineBuffer) → Gathered left left b b false 0
-start left b = record {
+pub keeps_same : (b : LineBuffer) → KeepsRest b b
+keeps_same b = record {
+  taken_same = refl;
+  max_same = refl;
+  ended_same = refl;
+  closed_same = refl;
+}
+
+pub start : (left : Option (List ℕ)) (before now : LineBuffer) → is_closed before ≡ false
+    → pending now ≡ pending before → KeepsRest before now → Gathered left left before now false 0
+start left before now unclosed same k = record {
   gone = [];
   bytes = [];
   consumed = consumes_none left;
-  counted = omega arith;
-  whole = append-nil (pending b);
+  counted = omega (arith, k.taken_same);
+  whole = append-nil (pending before) ∙ sym same;
   free = refl;
   short = λ e. refl;
   longer = λ e. absurd (cc);
   seen_free = refl;
   seen_within = omega arith;
+  stays = stays_open left left before before now unread k;
 }
+  where
+    unread : StaysOpen left left before before
+    unread = record {
+      max_same = refl;
+      unclosed = unclosed;
+      after_end = λ e. (e, refl);
+      at_end = λ known. known;
+    }
 
 -- a read
 pub fill_step : (left mid_left left_now : Option (List ℕ)) (before mid now : LineBuffer) (long : Bool) (seen : ℕ) →
-    seen ≡ length (pending mid) → Gathered left mid_left before mid long seen → Fills mid_left left_now mid now →
-    Gathered left left_now before now long seen
-fill_step left mid_left left_now before mid now long seen all g f = record {
+    seen ≡ length (pending mid) → Gathered left mid_left before mid long seen → is_ended mid ≡ false
+    → Fills mid_left left_now mid now → Gathered left left_now before now long seen
+fill_step left mid_left left_now before mid now long seen all g unended f = record {
   gone = g.gone;
   bytes = g.bytes ++ f.bytes;
   consumed = consumes_more left mid_left left_now g.bytes f.bytes g.consumed f.consumed;
@@ -130,6 +183,7 @@ fill_step left mid_left left_now before mid now long seen all g f = record {
   longer = g.longer;
   seen_free = rw (f.added, take-append-le seen (pending mid) f.bytes g.seen_within) g.seen_free;
   seen_within = rw (f.added, length-append (pending mid) f.bytes) (omega arith);
+  stays = reads_open left mid_left left_now before mid now g.stays unended f;
 }
 
 -- no feed is pending
@@ -160,6 +214,7 @@ drop_step left left_now before mid now long next seen g free e p k =
                 rw (length-append g.gone (pending mid)) (omega arith);
             seen_free = rw q refl;
             seen_within = omega arith;
+            stays = stays_open left left_now before mid now g.stays k;
           }
       | inr fits ↦
           let q : pending now ≡ pending mid = rw fits at p in
@@ -175,6 +230,7 @@ drop_step left left_now before mid now long next seen g free e p k =
             longer = λ f. g.longer (sym s ∙ f);
             seen_free = rw (q, take-length (pending mid)) free;
             seen_within = omega arith;
+            stays = stays_open left left_now before mid now g.stays k;
           }
     ]
 
@@ -232,47 +288,67 @@ takes answer left left_now before now bytes consumed counted answered = record {
   budget = spends_exactly answer (pending before ++ bytes) now answered;
 }
 
+-- a call that answered a line
+line_call : (answer : Line) (left left_now : Option (List ℕ)) (before now : LineBuffer) → is_last answer ≡ false
+    → StaysOpen left left_now before now → Takes answer left left_now before now
+    → IsCall answer left left_now before now
+line_call answer left left_now before now going o t = record {
+  takes = t;
+  max_same = o.max_same;
+  closed = o.unclosed ∙ sym going;
+  after_end = λ e. ((o.after_end e).1, no_fault answer going);
+  at_end = o.at_end;
+}
+  where
+    no_fault : (answer : Line) → is_last answer ≡ false → answer ≢ Failed
+    no_fault (Whole n) going = λ h. cc
+    no_fault TooLong going = λ h. cc
+    no_fault End going = λ h. cc
+    no_fault Failed going = absurd (cc)
+    no_fault Budget going = λ h. cc
+
+-- a call that answered an end
+last_call : (answer : Line) (left left_now : Option (List ℕ)) (before mid now : LineBuffer) → is_last answer ≡ true
+    → answer ≢ Failed → StaysOpen left left_now before mid → Closes mid now → Takes answer left left_now before now
+    → IsCall answer left left_now before now
+last_call answer left left_now before mid now last no_fault o k t = record {
+  takes = t;
+  max_same = k.max_same ∙ o.max_same;
+  closed = k.closed ∙ sym last;
+  after_end = λ e. (k.taken_same ∙ (o.after_end e).1, no_fault);
+  at_end = λ known ended. o.at_end known (sym k.ended_same ∙ ended);
+}
+
 -- no byte among the first is a feed
-pub budget : (left left_now : Option (List ℕ)) (before now : LineBuffer) (long : Bool) (seen : ℕ) →
-    Gathered left left_now before now long seen → line now ≡ [] → is_ended now ≡ false → max_bytes now < taken now →
-    taken now ≤ max_bytes now + length (pending now) → NoFeed (among_first now (pending now)) →
-    Takes Budget left left_now before now
-budget left left_now before now long seen g no_line unended past within free =
-    takes Budget left left_now before now g.bytes g.consumed g.counted (
-      no_line,
-      unended,
-      past,
-      let n : length (pending before ++ g.bytes) - (taken now - max_bytes now)
-          ≡ length g.gone + (length (pending now) - (taken now - max_bytes now)) =
-          rw (g.whole, length-append g.gone (pending now)) (omega arith) in
-          rw (n, g.whole, take-append-add g.gone (pending now) (length (pending now) - (taken now - max_bytes now)))
-          (free-append g.gone (take (length (pending now) - (taken now - max_bytes now)) (pending now)) g.free free),
-    )
+pub budget : (left left_now : Option (List ℕ)) (before mid now : LineBuffer) (long : Bool) (seen : ℕ) →
+    Gathered left left_now before mid long seen → line mid ≡ [] → is_ended mid ≡ false → max_bytes mid < taken mid →
+    taken mid ≤ max_bytes mid + length (pending mid) → NoFeed (among_first mid (pending mid)) → Closes mid now →
+    IsCall Budget left left_now before now
+budget left left_now before mid now long seen g no_line unended past within free k =
+    last_call Budget left left_now before mid now refl (λ h. cc) g.stays k
+    (takes Budget left left_now before now g.bytes g.consumed (k.taken_same ∙ g.counted) (
+      k.line_same ∙ no_line,
+      k.ended_same ∙ unended,
+      omega (arith, k.max_same, k.taken_same, past),
+      ap (list_any is_feed) same_first ∙ none,
+    ))
+  where
+    all : List ℕ
+    all = pending before ++ g.bytes
 
--- the end, with nothing gathered
-pub ended_empty : (left left_now : Option (List ℕ)) (before now : LineBuffer) (seen : ℕ) →
-    Gathered left left_now before now false seen → line now ≡ [] → taken now ≤ max_bytes now → is_ended now ≡ true
-    → length (pending now) ≡ 0 →
-    Takes End left left_now before now
-ended_empty left left_now before now seen g no_line within e none =
-    takes End left left_now before now g.bytes g.consumed g.counted
-    (no_line, e, rw (g.whole, g.short refl) (nothing (pending now) none), within)
+    behind : ℕ
+    behind = taken mid - max_bytes mid
 
--- a failed read
-pub failed : (left mid_left left_now : Option (List ℕ)) (before mid now : LineBuffer) (long : Bool) (seen : ℕ) →
-    seen ≡ length (pending mid) → Gathered left mid_left before mid long seen → line now ≡ []
-    → taken mid ≤ max_bytes mid → is_ended mid ≡ false →
-    KeepsAll mid now → Keeps mid_left left_now →
-    Takes Failed left left_now before now
-failed left mid_left left_now before mid now long seen all g no_line within unended k same =
-    takes Failed left left_now before now g.bytes (consumes_keeps left mid_left left_now g.bytes g.consumed same)
-    (rw k.rest.taken_same g.counted) (
-      no_line,
-      k.rest.ended_same ∙ unended,
-      (let f : NoFeed (pending mid) = rw (all, take-length (pending mid)) at g.seen_free in
-          rw g.whole (free-append g.gone (pending mid) g.free f)),
-      omega (arith, k.rest.taken_same, k.rest.max_same),
-    )
+    same_first : among_first now all ≡ among_first mid all
+    same_first = ap (λ n. take (length all - (n - max_bytes now)) all) k.taken_same
+        ∙ ap (λ n. take (length all - (taken mid - n)) all) k.max_same
+
+    size : length all - behind ≡ length g.gone + (length (pending mid) - behind)
+    size = rw (g.whole, length-append g.gone (pending mid)) (omega arith)
+
+    none : NoFeed (among_first mid all)
+    none = rw (size, g.whole, take-append-add g.gone (pending mid) (length (pending mid) - behind))
+        (free-append g.gone (take (length (pending mid) - behind) (pending mid)) g.free free)
 
 -- the answer for a line of which `gone` was dropped and `tail` is the rest
 line_answers : (t long : Bool) (count : ℕ) (gone tail bytes : List ℕ) (b : LineBuffer) → (long || nat_lt 8192 count) ≡ t
@@ -298,18 +374,24 @@ line_answers false long count gone tail bytes b e short longer gone_free free le
     let none = short p.0 in
     (ap length l ∙ len, fits, (rw l free), (rw l (rw none at first)))
 
-pub line_answer : (left left_now : Option (List ℕ)) (before mid now : LineBuffer) (long : Bool) (seen count : ℕ) →
+line_answer : (left left_now : Option (List ℕ)) (before mid now : LineBuffer) (long : Bool) (seen count : ℕ) →
     (g : Gathered left left_now before mid long seen) → KeepsRest mid now →
     NoFeed (take count (pending mid)) → count ≤ length (pending mid) →
     line now ≡ (if long || nat_lt 8192 count then [] else take count (pending mid)) →
     IsFirstLine (pending before ++ g.bytes) (g.gone ++ take count (pending mid)) now →
-    Takes (if long || nat_lt 8192 count then TooLong else Whole count) left left_now before now
+    IsCall (if long || nat_lt 8192 count then TooLong else Whole count) left left_now before now
 line_answer left left_now before mid now long seen count g k free within l first =
-    takes (if long || nat_lt 8192 count then TooLong else Whole count) left left_now before now g.bytes g.consumed
+    line_call (if long || nat_lt 8192 count then TooLong else Whole count) left left_now before now
+    (goes_on (long || nat_lt 8192 count)) (stays_open left left_now before mid now g.stays k)
+    (takes (if long || nat_lt 8192 count then TooLong else Whole count) left left_now before now g.bytes g.consumed
     (omega (arith, k.taken_same, g.counted))
     (line_answers (long || nat_lt 8192 count) long count g.gone (take count (pending mid)) (pending before ++ g.bytes)
     now refl
-    g.short g.longer g.free free (length-take-le count (pending mid) within) l first)
+    g.short g.longer g.free free (length-take-le count (pending mid) within) l first))
+  where
+    goes_on : (t : Bool) → is_last (if t then TooLong else Whole count) ≡ false
+    goes_on true = refl
+    goes_on false = refl
 
 -- a feed was found
 pub found : (left left_now : Option (List ℕ)) (before mid now : LineBuffer) (long : Bool) (seen at : ℕ) →
@@ -318,7 +400,7 @@ pub found : (left left_now : Option (List ℕ)) (before mid now : LineBuffer) (l
     NoFeed (take at (pending mid)) → get_or (pending mid) at 0 ≡ 10 →
     line now ≡ (if long || nat_lt 8192 at then [] else take at (pending mid)) →
     pending now ≡ drop (at + 1) (pending mid) →
-    Takes (if long || nat_lt 8192 at then TooLong else Whole at) left left_now before now
+    IsCall (if long || nat_lt 8192 at then TooLong else Whole at) left left_now before now
 found left left_now before mid now long seen at g k within past free feed l p =
     line_answer left left_now before mid now long seen at g k free (omega arith) l
     (inl (
@@ -335,7 +417,7 @@ pub last_line : (left left_now : Option (List ℕ)) (before mid now : LineBuffer
     (long ≡ false → 0 < count) →
     line now ≡ (if long || nat_lt 8192 count then [] else take count (pending mid)) →
     pending now ≡ drop (count + 0) (pending mid) →
-    Takes (if long || nat_lt 8192 count then TooLong else Whole count) left left_now before now
+    IsCall (if long || nat_lt 8192 count then TooLong else Whole count) left left_now before now
 last_line left left_now before mid now long seen count g k all free within end some l p =
     let whole : take count (pending mid) ≡ pending mid = rw all (take-length (pending mid)) in
     line_answer left left_now before mid now long seen count g k (rw whole free) (omega arith) l
@@ -349,10 +431,6 @@ last_line left left_now before mid now long seen count g k all free within end s
       (p ∙ nothing (drop (count + 0) (pending mid)) (rw (length-drop (count + 0) (pending mid)) (omega arith))),
       omega (arith, k.taken_same, k.max_same),
     ))
-
--- a read that ended gave nothing
-pub read_end : (now : Bool) (n : ℕ) → now ≡ eqb n 0 → now ≡ true → n ≡ 0
-read_end now n e on = let t : eqb n 0 ≡ true = sym e ∙ on in search rules
 
 -- where a feed is pending, none is missing
 pub feed_pending : (b : LineBuffer) → list_any is_feed (pending b) ≡ true → NoFeed (pending b) → ⊥

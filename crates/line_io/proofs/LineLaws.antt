@@ -1,6 +1,6 @@
 -- Laws of `lines` and `whole_lines`.
 use Rattle.std.proofs.Common.{◌≡◌, ℕ, ◌<◌, Bool, true, false, cond, List, [], ◌∷◌, ◌++◌, length, ◌⊎◌, inl, inr, refl}
-use Rattle.std.proofs.Common.{sym, ap, ◌∙◌, arith, rules}
+use Rattle.std.proofs.Common.{ap, ◌∙◌, arith, rules}
 use Rattle.std.specs.Prelude.{◌||◌, All}
 use Rattle.std.specs.List.{slice_split, list_any, onto_first}
 use Rattle.std.proofs.lemmas.List.Splits.{slice_split_none, slice_split_at, slice_split-cons_no}
@@ -136,28 +136,3 @@ lines-append (b ∷ before) text w =
           rw (lines-onto b (before ++ text) e, lines-onto b before e, ih)
           (onto_append b (lines before) (lines text) (lines-some before (some_length before rest)))
     ]
-
-any-whole_lines : (text : List ℕ) → list_any is_feed (whole_lines text) ≡ list_any is_feed text
-any-whole_lines [] = refl
-any-whole_lines (b ∷ text) = elim (bool_cases (list_any is_feed (b ∷ text))) [
-  | inl e ↦ rw (whole_lines-cons b text e) (ap (λ v. is_feed b || v) (any-whole_lines text))
-  | inr e ↦ rw (whole_lines-none (b ∷ text) e) (sym e)
-]
-
-pub whole_lines-idempotent : (text : List ℕ) → whole_lines (whole_lines text) ≡ whole_lines text
-whole_lines-idempotent [] = refl
-whole_lines-idempotent (b ∷ text) = elim (bool_cases (list_any is_feed (b ∷ text))) [
-  | inl e ↦ let c = whole_lines-cons b text e in
-      let again : list_any is_feed (b ∷ whole_lines text) ≡ true =
-      ap (λ v. is_feed b || v) (any-whole_lines text) ∙ e in
-      rw c (whole_lines-cons b (whole_lines text) again ∙ ap (λ xs. b ∷ xs) (whole_lines-idempotent text))
-  | inr e ↦ rw (whole_lines-none (b ∷ text) e) refl
-]
-
--- what follows the last feed
-pub whole_lines-split : (text : List ℕ) → (tail : List ℕ) × (text ≡ whole_lines text ++ tail) × NoFeed tail
-whole_lines-split [] = ([], refl, refl)
-whole_lines-split (b ∷ text) = elim (bool_cases (list_any is_feed (b ∷ text))) [
-  | inl e ↦ let p = whole_lines-split text in (p.0, rw (whole_lines-cons b text e) (ap (λ xs. b ∷ xs) p.1), p.2)
-  | inr e ↦ (b ∷ text, rw (whole_lines-none (b ∷ text) e) refl, e)
-]

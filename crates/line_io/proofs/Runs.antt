@@ -3,16 +3,15 @@
 use Rattle.std.proofs.Common.{◌≡◌, ℕ, ◌<◌, ◌≤◌, ◌+◌, ◌-◌, Bool, true, false, List, [], ◌∷◌, ◌++◌, ◌⊎◌, inl, inr, length}
 use Rattle.std.proofs.Common.{take, map, Option, None, Some, refl, sym, ap, ◌∙◌, append_assoc, arith, rules}
 use Rattle.std.proofs.Common.{length-append}
-use Rattle.std.specs.List.{list_any, flat_map}
+use Rattle.std.specs.List.{list_any}
 use Rattle.std.proofs.lemmas.List.Folds.{list_any-append}
-use Rattle.std.proofs.lemmas.List.Concat.{flat_map-append}
-use Rattle.std.specs.Prelude.{◌||◌, slice_get, nat_lt}
+use Rattle.std.specs.Prelude.{◌||◌, nat_lt}
 use Rattle.std.specs.Io.KnownBytes.{Consumes}
 use Rattle.std.proofs.Math.Seq.{take-append-add}
 use Rattle.std.proofs.lemmas.List.{take-append-le}
 use Rattle.line_io.specs.Lines.{lines, whole_lines, is_feed, NoFeed}
 use Rattle.line_io.specs.Buffer.{pending, line, taken, max_bytes, is_ended, is_closed, is_last, IsFirstLine, KnowsEnd}
-use Rattle.line_io.specs.Runs.{IsNew, IsCall, Calls, line_answer, AnswersUntil, LinesOfBytes, IsPrefix, StoppedAt}
+use Rattle.line_io.specs.Runs.{IsNew, IsCall, Calls, line_answer, AnswersUntil, LinesOfBytes}
 use Rattle.line_io.specs.declared.buffer.LineBuffer.{LineBuffer}
 use Rattle.line_io.specs.declared.buffer.Line.{Line}
 use Rattle.line_io.specs.declared.buffer.Line.TheVariants.{Whole, TooLong, End, Failed, Budget}
@@ -95,80 +94,69 @@ lines_last : (text l : List ℕ) → whole_lines text ≡ text → NoFeed l → 
     → lines (text ++ l) ≡ lines text ++ l ∷ []
 lines_last text l w free some = lines-append text l w ∙ ap (λ ls. lines text ++ ls) (lines-last l free some)
 
--- One more line. The measure of a loop, max + 1 - (taken - pending), falls.
-pub run_first : (answer : Line) (left left_mid left_now : Option (List ℕ)) (before now : LineBuffer) (max : ℕ)
-    (done : List (List ℕ)) (l : List ℕ) →
-    LinesGiven left left_mid before max done → (c : IsCall answer left_mid left_now before now) → is_last answer ≡ false
-    →
-    NoFeed l → IsFirstLine (pending before ++ c.takes.bytes) l now →
-    LinesGiven left left_now now max (done ++ l ∷ [])
-    × (taken before - length (pending before) < taken now - length (pending now))
-    × (taken before - length (pending before) ≤ max)
-run_first answer left left_mid left_now before now max done l s c going free first =
-    let bytes : List ℕ = c.takes.bytes in
-    let counted = c.takes.counted in
-    let len = ap length s.split ∙ length-append s.text (pending before) in
-    let unclosed : is_closed now ≡ false = c.closed ∙ going in
-    elim s.shape [
-      | inr e ↦ absurd (no_line (pending before ++ bytes) l now
-          (none_left before now bytes e.1 (c.after_end e.0).0 counted) first)
-      | inl w ↦ elim first [
-        | inl ends ↦
-            let split = taken_split s.bytes s.text (pending before) bytes (l ++ 10 ∷ pending now) s.split ends.0
-            ∙ sym (line_text s.text l (pending now)) in
-            let sizes = ap length split in
-            let size_1 = length-append s.bytes bytes in
-            let size_2 = length-append (s.text ++ (l ++ 10 ∷ [])) (pending now) in
-            let size_3 = length-append s.text (l ++ 10 ∷ []) in
-            let size_4 = length-append l (10 ∷ []) in (
-              record {
-                text = s.text ++ (l ++ 10 ∷ []);
-                bytes = s.bytes ++ bytes;
-                consumed = consumes_more left left_mid left_now s.bytes bytes s.consumed c.takes.consumed;
-                counted = omega (arith, s.counted);
-                split = split;
-                given = lines_more s.text l w free ∙ ap (λ ls. ls ++ l ∷ []) s.given;
-                within = omega (arith, ends.1, s.max_same, s.counted, c.max_same);
-                shape = inl (whole_lines-append s.text (l ++ 10 ∷ []) w ∙ ap (λ xs. s.text ++ xs) (whole_line l free));
-                max_same = c.max_same ∙ s.max_same;
-                unclosed = unclosed;
-                at_end = c.at_end s.at_end;
-              },
-              omega (arith, s.counted),
-              omega (arith, s.counted, s.within),
-            )
-        | inr ends ↦
-            let split_l = taken_split s.bytes s.text (pending before) bytes l s.split ends.0 in
-            let split : s.bytes ++ bytes ≡ (s.text ++ l) ++ pending now =
-            rw (ends.3, append-nil (s.text ++ l)) split_l in
-            let sizes = ap length split_l in
-            let size_1 = length-append s.bytes bytes in
-            let size_2 = length-append s.text l in
-            let none = ap length ends.3 in (
-              record {
-                text = s.text ++ l;
-                bytes = s.bytes ++ bytes;
-                consumed = consumes_more left left_mid left_now s.bytes bytes s.consumed c.takes.consumed;
-                counted = omega (arith, s.counted);
-                split = split;
-                given = lines_last s.text l w free ends.1 ∙ ap (λ ls. ls ++ l ∷ []) s.given;
-                within = omega (arith, ends.4, s.max_same, s.counted, c.max_same);
-                shape = inr (ends.2, ends.3);
-                max_same = c.max_same ∙ s.max_same;
-                unclosed = unclosed;
-                at_end = c.at_end s.at_end;
-              },
-              omega (arith, s.counted, ends.1),
-              omega (arith, s.counted, s.within),
-            )
-      ]
-    ]
-
--- what a step gives: the lines so far, and the two facts of a loop's measure
+-- what a step gives: the lines so far, and the two facts of a loop's measure, max + 1 - (taken - pending), which falls
 abbrev pub OneMore : Option (List ℕ) → Option (List ℕ) → LineBuffer → LineBuffer → ℕ → List (List ℕ) → List ℕ → Type 0
 OneMore left left_now before now max done l = LinesGiven left left_now now max (done ++ l ∷ [])
     × (taken before - length (pending before) < taken now - length (pending now))
     × (taken before - length (pending before) ≤ max)
+
+-- one more line, where `text` is what was answered with it
+text_more : (answer : Line) (left left_mid left_now : Option (List ℕ)) (before now : LineBuffer) (max : ℕ)
+    (done : List (List ℕ)) (l text : List ℕ) →
+    (s : LinesGiven left left_mid before max done) → (c : IsCall answer left_mid left_now before now)
+    → is_last answer ≡ false → s.bytes ++ c.takes.bytes ≡ text ++ pending now → lines text ≡ lines s.text ++ l ∷ []
+    → length s.text < length text → taken now ≤ max_bytes now + length (pending now)
+    → (whole_lines text ≡ text) ⊎ ((is_ended now ≡ true) × (pending now ≡ []))
+    → OneMore left left_now before now max done l
+text_more answer left left_mid left_now before now max done l text s c going split given more fits shape =
+    let before_size = ap length s.split ∙ length-append s.text (pending before) in
+    let size = ap length split ∙ length-append text (pending now) in
+    let sum = length-append s.bytes c.takes.bytes in (
+      record {
+        text = text;
+        bytes = s.bytes ++ c.takes.bytes;
+        consumed = consumes_more left left_mid left_now s.bytes c.takes.bytes s.consumed c.takes.consumed;
+        counted = omega (arith, s.counted, c.takes.counted);
+        split = split;
+        given = given ∙ ap (λ ls. ls ++ l ∷ []) s.given;
+        within = omega (arith, s.counted, c.takes.counted, s.max_same, c.max_same);
+        shape = shape;
+        max_same = c.max_same ∙ s.max_same;
+        unclosed = c.closed ∙ going;
+        at_end = c.at_end s.at_end;
+      },
+      omega (arith, s.counted, c.takes.counted),
+      omega (arith, s.counted, s.within),
+    )
+
+pub run_first : (answer : Line) (left left_mid left_now : Option (List ℕ)) (before now : LineBuffer) (max : ℕ)
+    (done : List (List ℕ)) (l : List ℕ) →
+    LinesGiven left left_mid before max done → (c : IsCall answer left_mid left_now before now) → is_last answer ≡ false
+    →
+    NoFeed l → IsFirstLine (pending before ++ c.takes.bytes) l now → OneMore left left_now before now max done l
+run_first answer left left_mid left_now before now max done l s c going free first =
+    elim s.shape [
+      | inr e ↦ absurd (no_line (pending before ++ c.takes.bytes) l now
+          (none_left before now c.takes.bytes e.1 (c.after_end e.0).0 c.takes.counted) first)
+      | inl w ↦ elim first [
+        | inl ends ↦
+            text_more answer left left_mid left_now before now max done l (s.text ++ (l ++ 10 ∷ [])) s c going
+            (taken_split s.bytes s.text (pending before) c.takes.bytes (l ++ 10 ∷ pending now) s.split ends.0
+            ∙ sym (line_text s.text l (pending now)))
+            (lines_more s.text l w free)
+            (omega (arith, length-append s.text (l ++ 10 ∷ []), length-append l (10 ∷ [])))
+            ends.1
+            (inl (whole_lines-append s.text (l ++ 10 ∷ []) w ∙ ap (λ xs. s.text ++ xs) (whole_line l free)))
+        | inr ends ↦
+            text_more answer left left_mid left_now before now max done l (s.text ++ l) s c going
+            (rw (ends.3, append-nil (s.text ++ l))
+            (taken_split s.bytes s.text (pending before) c.takes.bytes l s.split ends.0))
+            (lines_last s.text l w free ends.1)
+            (omega (arith, length-append s.text l, ends.1))
+            (omega (arith, ends.4))
+            (inr (ends.2, ends.3))
+      ]
+    ]
 
 -- a whole line was answered
 pub run_whole : (n : ℕ) (left left_mid left_now : Option (List ℕ)) (before now : LineBuffer) (max : ℕ)
@@ -271,60 +259,6 @@ run_budget left left_mid left_now before now max done s c held rest k =
                 ∙ append-nil s.text) ∙ s.given,
           )
     ]
-
--- the output of the lines so far is the beginning of that of all lines
-pub given_prefix : (f : List ℕ → List ℕ) (left left_now : Option (List ℕ)) (b : LineBuffer) (max : ℕ)
-    (done : List (List ℕ)) →
-    (s : LinesGiven left left_now b max done) → (held rest : List ℕ) → left_now ≡ Some rest → held ≡ s.bytes ++ rest →
-    IsPrefix (flat_map f done) (flat_map f (lines held))
-given_prefix f left left_now b max done s held rest e k =
-    let p = run_prefix left left_now b max done s held rest e k in
-    (flat_map f p.0, sym (flat_map-append f done p.0) ∙ ap (flat_map f) (sym p.1))
-
-at_line : (ls more : List (List ℕ)) (l : List ℕ) → (take (length ls) (ls ++ l ∷ more) ≡ ls)
-    × (slice_get (ls ++ l ∷ more) (length ls) ≡ Some l)
-at_line [] more l = (refl, refl)
-at_line (x ∷ ls) more l = let p = at_line ls more l in (ap (λ xs. x ∷ xs) p.0, p.1)
-
--- the line that was answered last is followed by others
-next_line_of : (left left_now : Option (List ℕ)) (b : LineBuffer) (max : ℕ) (done : List (List ℕ)) (l : List ℕ) →
-    (s : LinesGiven left left_now b max (done ++ l ∷ [])) → (held rest : List ℕ) → left_now ≡ Some rest
-    → held ≡ s.bytes ++ rest →
-    (more : List (List ℕ)) × (lines held ≡ done ++ l ∷ more)
-next_line_of left left_now b max done l s held rest e k =
-    let p = run_prefix left left_now b max (done ++ l ∷ []) s held rest e k in
-    (p.0, p.1 ∙ append_assoc done (l ∷ []) p.0)
-
--- a line was found, and of its output only a part was written
-pub stopped_part : (f : List ℕ → List ℕ) (left left_now : Option (List ℕ)) (b : LineBuffer) (max : ℕ)
-    (done : List (List ℕ)) (l part : List ℕ) →
-    (s : LinesGiven left left_now b max (done ++ l ∷ [])) → IsPrefix part (f l) →
-    (held rest : List ℕ) → left_now ≡ Some rest → held ≡ s.bytes ++ rest →
-    IsPrefix (flat_map f done ++ part) (flat_map f (lines held))
-stopped_part f left left_now b max done l part s p held rest e k =
-    let n = next_line_of left left_now b max done l s held rest e k in (
-      p.0 ++ flat_map f n.0,
-      append_assoc (flat_map f done) part (p.0 ++ flat_map f n.0)
-          ∙ ap (λ xs. flat_map f done ++ xs)
-          (sym (append_assoc part p.0 (flat_map f n.0)) ∙ ap (λ xs. xs ++ flat_map f n.0) p.1)
-          ∙ sym (flat_map-append f done (l ∷ n.0)) ∙ ap (flat_map f) (sym n.1),
-    )
-
--- a line was found, and nothing of its output was written
-pub stopped_at : (M : List ℕ → Type 0) (f : List ℕ → List ℕ) (left left_now : Option (List ℕ)) (b : LineBuffer)
-    (max : ℕ) (done : List (List ℕ)) (l : List ℕ) →
-    (s : LinesGiven left left_now b max (done ++ l ∷ [])) → M l →
-    (held rest : List ℕ) → left_now ≡ Some rest → held ≡ s.bytes ++ rest →
-    StoppedAt M f held (flat_map f done)
-stopped_at M f left left_now b max done l s m held rest e k =
-    let n = next_line_of left left_now b max done l s held rest e k in
-    let p = at_line done n.0 l in (
-      length done,
-      l,
-      ap (flat_map f) (sym p.0 ∙ ap (take (length done)) (sym n.1)),
-      ap (λ ls. slice_get ls (length done)) n.1 ∙ p.1,
-      m,
-    )
 
 -- a line's answer, as the law says it
 shows : (answer : Line) (shown : List ℕ) (left left_mid left_now : Option (List ℕ)) (before now : LineBuffer) (max : ℕ)

@@ -1,7 +1,6 @@
 -- Successive calls of next_line on one buffer and one source.
 use Rattle.std.specs.Prelude.{◌≡◌, ◌≢◌, ℕ, ◌≤◌, ◌<◌, true, false, nat_lt, if◌then◌else◌, List, [], ◌∷◌, ◌++◌, length}
-use Rattle.std.specs.Prelude.{take, map, Option, Some, slice_get, ⊤}
-use Rattle.std.specs.List.{flat_map}
+use Rattle.std.specs.Prelude.{take, map, Option, Some, ⊤}
 use Rattle.std.specs.Io.KnownBytes.{Consumes}
 use Rattle.line_io.specs.Lines.{lines, whole_lines}
 use Rattle.line_io.specs.Buffer.{pending, line, taken, max_bytes, is_ended, is_closed, is_last, Takes, KnowsEnd}
@@ -59,8 +58,3 @@ LinesOfBytes = (max : ℕ) (held : List ℕ) (first before now : LineBuffer) (le
 -- the first list is the beginning of the second
 abbrev pub IsPrefix : List ℕ → List ℕ → Type 0
 IsPrefix part all = (rest : List ℕ) × (part ++ rest ≡ all)
-
--- A run that stopped: the first k lines of what was held were answered by f, and nothing of line k+1, of which M holds.
-abbrev pub StoppedAt : (List ℕ → Type 0) → (List ℕ → List ℕ) → List ℕ → List ℕ → Type 0
-StoppedAt M f held added =
-    (k : ℕ) × (l : List ℕ) × (added ≡ flat_map f (take k (lines held))) × (slice_get (lines held) k ≡ Some l) × M l

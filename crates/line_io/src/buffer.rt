@@ -1,5 +1,5 @@
 // The lines of a source, one at a time, in a buffer of fixed size.
-ghost use Rattle.std.specs.Prelude.{◌≡◌, ◌≢◌, ◌≤◌, ◌<◌, ◌+◌, ◌-◌, ◌^◌, ◌⊎◌, ℕ, [], ◌∷◌, true, false, List, length, take, drop, slice_index, MatchOption, MatchResult, OnOk, OnErr, IfNone, OnSome, IfSome, Option, IsTrue, nat_lt, ◌||◌, if◌then◌else◌};
+ghost use Rattle.std.specs.Prelude.{◌≡◌, ◌≢◌, ◌≤◌, ◌<◌, ◌+◌, ◌-◌, ◌^◌, ℕ, [], true, false, List, length, take, drop, slice_index, MatchOption, OnOk, OnErr, IfNone, OnSome, IfSome, Option, nat_lt, ◌||◌, if◌then◌else◌};
 ghost use Rattle.std.specs.Io.KnownBytes.{Keeps};
 ghost use Rattle.std.specs.List.{list_any};
 ghost use Rattle.pieces.specs.FaultCounts.{HasRisen};
@@ -70,7 +70,7 @@ fn first_feed(bytes: &[u8]) -> Option<usize>
 impl LineBuffer {
     ghost use Rattle.line_io.specs.Runs.{IsCall};
     ghost use Rattle.line_io.specs.Buffer.{pending, line, taken, max_bytes, is_ended, is_closed, among_first, is_last, Takes, KnowsEnd};
-    ghost use Rattle.line_io.specs.Steps.{Fills, KeepsRest, KeepsAll};
+    ghost use Rattle.line_io.specs.Steps.{Fills, KeepsRest, KeepsAll, Closes};
 
     /// A buffer that has taken nothing, for a source of which the first `max` bytes count.
     #[tactic(auto, unfolding(crate::specs::Buffer::pending, crate::specs::Buffer::line))]
@@ -206,8 +206,6 @@ impl LineBuffer {
         requires more { taken self.old ≤ max_bytes self.old }
         requires not_ended { is_ended self.old ≡ false }
         ensures line { line self.new ≡ [] }
-        ensures max { max_bytes self.new ≡ max_bytes self.old }
-        ensures closed { is_closed self.new ≡ is_closed self.old }
         ensures fills { OnOk result (Fills (S.left source.old) (S.left source.new) self.old self.new) }
         ensures err { OnErr result (KeepsAll self.old self.new × Keeps (S.left source.old) (S.left source.new)) }
         ensures count { S.faults source.old ≤ S.faults source.new }
@@ -261,58 +259,14 @@ impl LineBuffer {
         }
     }
 
-    /// Marks the last answer as an end.
+    /// Answers an end, after which the buffer is closed.
     #[tactic(auto, unfolding(crate::specs::Buffer::pending, crate::specs::Buffer::line))]
-    fn close(&mut self)
-        ensures line { line self.new ≡ line self.old }
-        ensures pending { pending self.new ≡ pending self.old }
-        ensures taken { taken self.new ≡ taken self.old }
-        ensures max { max_bytes self.new ≡ max_bytes self.old }
-        ensures ended { is_ended self.new ≡ is_ended self.old }
-        ensures closed { is_closed self.new ≡ true }
+    fn close(&mut self, last: Line) -> Line
+        ensures answer { result ≡ last }
+        ensures closes { Closes self.old self.new }
     {
         self.closed = true;
-    }
-
-    /// The next answer; an end isn't marked yet.
-    fn seek<S: Source>(&mut self, source: &mut S) -> Line
-        requires no_line { line self.old ≡ [] }
-        ensures takes { Takes result (S.left source.old) (S.left source.new) self.old self.new }
-        ensures max { max_bytes self.new ≡ max_bytes self.old }
-        ensures closed { is_closed self.new ≡ is_closed self.old }
-        ensures count { S.faults source.old ≤ S.faults source.new }
-        ensures cause { result ≡ Line.Failed → HasRisen (S.faults source.old) (S.faults source.new) }
-
-        // It reads only where no line feed is pending, and never after the end.
-        ensures line_pending { list_any is_feed (pending self.old) ≡ true →
-            (taken self.new ≡ taken self.old) × (source.new ≡ source.old) }
-        ensures after_end { is_ended self.old ≡ true →
-            (taken self.new ≡ taken self.old) × (result ≢ Line.Failed) × (source.new ≡ source.old) }
-        ensures at_end { KnowsEnd self.old (S.left source.old) → KnowsEnd self.new (S.left source.new) }
-    {
-        let mut long = false;
-        let mut seen = 0;
-        loop {
-            if let Some(at) = self.feed_from(seen) {
-                return self.answer_line(at, 1, long);
-            }
-            if self.taken > self.max {
-                return Line::Budget;
-            }
-            if self.ended {
-                let count = self.pending().len();
-                if count == 0 && !long {
-                    return Line::End;
-                }
-                return self.answer_line(count, 0, long);
-            }
-            long = self.drop_long(long);
-            seen = self.pending().len();
-            match self.fill(source) {
-                Ok(()) => {}
-                Err(Failed) => return Line::Failed,
-            }
-        }
+        last
     }
 
     /// The next line where its line feed is pending, so without a read; else none, and nothing changes.
@@ -342,11 +296,9 @@ impl LineBuffer {
     /// feed was taken or the source has ended. All calls are to be given the same source.
     pub fn next_line<S: Source>(&mut self, source: &mut S) -> Line
         requires { is_closed self.old ≡ false }
-        // What was taken, and what the answer says of it.
-        ensures takes { Takes result (S.left source.old) (S.left source.new) self.old self.new }
-        ensures max { max_bytes self.new ≡ max_bytes self.old }
+        // What was taken, what the answer says of it, and whether a call may follow.
+        ensures call { IsCall result (S.left source.old) (S.left source.new) self.old self.new }
         ensures one_past { taken self.new ≤ max_bytes self.new + 1 }
-        ensures closed { is_closed self.new ≡ is_last result }
 
         // The count never falls, and a fault is answered only where it has risen.
         ensures count { S.faults source.old ≤ S.faults source.new }
@@ -355,18 +307,31 @@ impl LineBuffer {
         // It reads only where no line feed is pending, and never after the end.
         ensures line_pending { list_any is_feed (pending self.old) ≡ true →
             (taken self.new ≡ taken self.old) × (source.new ≡ source.old) }
-        ensures after_end { is_ended self.old ≡ true →
-            (taken self.new ≡ taken self.old) × (result ≢ Line.Failed) × (source.new ≡ source.old) }
-        ensures at_end { KnowsEnd self.old (S.left source.old) → KnowsEnd self.new (S.left source.new) }
-
-        // The clauses that the law on successive calls stands on, in one.
-        ensures call { IsCall result (S.left source.old) (S.left source.new) self.old self.new }
+        ensures after_end { is_ended self.old ≡ true → source.new ≡ source.old }
     {
         self.clear_line();
-        let answer = self.seek(source);
-        if matches!(answer, Line::End | Line::Failed | Line::Budget) {
-            self.close();
+        let mut long = false;
+        let mut seen = 0;
+        loop {
+            if let Some(at) = self.feed_from(seen) {
+                return self.answer_line(at, 1, long);
+            }
+            if self.taken > self.max {
+                return self.close(Line::Budget);
+            }
+            if self.ended {
+                let count = self.pending().len();
+                if count == 0 && !long {
+                    return self.close(Line::End);
+                }
+                return self.answer_line(count, 0, long);
+            }
+            long = self.drop_long(long);
+            seen = self.pending().len();
+            match self.fill(source) {
+                Ok(()) => {}
+                Err(Failed) => return self.close(Line::Failed),
+            }
         }
-        answer
     }
 }

@@ -1,5 +1,5 @@
 // A source and a sink in memory, which fail at the calls that are listed.
-ghost use Rattle.std.specs.Prelude.{◌≡◌, ◌≤◌, ◌<◌, ◌+◌, ◌-◌, ◌^◌, ◌↔◌, ℕ, [], List, length, take, min, nat_lt, is_err, ◌==◌, ◌&&◌, ◌||◌, IfOk, OnErr, Some, Option, if◌then◌else◌};
+ghost use Rattle.std.specs.Prelude.{◌≡◌, ◌≤◌, ◌<◌, ◌+◌, ◌-◌, [], length, min, nat_lt, is_err, ◌==◌, ◌&&◌, ◌||◌, IfOk, OnErr, Some, if◌then◌else◌};
 ghost use Rattle.std.specs.Io.{ReadsAtMost, WritesAtMost};
 ghost use Rattle.std.specs.Io.KnownBytes.{ReadConsumes, WriteAppends};
 ghost use Rattle.line_io.specs.Devices.{WritesSome};

@@ -349,3 +349,27 @@ fn pieces_longer_than_the_buffer(rt: HostRuntime) {
     out.flush(&mut sink);
     assert_eq!(rt; sink.bytes().len(), 32_770);
 }
+
+#[test]
+fn lines_with_their_line_feeds(rt: HostRuntime) {
+    let mut room = [0; 64];
+    let mut sink = MemorySink::new(&mut room, 64, &[]);
+    let mut out = OutputBuffer::new();
+    out.put_line(&mut sink, b"match");
+    out.put_line(&mut sink, b"");
+    assert_eq!(rt; sink.bytes(), b"".as_slice());
+    out.flush(&mut sink);
+    assert_eq!(rt; sink.bytes(), b"match\n\n".as_slice());
+}
+
+#[test]
+fn a_line_as_long_as_the_buffer(rt: HostRuntime) {
+    let mut room = [0; 16_400];
+    let mut sink = MemorySink::new(&mut room, 16_400, &[]);
+    let mut out = OutputBuffer::new();
+    out.put_line(&mut sink, &[b'a'; 16_384]);
+    assert_eq!(rt; sink.bytes().len(), 16_384);
+    out.flush(&mut sink);
+    assert_eq!(rt; sink.bytes().len(), 16_385);
+    assert_eq!(rt; sink.bytes().last(), Some(&b'\n'));
+}

@@ -23,6 +23,8 @@ returns-in-Ok-clause-fills g c =
             c.make_room.ensures.rest.taken_same,
             c.make_room.ensures.rest.max_same,
           ));
+      max_same = c.make_room.ensures.rest.max_same;
+      closed_same = c.make_room.ensures.rest.closed_same;
     }
 
 pub returns-in-Err-clause-err : goal.returns-in-Err-clause-err
