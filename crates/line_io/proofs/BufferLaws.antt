@@ -1,5 +1,6 @@
 -- Laws of a line buffer.
-use Rattle.std.proofs.Common.{zero, suc, ◌≡◌, ◌≢◌, ℕ, ◌<◌, ◌≤◌, ◌+◌, ◌-◌, Bool, true, false, List, [], ◌∷◌, ◌++◌, inl, inr}
+use Rattle.std.proofs.Common.{zero, suc, ◌≡◌, ◌≢◌, ℕ, ◌<◌, ◌≤◌, ◌+◌, ◌-◌, Bool, true, false, List, [], ◌∷◌, ◌++◌, inl}
+use Rattle.std.proofs.Common.{inr}
 use Rattle.std.proofs.Common.{length, get_or, take, drop, Option, refl, sym, ap, ◌∙◌, append_assoc, add-one, arith}
 use Rattle.std.proofs.Common.{rules, drop-cons, length-drop, length-append, eqb}
 use borrow.Rule.Slice.PartMut.{put_mid, post_of}
@@ -17,7 +18,8 @@ use Rattle.line_io.proofs.Moved.{append-nil, consumes_none, consumes_more}
 use Rattle.line_io.specs.declared.buffer.LineBuffer.{LineBuffer}
 use Rattle.line_io.specs.declared.buffer.Line.{Line}
 use Rattle.line_io.specs.declared.buffer.Line.TheVariants.{Whole, TooLong, End, Failed, Budget}
-use Rattle.line_io.specs.Buffer.{pending, line, taken, max_bytes, is_ended, is_closed, is_last, among_first, IsFirstLine, Answers}
+use Rattle.line_io.specs.Buffer.{pending, line, taken, max_bytes, is_ended, is_closed, is_last, among_first}
+use Rattle.line_io.specs.Buffer.{IsFirstLine, Answers}
 use Rattle.line_io.specs.Buffer.{Takes, KnowsEnd}
 use Rattle.line_io.specs.Steps.{Fills, KeepsRest, Closes}
 use Rattle.line_io.specs.Runs.{IsCall}

@@ -1,9 +1,9 @@
 -- What two steps take from a source, or add to a sink, in all.
-use Rattle.std.proofs.Common.{◌≡◌, ℕ, ◌-◌, List, [], ◌++◌, length, take, drop, Option, None, Some, refl, sym}
+use Rattle.std.proofs.Common.{◌∙◌, ap, ◌≡◌, ℕ, ◌-◌, List, [], ◌++◌, length, take, drop, Option, None, Some, refl, sym}
 use Rattle.std.proofs.Common.{append_assoc, rules}
 pub use Rattle.std.proofs.lemmas.List.{append-nil}
 use Rattle.std.proofs.lemmas.List.{take_rest, take-append-drop}
-use Rattle.std.specs.Io.KnownBytes.{Appends, Consumes, Keeps}
+use Rattle.std.specs.Io.KnownBytes.{Appends, Consumes, IsAtEnd, Keeps}
 use Rattle.line_io.specs.Devices.{WhereTold}
 
 pub appends_none : (o : Option (List ℕ)) → Appends o o []
@@ -52,3 +52,16 @@ where_told None left_now written written_now taken added P c a f = search rules
 where_told (Some held) left_now None written_now taken added P c a f = search rules
 where_told (Some held) None (Some w) written_now taken added P c a f = absurd c
 where_told (Some held) (Some rest) (Some w) written_now taken added P c a f = (taken, added, c, a, f held rest refl c)
+
+-- the same where the source has ended: what was taken is all that it held
+pub where_told_end : (left left_mid left_now written written_now : Option (List ℕ)) (taken added : List ℕ)
+    (P : List ℕ → List ℕ → List ℕ → Type 0) →
+    Consumes left left_mid taken → Consumes left_mid left_now [] → IsAtEnd left_now → Appends written written_now added
+    → P taken taken added → WhereTold left left_now written written_now P
+where_told_end left left_mid left_now written written_now taken added P c last end a p =
+    where_told left left_now written written_now taken added P
+    (rw (append-nil taken) at (consumes_more left left_mid left_now taken [] c last)) a
+    (λ held rest e k. rw (k ∙ ap (λ xs. taken ++ xs) (none rest e) ∙ append-nil taken) p)
+  where
+    none : (rest : List ℕ) → left_now ≡ Some rest → rest ≡ []
+    none rest e = rw e at end

@@ -74,62 +74,46 @@ four b x y z h = (
 module _ (room c : ℕ) (cs : List ℕ) (x y z : ℕ) (b : List ℕ) (below : EachBelow 256 (x ∷ y ∷ z ∷ b))
     (threes : length (x ∷ y ∷ z ∷ b) % 3 ≡ 0) (c₀ d₀ e₀ f₀ : ℕ) (rest : List ℕ)
     (f : Four b x y z c₀ d₀ e₀ f₀ rest) where
+  -- fewer than four characters wait
+  waiting : (block : List ℕ) → (block ++ c ∷ []) ++ cs ≡ encoding base64 (x ∷ y ∷ z ∷ b)
+      → length (block ++ c ∷ []) < 4
+      → grown room (block ++ c ∷ []) ≡ (at (Within room) (block ++ c ∷ []), []) → IsLetter c
+      → NextCharacter room block c cs (x ∷ y ∷ z ∷ b)
+  waiting block text few is letter = record {
+    bytes = [];
+    rest = block ++ c ∷ [];
+    more = x ∷ y ∷ z ∷ b;
+    is = is;
+    cut = refl;
+    waits = record { text = text; below = below; threes = threes; few = few };
+    no_end = letter_no_end c letter;
+  }
+
+  -- the characters at hand are the first of those four
+  letter_of : (all : List ℕ) (i : ℕ) (d : ℕ) → all ≡ c₀ ∷ d₀ ∷ e₀ ∷ f₀ ∷ rest
+      → slice_index (c₀ ∷ d₀ ∷ e₀ ∷ f₀ ∷ rest) i ≡ d → IsLetter d → IsLetter (slice_index all i)
+  letter_of all i d is at_i letter = subst IsLetter (sym (ap (λ (l : List ℕ). slice_index l i) is ∙ at_i)) letter
+
   by_four : (block : List ℕ) → block ++ c ∷ cs ≡ c₀ ∷ d₀ ∷ e₀ ∷ f₀ ∷ rest
       → block ++ c ∷ cs ≡ encoding base64 (x ∷ y ∷ z ∷ b) → length block < 4
       → NextCharacter room block c cs (x ∷ y ∷ z ∷ b)
   by_four [] is text few =
-      let lc : IsLetter c = subst IsLetter (sym (ap (λ (l : List ℕ). slice_index l 0) is)) f.first in
-      record {
-        bytes = [];
-        rest = c ∷ [];
-        more = x ∷ y ∷ z ∷ b;
-        is = grown_part room (c ∷ []) (begins_one c lc) refl;
-        cut = refl;
-        waits = record { text = text; below = below; threes = threes; few = omega arith };
-        no_end = letter_no_end c lc;
-      }
+      let lc = letter_of (c ∷ cs) 0 c₀ is refl f.first in
+      waiting [] text (omega arith) (grown_part room (c ∷ []) (begins_one c lc) refl) lc
   by_four (p ∷ []) is text few =
-      let lp : IsLetter p = subst IsLetter (sym (ap (λ (l : List ℕ). slice_index l 0) is)) f.first in
-      let lc : IsLetter c = subst IsLetter (sym (ap (λ (l : List ℕ). slice_index l 1) is)) f.second in
-      record {
-        bytes = [];
-        rest = p ∷ c ∷ [];
-        more = x ∷ y ∷ z ∷ b;
-        is = grown_part room (p ∷ c ∷ [])
-            (begins_two p c lp lc) refl;
-        cut = refl;
-        waits = record {
-          text = text;
-          below = below;
-          threes = threes;
-          few = omega arith;
-        };
-        no_end = letter_no_end c lc;
-      }
+      let lp = letter_of (p ∷ c ∷ cs) 0 c₀ is refl f.first in
+      let lc = letter_of (p ∷ c ∷ cs) 1 d₀ is refl f.second in
+      waiting (p ∷ []) text (omega arith) (grown_part room (p ∷ c ∷ []) (begins_two p c lp lc) refl) lc
   by_four (p ∷ q ∷ []) is text few =
-      let lp : IsLetter p = subst IsLetter (sym (ap (λ (l : List ℕ). slice_index l 0) is)) f.first in
-      let lq : IsLetter q = subst IsLetter (sym (ap (λ (l : List ℕ). slice_index l 1) is)) f.second in
-      let lc : IsLetter c = subst IsLetter (sym (ap (λ (l : List ℕ). slice_index l 2) is)) f.third in
-      record {
-        bytes = [];
-        rest = p ∷ q ∷ c ∷ [];
-        more = x ∷ y ∷ z ∷ b;
-        is = grown_part room (p ∷ q ∷ c ∷ [])
-            (begins_three p q c lp lq lc) refl;
-        cut = refl;
-        waits = record {
-          text = text;
-          below = below;
-          threes = threes;
-          few = omega arith;
-        };
-        no_end = letter_no_end c lc;
-      }
+      let lp = letter_of (p ∷ q ∷ c ∷ cs) 0 c₀ is refl f.first in
+      let lq = letter_of (p ∷ q ∷ c ∷ cs) 1 d₀ is refl f.second in
+      let lc = letter_of (p ∷ q ∷ c ∷ cs) 2 e₀ is refl f.third in
+      waiting (p ∷ q ∷ []) text (omega arith) (grown_part room (p ∷ q ∷ c ∷ []) (begins_three p q c lp lq lc) refl) lc
   by_four (p ∷ q ∷ r ∷ []) is text few =
-      let lp : IsLetter p = subst IsLetter (sym (ap (λ (l : List ℕ). slice_index l 0) is)) f.first in
-      let lq : IsLetter q = subst IsLetter (sym (ap (λ (l : List ℕ). slice_index l 1) is)) f.second in
-      let lr : IsLetter r = subst IsLetter (sym (ap (λ (l : List ℕ). slice_index l 2) is)) f.third in
-      let lc : IsLetter c = subst IsLetter (sym (ap (λ (l : List ℕ). slice_index l 3) is)) f.fourth in
+      let lp = letter_of (p ∷ q ∷ r ∷ c ∷ cs) 0 c₀ is refl f.first in
+      let lq = letter_of (p ∷ q ∷ r ∷ c ∷ cs) 1 d₀ is refl f.second in
+      let lr = letter_of (p ∷ q ∷ r ∷ c ∷ cs) 2 e₀ is refl f.third in
+      let lc = letter_of (p ∷ q ∷ r ∷ c ∷ cs) 3 f₀ is refl f.fourth in
       let dec : decoding base64 (p ∷ q ∷ r ∷ c ∷ []) ≡ Some (x ∷ y ∷ z ∷ []) =
       ap (λ (l : List ℕ). decoding base64 (take 4 l)) is ∙ f.decodes in
       record {
@@ -299,82 +283,80 @@ length-threes b below threes = ap length (whole_unpadded b below threes)
     ∙ omega (arith, length-encoding base64_unpadded b below)
 
 -- a text whose characters were gathered and decoded, with some behind them that fill up the last block
-pub gathered_read : (w left n filled : ℕ) (s : State) (text chars fill bytes : List ℕ)
-    → AreGathered w s text chars left → length s.block < 4 → n ≡ length chars → filled ≡ (n + 3) / 4 * 4
-    → length (chars ++ fill) ≡ filled → decoding base64_unpadded (chars ++ fill) ≡ Some bytes
-    → (run w s text ≡ at (Within left) (drop (n / 4 * 4) chars)) × (output w s text ≡ take (n / 4 * 3) bytes)
-gathered_read w left n filled s text chars fill bytes gathered few is_len is_filled whole dec = (
-  r.is ∙ ap (λ (t : List ℕ). at (Within left) t) waiting,
-  sym (ap (λ (t : List ℕ). take (n / 4 * 3) t) r.cut
-      ∙ take_at out r.more (n / 4 * 3) (omega (arith, lengths))),
-)
-  where
-    parts : EachBelow 256 bytes × (chars ++ fill ≡ encoding base64_unpadded bytes)
-    parts = decoding-Some base64_unpadded (chars ++ fill) bytes dec
+module _ (w left n filled : ℕ) (s : State) (text chars fill bytes : List ℕ) (gathered : AreGathered w s text chars left)
+    (few : length s.block < 4) (is_len : n ≡ length chars) (is_filled : filled ≡ (n + 3) / 4 * 4)
+    (whole : length (chars ++ fill) ≡ filled) (dec : decoding base64_unpadded (chars ++ fill) ≡ Some bytes) where
+  parts : EachBelow 256 bytes × (chars ++ fill ≡ encoding base64_unpadded bytes)
+  parts = decoding-Some base64_unpadded (chars ++ fill) bytes dec
 
-    len : length (chars ++ fill) ≡ (4 * length bytes + 2) / 3
-    len = length-decodable base64_unpadded (chars ++ fill) bytes refl dec
+  len : length (chars ++ fill) ≡ (4 * length bytes + 2) / 3
+  len = length-decodable base64_unpadded (chars ++ fill) bytes refl dec
 
-    threes : length bytes % 3 ≡ 0
-    threes = omega (arith, len, whole)
+  threes : length bytes % 3 ≡ 0
+  threes = omega (arith, len, whole)
 
-    r : ReadsTo w s text left fill bytes
-    r = gathered fill bytes few (record {
-      text = parts.1 ∙ sym (whole_unpadded bytes parts.0 threes);
-      below = parts.0;
-      threes = threes;
-      few = omega arith;
-    })
+  r : ReadsTo w s text left fill bytes
+  r = gathered fill bytes few (record {
+    text = parts.1 ∙ sym (whole_unpadded bytes parts.0 threes);
+    below = parts.0;
+    threes = threes;
+    few = omega arith;
+  })
 
-    out : List ℕ
-    out = output w s text
+  abbrev out : List ℕ
+  out = output w s text
 
-    more_len : length r.block + length fill ≡ 4 * (length r.more / 3)
-    more_len = sym (length-append r.block fill) ∙ ap length r.waits.text
-        ∙ length-threes r.more r.waits.below r.waits.threes
+  more_len : length r.block + length fill ≡ 4 * (length r.more / 3)
+  more_len = sym (length-append r.block fill) ∙ ap length r.waits.text
+      ∙ length-threes r.more r.waits.below r.waits.threes
 
-    lengths : length out ≡ n / 4 * 3
-    lengths = omega (
-      arith,
-      ap length r.cut,
-      length-append out r.more,
-      more_len,
-      len,
-      whole,
-      length-append chars
-          fill,
-      r.waits.few,
-      r.waits.threes,
-    )
+  lengths : length out ≡ n / 4 * 3
+  lengths = omega (
+    arith,
+    ap length r.cut,
+    length-append out r.more,
+    more_len,
+    len,
+    whole,
+    length-append chars fill,
+    r.waits.few,
+    r.waits.threes,
+  )
 
-    below : EachBelow 256 out
-    below = subst (EachBelow 256) (ap (λ (t : List ℕ). take (n / 4 * 3) t) r.cut
-        ∙ take_at out r.more (n / 4 * 3) lengths) (below-take 256 (n / 4 * 3) bytes (omega arith) parts.0)
+  below : EachBelow 256 out
+  below = subst (EachBelow 256) (ap (λ (t : List ℕ). take (n / 4 * 3) t) r.cut
+      ∙ take_at out r.more (n / 4 * 3) lengths) (below-take 256 (n / 4 * 3) bytes (omega arith) parts.0)
 
-    cut : chars ≡ unpadded_encoding base64 out ++ r.block
-    cut = append_cancel_right chars (unpadded_encoding base64 out ++ r.block) fill (
-        parts.1 ∙ sym (whole_unpadded bytes parts.0 threes) ∙ ap (encoding base64) r.cut
-        ∙ encoding-append base64 out r.more below (omega (arith, lengths))
-        ∙ ap (λ (t : List ℕ). unpadded_encoding base64 out ++ t) (sym r.waits.text)
-        ∙ sym (append_assoc (unpadded_encoding base64 out) r.block fill))
+  cut : chars ≡ unpadded_encoding base64 out ++ r.block
+  cut = append_cancel_right chars (unpadded_encoding base64 out ++ r.block) fill (
+      parts.1 ∙ sym (whole_unpadded bytes parts.0 threes) ∙ ap (encoding base64) r.cut
+      ∙ encoding-append base64 out r.more below (omega (arith, lengths))
+      ∙ ap (λ (t : List ℕ). unpadded_encoding base64 out ++ t) (sym r.waits.text)
+      ∙ sym (append_assoc (unpadded_encoding base64 out) r.block fill))
 
-    waiting : r.block ≡ drop (n / 4 * 4) chars
-    waiting = sym (ap (λ (t : List ℕ). drop (n / 4 * 4) t) cut ∙ drop_at (unpadded_encoding base64 out) r.block
-        (n / 4 * 4) (omega (
-          arith,
-          is_len,
-          ap length cut,
-          length-append
-              (unpadded_encoding base64 out) r.block,
-          ap length r.cut,
-          length-append out r.more,
-          lengths,
-          more_len,
-          len,
-          whole,
-          length-append chars fill,
-          r.waits.few,
-        )))
+  waiting_is : r.block ≡ drop (n / 4 * 4) chars
+  waiting_is = sym (ap (λ (t : List ℕ). drop (n / 4 * 4) t) cut ∙ drop_at (unpadded_encoding base64 out) r.block
+      (n / 4 * 4) (omega (
+        arith,
+        is_len,
+        ap length cut,
+        length-append (unpadded_encoding base64 out) r.block,
+        ap length r.cut,
+        length-append out r.more,
+        lengths,
+        more_len,
+        len,
+        whole,
+        length-append chars fill,
+        r.waits.few,
+      )))
+
+  pub gathered_read : (run w s text ≡ at (Within left) (drop (n / 4 * 4) chars))
+      × (output w s text ≡ take (n / 4 * 3) bytes)
+  gathered_read = (
+    r.is ∙ ap (λ (t : List ℕ). at (Within left) t) waiting_is,
+    sym (ap (λ (t : List ℕ). take (n / 4 * 3) t) r.cut ∙ take_at out r.more (n / 4 * 3) (omega (arith, lengths))),
+  )
 
 -- so it is in a buffer of characters
 pub lines_read : (w room left len filled k : ℕ) (place : Place) (block buf text bytes : List ℕ)

@@ -82,66 +82,37 @@ ended w p e t cs full pos ending (inr (line ∷ lines, are, join)) =
 nothing_more : (w : ℕ) (s : State) → Good s.block → Adds (output w s []) (run w s []).block (s.block ++ [])
 nothing_more w s good = rw (run-nil w s, output-nil w s, append-nil s.block) (adds_none s.block good)
 
+-- no byte is left
+laid_last : (w : ℕ) (place : Place) (block p q : List ℕ) → Shape w q p [] [] → Good block → Sane w place block
+    → Laid w q p (at place block) []
+laid_last w place block p q shape good sane = record {
+  cs = [];
+  shape = shape;
+  adds = nothing_more w (at place block) good;
+  sane = rw (run-nil w (at place block)) sane;
+}
+
+-- the line stands there, with an ending or without
+last_line : (w : ℕ) (p q : List ℕ) → 0 < length p → length p ≤ w
+    → ((q ≡ p) ⊎ ((e : List ℕ) × IsEnding e × (q ≡ p ++ e))) → Shape w q p [] []
+last_line w p q some short h = inr (rw (append-nil q, append-nil p) (one_line w p q some short h))
+
 laid_nil : (w : ℕ) (place : Place) (block p q : List ℕ) → 0 < w → Shown w place block p q → Good block
     → Laid w q p (at place block) []
 laid_nil w (Within room) block [] q pos (same, sum) good =
-    record {
-      cs = [];
-      shape = inl (append-nil q ∙ same, refl);
-      adds = nothing_more w (at (Within room) block) good;
-      sane = rw (run-nil w (at (Within room) block)) (omega arith);
-    }
+    laid_last w (Within room) block [] q (inl (append-nil q ∙ same, refl)) good (omega arith)
 laid_nil w (Within room) block (c ∷ p) q pos (same, sum) good =
-    record {
-      cs = [];
-      shape =
-          inr (rw (append-nil q, append-nil p) (one_line w (c ∷ p) q (omega arith) (omega arith) (inl same)));
-      adds =
-          nothing_more w (at (Within room) block) good;
-      sane = rw (run-nil w (at (Within room) block)) (omega arith);
-    }
+    laid_last w (Within room) block (c ∷ p) q (last_line w (c ∷ p) q (omega arith) (omega arith) (inl same)) good
+    (omega arith)
 laid_nil w AfterReturn block p q pos (same, full) good =
-    record {
-      cs = [];
-      shape =
-          inr (rw (append-nil q, append-nil p)
-          (one_line w p q (omega arith) (omega arith) (inr (13 ∷ [], inl refl, same))));
-      adds =
-          nothing_more w (at AfterReturn block) good;
-      sane = rw (run-nil w (at AfterReturn block)) tt;
-    }
+    laid_last w AfterReturn block p q
+    (last_line w p q (omega arith) (omega arith) (inr (13 ∷ [], inl refl, same))) good tt
 laid_nil w LastReturn block p q pos (same, some, less, done) good =
-    record {
-      cs = [];
-      shape =
-          inr (rw (append-nil q, append-nil p) (one_line w p q some (omega arith) (inr (13 ∷ [], inl refl, same))));
-      adds = nothing_more w (at LastReturn block) good;
-      sane = rw (run-nil w (at LastReturn block)) done;
-    }
-laid_nil w Over block p q pos shown good = go shown
-  where
-    go : ((q ≡ p ++ 10 ∷ []) ⊎ (q ≡ p ++ 13 ∷ 10 ∷ [])) × (0 < length p) × (length p < w) × (is_complete block ≡ true)
-        → Laid w q p (at Over block) []
-    go (inl same, some, less, done) =
-        record {
-          cs = [];
-          shape =
-              inr (rw (append-nil q, append-nil p)
-              (one_line w p q some (omega arith) (inr (10 ∷ [], inr (inl refl), same))));
-          adds =
-              nothing_more w (at Over block) good;
-          sane = rw (run-nil w (at Over block)) done;
-        }
-    go (inr same, some, less, done) =
-        record {
-          cs = [];
-          shape =
-              inr (rw (append-nil q, append-nil p)
-              (one_line w p q some (omega arith) (inr (13 ∷ 10 ∷ [], inr (inr refl), same))));
-          adds =
-              nothing_more w (at Over block) good;
-          sane = rw (run-nil w (at Over block)) done;
-        }
+    laid_last w LastReturn block p q (last_line w p q some (omega arith) (inr (13 ∷ [], inl refl, same))) good done
+laid_nil w Over block p q pos (inl same, some, less, done) good =
+    laid_last w Over block p q (last_line w p q some (omega arith) (inr (10 ∷ [], inr (inl refl), same))) good done
+laid_nil w Over block p q pos (inr same, some, less, done) good =
+    laid_last w Over block p q (last_line w p q some (omega arith) (inr (13 ∷ 10 ∷ [], inr (inr refl), same))) good done
 laid_nil w Stuck block p q pos shown good = absurd shown
 
 -- ---- one more byte

@@ -1,7 +1,7 @@
 -- What a run of wrapping has read and written, and how it ends.
 use Rattle.std.proofs.Common.{◌≡◌, ℕ, ◌+◌, ◌-◌, ◌*◌, ◌/◌, ◌%◌, ◌<◌, ◌≤◌, List, [], ◌∷◌, ◌++◌, length, take, drop}
 use Rattle.std.proofs.Common.{Option, refl, sym, ap, ◌∙◌, arith, take-add, inl, inr, true}
-use Rattle.std.specs.Io.KnownBytes.{Appends, Consumes, IsAtEnd, Keeps}
+use Rattle.std.specs.Io.KnownBytes.{Appends, Consumes, IsAtEnd}
 use Rattle.std.proofs.lemmas.List.{append-nil, append_assoc, length-append, length-drop, length-take-le}
 use Rattle.std.proofs.lemmas.List.{take-append-drop, take-take, take_at}
 use Rattle.std.proofs.Math.Seq.{take-append-add, drop-append-add}
@@ -13,7 +13,8 @@ use Rattle.base64ct.proofs.Encodings.{below-take, below-drop}
 use Rattle.base64ct.proofs.Padding.{length-encoding, padding_count}
 use Rattle.line_io.specs.Devices.{AppendsPrefix, WhereTold}
 use Rattle.line_io.specs.Runs.{IsPrefix}
-use Rattle.line_io.proofs.Moved.{appends_more, appends_none, consumes_keeps, consumes_more, consumes_none, where_told}
+use Rattle.line_io.proofs.Moved.{appends_more, appends_none, consumes_more, consumes_none, where_told}
+use Rattle.line_io.proofs.Moved.{where_told_end}
 use Rattle.base64ct.specs.Encoders.{whole_blocks}
 use Rattle.wrap_stream.specs.Outcomes.{WrapOutcome, wrapped}
 use Rattle.base64ct.specs.Encoders.{wrap_from, room_after}
@@ -174,9 +175,6 @@ module _ (w : ℕ) (left left_mid left_now written written_mid written_now : Opt
   whole_three : length (whole_blocks h.bytes) % 3 ≡ 0
   whole_three = omega (arith, length-whole h.bytes)
 
-  pub few_wait : length waiting ≤ 2
-  few_wait = omega (arith, ap length h.waits, length-rest h.bytes)
-
   -- a chunk more: what is written for it, and what waits then
   module _ (chunk : List ℕ) (below : EachBelow 256 chunk) where
     -- the bytes of which the encoding is written
@@ -274,15 +272,6 @@ module _ (w : ℕ) (left left_mid left_now written written_mid written_now : Opt
         (omega (arith, ap length whole, length-append t (after ++ rest), length-append after rest, full))
         (sym text ∙ ap (λ (x : List ℕ). wrapped w (whole_blocks x)) (sym among)))
 
-  -- a read failed
-  pub wrap_failed : (max : ℕ) → Keeps left_mid left_now
-      → WhereTold left left_now written written_mid (λ held taken added. WrapOutcome w 3 max held taken added)
-  wrap_failed max k =
-      where_told left left_now written written_mid h.bytes (wrapped w (whole_blocks h.bytes))
-      (λ held taken added. WrapOutcome w 3 max held taken added)
-      (consumes_keeps left left_mid left_now h.bytes h.consumed k) h.added
-      (λ held rest e k. row_failed w max held h.bytes (wrapped w (whole_blocks h.bytes)) refl)
-
   end_text : wrapped w h.bytes ≡ wrapped w (whole_blocks h.bytes)
       ++ wrap_from w (10 ∷ []) room (encoding base64 waiting)
   end_text = ap (wrapped w) (sym (whole_and_rest h.bytes))
@@ -295,37 +284,25 @@ module _ (w : ℕ) (left left_mid left_now written written_mid written_now : Opt
       → Appends written_mid written_now (wrap_from w (10 ∷ []) room (encoding base64 waiting))
       → WhereTold left left_now written written_now (λ held taken added. WrapOutcome w 0 max held taken added)
   wrap_done max c end fits a =
-      where_told left left_now written written_now (h.bytes ++ [])
+      where_told_end left left_mid left_now written written_now h.bytes
       (wrapped w (whole_blocks h.bytes) ++ wrap_from w (10 ∷ []) room (encoding base64 waiting))
-      (λ held taken added. WrapOutcome w 0 max held taken added)
-      (consumes_more left left_mid left_now h.bytes [] h.consumed c)
+      (λ held taken added. WrapOutcome w 0 max held taken added) h.consumed c end
       (appends_more written written_mid written_now (wrapped w (whole_blocks h.bytes))
       (wrap_from w (10 ∷ []) room (encoding base64 waiting)) h.added a)
-      (λ held rest e k.
-      let none : rest ≡ [] = rw e at end in
-      let all : held ≡ h.bytes =
-      k ∙ ap (λ (t : List ℕ). (h.bytes ++ []) ++ t) none ∙ append-nil (h.bytes ++ []) ∙ append-nil h.bytes in
-      row_done w max held (h.bytes ++ []) _ (omega (arith, ap length all, h.count)) (append-nil h.bytes ∙ sym all)
-      (sym end_text ∙ ap (wrapped w) (sym all)))
+      (row_done w max h.bytes h.bytes _ (omega (arith, h.count)) refl (sym end_text))
 
   -- the last write failed
   pub wrap_cut_end : (max : ℕ) → Consumes left_mid left_now [] → IsAtEnd left_now
       → AppendsPrefix written_mid written_now (wrap_from w (10 ∷ []) room (encoding base64 waiting))
       → WhereTold left left_now written written_now (λ held taken added. WrapOutcome w 4 max held taken added)
   wrap_cut_end max c end part =
-      where_told left left_now written written_now (h.bytes ++ []) (wrapped w (whole_blocks h.bytes) ++ part.0)
-      (λ held taken added. WrapOutcome w 4 max held taken added)
-      (consumes_more left left_mid left_now h.bytes [] h.consumed c)
+      where_told_end left left_mid left_now written written_now h.bytes (wrapped w (whole_blocks h.bytes) ++ part.0)
+      (λ held taken added. WrapOutcome w 4 max held taken added) h.consumed c end
       (appends_more written written_mid written_now (wrapped w (whole_blocks h.bytes)) part.0 h.added part.3)
-      (λ held rest e k.
-      let none : rest ≡ [] = rw e at end in
-      let all : held ≡ h.bytes =
-      k ∙ ap (λ (t : List ℕ). (h.bytes ++ []) ++ t) none ∙ append-nil (h.bytes ++ []) ∙ append-nil h.bytes in
-      row_cut w max held (h.bytes ++ []) _ (
+      (row_cut w max h.bytes h.bytes _ (
         part.1,
         append_assoc (wrapped w (whole_blocks h.bytes)) part.0 part.1
-            ∙ ap (λ (x : List ℕ). wrapped w (whole_blocks h.bytes) ++ x) part.2 ∙ sym end_text
-            ∙ ap (wrapped w) (sym all),
+            ∙ ap (λ (x : List ℕ). wrapped w (whole_blocks h.bytes) ++ x) part.2 ∙ sym end_text,
       ))
 
 -- ---- the goals of the calls

@@ -1,6 +1,6 @@
 //! Characters of lines gathered without the endings between them.
 
-ghost use Rattle.std.specs.Prelude.{◌≡◌, ◌<◌, ◌≤◌, ◌+◌, length, take};
+ghost use Rattle.std.specs.Prelude.{◌<◌, ◌≤◌, ◌+◌, length, take};
 ghost use Rattle.wrap_stream.specs.Reading.{at};
 ghost use Rattle.wrap_stream.specs.Turns.{AreGathered, EndsLine};
 ghost use Rattle.wrap_stream.specs.declared.place.Place.{Place};
