@@ -26,6 +26,9 @@ consumes_more (Some xs) None c p q x y = absurd x
 consumes_more (Some xs) (Some ys) None p q x y = absurd y
 consumes_more (Some xs) (Some ys) (Some zs) p q x y = rw (x, y) (sym (append_assoc p q zs))
 
+pub consumes_no_more : (a b c : Option (List ℕ)) (p : List ℕ) → Consumes a b p → Consumes b c [] → Consumes a c p
+consumes_no_more a b c p x y = rw (append-nil p) at (consumes_more a b c p [] x y)
+
 pub consumes_keeps : (a b c : Option (List ℕ)) (p : List ℕ) → Consumes a b p → Keeps b c → Consumes a c p
 consumes_keeps None b c p x y = search rules
 consumes_keeps (Some xs) None c p x y = absurd x
@@ -54,13 +57,12 @@ where_told (Some held) None (Some w) written_now taken added P c a f = absurd c
 where_told (Some held) (Some rest) (Some w) written_now taken added P c a f = (taken, added, c, a, f held rest refl c)
 
 -- the same where the source has ended: what was taken is all that it held
-pub where_told_end : (left left_mid left_now written written_now : Option (List ℕ)) (taken added : List ℕ)
+pub where_told_end : (left left_now written written_now : Option (List ℕ)) (taken added : List ℕ)
     (P : List ℕ → List ℕ → List ℕ → Type 0) →
-    Consumes left left_mid taken → Consumes left_mid left_now [] → IsAtEnd left_now → Appends written written_now added
-    → P taken taken added → WhereTold left left_now written written_now P
-where_told_end left left_mid left_now written written_now taken added P c last end a p =
-    where_told left left_now written written_now taken added P
-    (rw (append-nil taken) at (consumes_more left left_mid left_now taken [] c last)) a
+    Consumes left left_now taken → IsAtEnd left_now → Appends written written_now added → P taken taken added
+    → WhereTold left left_now written written_now P
+where_told_end left left_now written written_now taken added P c end a p =
+    where_told left left_now written written_now taken added P c a
     (λ held rest e k. rw (k ∙ ap (λ xs. taken ++ xs) (none rest e) ∙ append-nil taken) p)
   where
     none : (rest : List ℕ) → left_now ≡ Some rest → rest ≡ []

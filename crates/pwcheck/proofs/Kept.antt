@@ -4,7 +4,7 @@ use Rattle.std.proofs.Common.{arith, Option, None, Some}
 use Rattle.std.specs.Io.KnownBytes.{Consumes, Appends, IsAtEnd}
 use Rattle.std.proofs.lemmas.List.{append-nil, length-append, nil_from_length}
 use Rattle.line_io.specs.Devices.{WhereTold, AppendsPrefix}
-use Rattle.line_io.proofs.Moved.{where_told, appends_none}
+use Rattle.line_io.proofs.Moved.{where_told, where_told_end, appends_none}
 use Rattle.base64ct.specs.Encoding.{encoding, EachBelow}
 use Rattle.base64ct.specs.Alphabets.{base64}
 use Rattle.base64ct.specs.Blocks.{decoded, AskedAreGood, IsEncoding}
@@ -38,49 +38,18 @@ kept_stopped Gives status max a b c d taken took same low high other over =
       nothing = λ _ _. refl;
     }))
 
--- what was taken is what was held
-all_held : (b : Option (List ℕ)) (held taken rest : List ℕ) → IsAtEnd b → b ≡ Some rest → held ≡ taken ++ rest
-    → taken ≡ held
-all_held None held taken rest end is sum = absurd (wrong is)
-  where
-    wrong : None ≡ Some rest → ⊥
-    wrong e = cc
-all_held (Some xs) held taken rest end is sum =
-    let none : rest ≡ [] = sym (Some-once xs rest is) ∙ end in
-    sym (sum ∙ ap (λ (l : List ℕ). taken ++ l) none ∙ append-nil taken)
-
 -- all is written
 pub kept_done : (Gives : List ℕ → List ℕ → Type 0) (max : ℕ) (a b c d : Option (List ℕ)) (input output : List ℕ)
     → Consumes a b input → IsAtEnd b → length input ≤ max → Appends c d output → Gives input output
     → WhereTold a b c d (λ held taken added. KeptOutcome Gives 0 max held taken added)
 kept_done Gives max a b c d input output took end within wrote gives =
-    where_told a b c d input output (λ held taken added. KeptOutcome Gives 0 max held taken added) took wrote
-    (λ held rest is sum.
-    let all = all_held b held input rest end is sum in record {
-      done = λ _. (omega (arith, ap length all), all, subst (λ (l : List ℕ). Gives l output) all gives);
+    where_told_end a b c d input output (λ held taken added. KeptOutcome Gives 0 max held taken added) took end wrote
+    (record {
+      done = λ _. (within, refl, gives);
       write_fault = λ e. absurd (omega (arith, e));
       budget = λ e. absurd (omega (arith, e));
       no_output = λ e. absurd (omega (arith, e));
       nothing = λ no_done _. absurd (no_done refl);
-    })
-
--- a write failed
-pub kept_fault : (Gives : List ℕ → List ℕ → Type 0) (max : ℕ) (a b c d : Option (List ℕ)) (input output : List ℕ)
-    → Consumes a b input → IsAtEnd b → length input ≤ max → AppendsPrefix c d output → Gives input output
-    → WhereTold a b c d (λ held taken added. KeptOutcome Gives 4 max held taken added)
-kept_fault Gives max a b c d input output took end within (part, rest_out, whole, wrote) gives =
-    where_told a b c d input part (λ held taken added. KeptOutcome Gives 4 max held taken added) took wrote
-    (λ held rest is sum.
-    let all = all_held b held input rest end is sum in record {
-      done = λ e. absurd (omega (arith, e));
-      write_fault = λ _. (
-        omega (arith, ap length all),
-        all,
-        (output, subst (λ (l : List ℕ). Gives l output) all gives, (rest_out, whole)),
-      );
-      budget = λ e. absurd (omega (arith, e));
-      no_output = λ e. absurd (omega (arith, e));
-      nothing = λ _ no_fault. absurd (no_fault refl);
     })
 
 -- the input has no output
@@ -90,17 +59,13 @@ pub kept_none : (Gives : List ℕ → List ℕ → Type 0) (max : ℕ) (a b c d 
 kept_none Gives max a b c d input took end within same none =
     subst (λ (e : Option (List ℕ)). WhereTold a b c e (λ held taken added. KeptOutcome Gives 7 max held taken added))
     (sym same)
-    (where_told a b c c input [] (λ held taken added. KeptOutcome Gives 7 max held taken added) took (appends_none c)
-    (λ held rest is sum.
-    let all = all_held b held input rest end is sum in record {
+    (where_told_end a b c c input [] (λ held taken added. KeptOutcome Gives 7 max held taken added) took end
+    (appends_none c)
+    (record {
       done = λ e. absurd (omega (arith, e));
       write_fault = λ e. absurd (omega (arith, e));
       budget = λ e. absurd (omega (arith, e));
-      no_output = λ _. (
-        omega (arith, ap length all),
-        all,
-        λ output gives. none output (subst (λ (l : List ℕ). Gives l output) (sym all) gives),
-      );
+      no_output = λ _. (within, refl, none);
       nothing = λ _ _. refl;
     }))
 
@@ -118,10 +83,6 @@ wraps_none w input wide e =
     )) in
     sym (ap (λ (t : List ℕ). wrap t w (10 ∷ [])) nothing ∙ wrap_is w (10 ∷ []) [] (omega arith)
     ∙ wrap-nil w (10 ∷ []) w)
-
-pub unwraps_none : (w : ℕ) (input : List ℕ) → length input ≡ 0 → Unwraps w input []
-unwraps_none w [] e = refl
-unwraps_none w (c ∷ cs) e = absurd (omega arith)
 
 pub unwraps_some : (w : ℕ) (input output : List ℕ) → 0 < length input → EachBelow 256 output
     → Wrapped input w (encoding base64 output) → Unwraps w input output

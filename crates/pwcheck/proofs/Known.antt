@@ -52,10 +52,6 @@ pub lacks_memory : (line : List ℕ) (a : Answer) → IsAnswer line a → a ≡ 
 lacks_memory line a (inl is) h = absurd (known line (sym is ∙ h))
 lacks_memory line a (inr lacks) h = lacks.1
 
-pub is_answer : (line : List ℕ) (a : Answer) → IsAnswer line a → Known a → a ≡ answer line
-is_answer line a (inl is) h = is
-is_answer line a (inr lacks) h = absurd (h lacks.0)
-
 -- ---- counts that matter
 
 pub same_text : (form : Form) (a : Answer) (looks looks' sames sames' : ℕ) → (has_verdict a ≡ true → looks ≡ looks')

@@ -1,5 +1,5 @@
 -- The forms of words.
-use Rattle.std.specs.Prelude.{◌≡◌, ℕ, ◌≤◌, List, [], ◌∷◌, codes}
+use Rattle.std.specs.Prelude.{◌≡◌, ◌≢◌, ◌⊎◌, ℕ, ◌≤◌, List, [], ◌∷◌, codes}
 use Rattle.std.specs.Fmt.{decimal}
 
 -- `check`
@@ -29,3 +29,12 @@ IsWrap w words = IsNumbered (codes "wrap") 4 65536 w words
 -- `unwrap` and a width
 abbrev pub IsUnwrap : ℕ → List (List ℕ) → Type 0
 IsUnwrap w words = IsNumbered (codes "unwrap") 4 65536 w words
+
+-- the forms that answer line by line
+abbrev pub AreOverLines : List (List ℕ) → Type 0
+AreOverLines words = (words ≡ check) ⊎ ((words ≡ check_count) ⊎ (words ≡ normalize))
+
+-- no form of words
+abbrev pub AreNoForm : List (List ℕ) → Type 0
+AreNoForm words = (words ≢ check) × (words ≢ check_count) × (words ≢ normalize) × ((n : ℕ) → IsBench n words → ⊥)
+    × ((w : ℕ) → IsWrap w words → ⊥) × ((w : ℕ) → IsUnwrap w words → ⊥)

@@ -1,6 +1,6 @@
 //! The top calls.
 
-ghost use Rattle.std.specs.Prelude.{◌≡◌, ◌≢◌, ◌⊎◌, ◌≤◌, ◌^◌, ◌↔◌, ℕ, min};
+ghost use Rattle.std.specs.Prelude.{◌≡◌, ◌≢◌, ◌≤◌, ◌^◌, ◌↔◌, ℕ, min};
 ghost use Rattle.line_io.specs.Devices.{WhereTold};
 ghost use Rattle.pieces.specs.FaultCounts.{HasRisen};
 ghost use Rattle.line_program.specs.Outcome.{Outcome};
@@ -8,7 +8,7 @@ ghost use Rattle.pwcheck.specs.Answer.{line_rules};
 ghost use Rattle.pwcheck.specs.BenchOutcome.{BenchOutcome};
 ghost use Rattle.pwcheck.specs.Normalize.{normal_rules};
 ghost use Rattle.pwcheck.specs.Streams.{KeptOutcome, Unwraps, Wraps, longest_kept};
-ghost use Rattle.pwcheck.specs.Words.{IsBench, IsUnwrap, IsWrap, check, check_count, normalize};
+ghost use Rattle.pwcheck.specs.Words.{AreNoForm, AreOverLines, IsBench, IsUnwrap, IsWrap, check, check_count, normalize};
 
 use crate::Words;
 use crate::bench::bench;
@@ -42,13 +42,11 @@ pub fn run_limited<S: Source, K: Sink>(
 
     // No other status comes; 1 is for lines, 7 for `unwrap` alone.
     ensures statuses { result ≤ 7 }
-    ensures some_other { result ≡ 1 → (words.now ≡ check) ⊎ ((words.now ≡ check_count) ⊎ (words.now ≡ normalize)) }
+    ensures some_other { result ≡ 1 → AreOverLines words.now }
     ensures no_text { result ≡ 7 → (w : ℕ) × IsUnwrap w words.now }
 
     // Other words than those of a form: nothing is read or written.
-    ensures words { (result ≡ 2) ↔ ((words.now ≢ check) × (words.now ≢ check_count) × (words.now ≢ normalize)
-        × ((n : ℕ) → IsBench n words.now → ⊥) × ((w : ℕ) → IsWrap w words.now → ⊥)
-        × ((w : ℕ) → IsUnwrap w words.now → ⊥)) }
+    ensures words { (result ≡ 2) ↔ AreNoForm words.now }
     ensures untouched { result ≡ 2 → (source.new ≡ source.old) × (sink.new ≡ sink.old) }
 
     // A fault is answered only where the count of that device rose in this call.
@@ -102,11 +100,9 @@ pub fn run_limited<S: Source, K: Sink>(
 /// The program: `run_limited` over a source of at most 2^40 bytes.
 pub fn run<S: Source, K: Sink>(alloc: Global, words: &Words, source: &mut S, sink: &mut K) -> u8
     ensures statuses { result ≤ 7 }
-    ensures some_other { result ≡ 1 → (words.now ≡ check) ⊎ ((words.now ≡ check_count) ⊎ (words.now ≡ normalize)) }
+    ensures some_other { result ≡ 1 → AreOverLines words.now }
     ensures no_text { result ≡ 7 → (w : ℕ) × IsUnwrap w words.now }
-    ensures words { (result ≡ 2) ↔ ((words.now ≢ check) × (words.now ≢ check_count) × (words.now ≢ normalize)
-        × ((n : ℕ) → IsBench n words.now → ⊥) × ((w : ℕ) → IsWrap w words.now → ⊥)
-        × ((w : ℕ) → IsUnwrap w words.now → ⊥)) }
+    ensures words { (result ≡ 2) ↔ AreNoForm words.now }
     ensures untouched { result ≡ 2 → (source.new ≡ source.old) × (sink.new ≡ sink.old) }
     ensures read_fault { result ≡ 3 → HasRisen (S.faults source.old) (S.faults source.new) }
     ensures write_fault { result ≡ 4 → HasRisen (K.faults sink.old) (K.faults sink.new) }

@@ -2,7 +2,7 @@
 use Rattle.std.specs.Prelude.{ℕ, ◌^◌, Bool, ◌&&◌, ◌||◌, nat_lt, nat_le, ◌==◌, List, length}
 use Rattle.std.specs.Char.{is_ascii_alphanumeric}
 use Rattle.std.specs.List.{list_all}
-use Rattle.scrypt_plain.specs.Profile.{within_bounds}
+use Rattle.scrypt_plain.specs.Bounds.{in_bounds}
 
 -- a password or salt that is taken
 abbrev pub is_short : List ℕ → Bool
@@ -11,7 +11,7 @@ is_short xs = nat_lt (length xs) (2 ^ 30)
 -- scrypt takes these, for a key of n bytes
 abbrev pub scrypt_takes : List ℕ → List ℕ → ℕ → ℕ → ℕ → ℕ → Bool
 scrypt_takes password salt ln r p n =
-    is_short password && is_short salt && nat_le 1 n && nat_le n 64 && within_bounds ln r p
+    is_short password && is_short salt && nat_le 1 n && nat_le n 64 && in_bounds ln r p
 
 -- SHA-crypt takes the password and the rounds
 abbrev pub rounds_taken : List ℕ → ℕ → Bool

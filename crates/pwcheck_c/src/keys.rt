@@ -1,22 +1,12 @@
 //! Keys.
 
 ghost use Rattle.std.specs.Prelude.{◌≡◌, ◌⊎◌, ◌^◌, length, true, false};
-ghost use Rattle.scrypt_plain.specs.Bounds.{InBounds};
-ghost use Rattle.scrypt_plain.specs.Profile.{within_bounds};
 ghost use Rattle.scrypt_plain.specs.Scrypt.{scrypt};
 ghost use Rattle.pwcheck_c.specs.Inputs.{scrypt_takes};
 
 use crate::statuses::{DONE, LONG, NO_MEMORY, OUT_OF_RANGE};
 use scrypt_plain::{in_bounds, scrypt};
 use std::alloc::Global;
-
-// Whether a cost is taken.
-fn is_cost_taken(ln: u32, r: u32, p: u32) -> bool
-    ensures test { result ≡ within_bounds ln r p }
-    ensures bounds { result ≡ true → InBounds ln r p }
-{
-    in_bounds(ln, r, p)
-}
 
 /// Writes scrypt's key of `out_len` bytes.
 #[unsafe(no_mangle)]
@@ -38,7 +28,7 @@ pub extern "C" fn pwcheck_scrypt(
     if password.len() >= LONG || salt.len() >= LONG || out.len() < 1 || out.len() > 64 {
         return OUT_OF_RANGE;
     }
-    if !is_cost_taken(ln, r, p) {
+    if !in_bounds(ln, r, p) {
         return OUT_OF_RANGE;
     }
     match scrypt(alloc, password, salt, ln, r, p, out) {

@@ -23,7 +23,8 @@ use Rattle.stored_check.proofs.MadeTexts as made_texts
 use Rattle.stored_check.specs.Verdict.{phc_answer, same_text}
 use Rattle.scrypt_plain.specs.Lengths.{length-pbkdf2_once}
 use Rattle.scrypt_plain.specs.Pbkdf2.{pbkdf2_once}
-use Rattle.scrypt_plain.specs.Profile.{accepted, cost_of, key, scrypt_accepts, scrypt_key, within_bounds}
+use Rattle.scrypt_plain.specs.Profile.{accepted, cost_of, key, scrypt_accepts, scrypt_key}
+use Rattle.scrypt_plain.specs.Bounds.{in_bounds}
 use Rattle.scrypt_plain.specs.Scrypt.{mixed_parts, scrypt}
 use Rattle.scrypt_plain.specs.declared.profile.Cost.{Cost}
 use Rattle.scrypt_plain.proofs.KeyBytes.{scrypt_bytes}
@@ -58,7 +59,7 @@ pub record IsWritten (ln r p : List ℕ) (n b c : ℕ) : Type 0 where
   pub short : length (pairs_text (made_params ln r p)) ≤ 127
   pub field : field_fault (pairs_text (made_params ln r p)) ≡ None
   pub numbers : cost_of (made_record ln r p [] []) ≡ Some (cost n b c)
-  pub bounds : within_bounds n b c ≡ true
+  pub bounds : in_bounds n b c ≡ true
 
 -- ---- fields
 

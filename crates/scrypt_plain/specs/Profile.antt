@@ -1,19 +1,14 @@
 -- The PHC records for which scrypt derives a key (a profile of this crate's own), and that key.
-use Rattle.std.specs.Prelude.{ℕ, ◌*◌, ◌^◌, Bool, true, false, ◌&&◌, List, nat_eq, nat_lt, nat_le, ◌==◌, length}
+use Rattle.std.specs.Prelude.{ℕ, ◌^◌, Bool, true, false, ◌&&◌, List, nat_eq, nat_le, ◌==◌, length}
 use Rattle.std.specs.Prelude.{replicate, Option, Some, None, is_none, codes}
 use Rattle.std.specs.Option.{option_and_then}
 use Rattle.std.specs.Cmp.Lexicographic.{pointwise}
 use Rattle.phc.specs.Grammar.{decimal_value}
 use Rattle.phc.specs.Params.{get}
 use Rattle.phc.specs.declared.password_hash.PasswordHash.{PasswordHash}
+use Rattle.scrypt_plain.specs.Bounds.{in_bounds}
 use Rattle.scrypt_plain.specs.Scrypt.{scrypt}
 use Rattle.scrypt_plain.specs.declared.profile.Cost.{Cost}
-
--- the test for parameters in bounds
-abbrev pub within_bounds : ℕ → ℕ → ℕ → Bool
-within_bounds ln r p =
-    nat_le 1 ln && nat_le ln 24 && nat_lt ln (16 * r) && nat_le 1 r && nat_le 1 p && nat_le p 1024
-    && nat_le (r * p) 131072 && nat_le (128 * r * 2 ^ ln) (2 ^ 28)
 
 -- the decimal with this name
 abbrev pub number : PasswordHash → List ℕ → Option ℕ
@@ -29,7 +24,7 @@ cost_of parsed = cost_of_numbers (number parsed (codes "ln")) (number parsed (co
 
 abbrev pub is_cost_in_bounds : Option Cost → Bool
 is_cost_in_bounds None = false
-is_cost_in_bounds (Some cost) = within_bounds cost.ln cost.r cost.p
+is_cost_in_bounds (Some cost) = in_bounds cost.ln cost.r cost.p
 
 -- The identifier is `scrypt`, there is no version, the parameters are three with the names `ln`, `r` and `p`, thus each
 -- once and in any order, each a decimal and together in bounds, and the key has 10 to 64 bytes.

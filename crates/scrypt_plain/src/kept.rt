@@ -1,8 +1,8 @@
 //! scrypt for PHC records, in a table that is kept.
 
-ghost use Rattle.std.specs.Prelude.{◌≡◌, ◌+◌, ◌*◌, ◌^◌, ◌<◌, ◌≤◌, length, IsOk, OnOk, true};
+ghost use Rattle.std.specs.Prelude.{◌≡◌, ◌*◌, ◌^◌, ◌<◌, ◌≤◌, length, OnOk, true};
 ghost use Rattle.std.specs.Vec.{vec_len};
-ghost use Rattle.scrypt_plain.specs.Bounds.{InBounds};
+ghost use Rattle.scrypt_plain.specs.Bounds.{in_bounds};
 ghost use Rattle.scrypt_plain.specs.Profile.{scrypt_accepts, scrypt_key};
 ghost use Rattle.scrypt_plain.specs.KeyLength.{length-scrypt_key};
 ghost use Rattle.scrypt_plain.specs.Scrypt.{scrypt};
@@ -45,7 +45,7 @@ impl ScryptKept {
         p: u32,
         out: &mut [u8],
     ) -> Result<(), AllocError>
-        requires bounds { InBounds ln r p }
+        requires bounds { in_bounds ln r p ≡ true }
         requires password_length { length password.now < 2 ^ 30 }
         requires salt_length { length salt.now < 2 ^ 30 }
         requires key_length_least { 1 ≤ length out.old }
@@ -82,7 +82,7 @@ fn scrypt_kept(
     p: u32,
     out: &mut [u8],
 ) -> Result<(), AllocError>
-    requires bounds { InBounds ln r p }
+    requires bounds { in_bounds ln r p ≡ true }
     requires password_length { length password.now < 2 ^ 30 }
     requires salt_length { length salt.now < 2 ^ 30 }
     requires key_length_least { 1 ≤ length out.old }

@@ -14,7 +14,7 @@ use Rattle.base64ct.proofs.Padding.{length-encoding, padding_count}
 use Rattle.line_io.specs.Devices.{AppendsPrefix, WhereTold}
 use Rattle.line_io.specs.Runs.{IsPrefix}
 use Rattle.line_io.proofs.Moved.{appends_more, appends_none, consumes_more, consumes_none, where_told}
-use Rattle.line_io.proofs.Moved.{where_told_end}
+use Rattle.line_io.proofs.Moved.{where_told_end, consumes_no_more}
 use Rattle.base64ct.specs.Encoders.{whole_blocks}
 use Rattle.wrap_stream.specs.Outcomes.{WrapOutcome, wrapped}
 use Rattle.base64ct.specs.Encoders.{wrap_from, room_after}
@@ -284,9 +284,10 @@ module _ (w : ℕ) (left left_mid left_now written written_mid written_now : Opt
       → Appends written_mid written_now (wrap_from w (10 ∷ []) room (encoding base64 waiting))
       → WhereTold left left_now written written_now (λ held taken added. WrapOutcome w 0 max held taken added)
   wrap_done max c end fits a =
-      where_told_end left left_mid left_now written written_now h.bytes
+      where_told_end left left_now written written_now h.bytes
       (wrapped w (whole_blocks h.bytes) ++ wrap_from w (10 ∷ []) room (encoding base64 waiting))
-      (λ held taken added. WrapOutcome w 0 max held taken added) h.consumed c end
+      (λ held taken added. WrapOutcome w 0 max held taken added)
+      (consumes_no_more left left_mid left_now h.bytes h.consumed c) end
       (appends_more written written_mid written_now (wrapped w (whole_blocks h.bytes))
       (wrap_from w (10 ∷ []) room (encoding base64 waiting)) h.added a)
       (row_done w max h.bytes h.bytes _ (omega (arith, h.count)) refl (sym end_text))
@@ -296,8 +297,9 @@ module _ (w : ℕ) (left left_mid left_now written written_mid written_now : Opt
       → AppendsPrefix written_mid written_now (wrap_from w (10 ∷ []) room (encoding base64 waiting))
       → WhereTold left left_now written written_now (λ held taken added. WrapOutcome w 4 max held taken added)
   wrap_cut_end max c end part =
-      where_told_end left left_mid left_now written written_now h.bytes (wrapped w (whole_blocks h.bytes) ++ part.0)
-      (λ held taken added. WrapOutcome w 4 max held taken added) h.consumed c end
+      where_told_end left left_now written written_now h.bytes (wrapped w (whole_blocks h.bytes) ++ part.0)
+      (λ held taken added. WrapOutcome w 4 max held taken added)
+      (consumes_no_more left left_mid left_now h.bytes h.consumed c) end
       (appends_more written written_mid written_now (wrapped w (whole_blocks h.bytes)) part.0 h.added part.3)
       (row_cut w max h.bytes h.bytes _ (
         part.1,
