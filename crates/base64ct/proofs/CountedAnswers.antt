@@ -251,7 +251,3 @@ encoding_passes r a t b lawful below equal is =
 
 abbrev looks_unless : ℕ → Bool → ℕ
 looks_unless n b = cond b 0 (4 * (n / 4) + 4)
-
-looks_small : (n : ℕ) (b : Bool) → looks_unless n b ≤ n + 4
-looks_small n true = omega arith
-looks_small n false = omega arith
