@@ -10,7 +10,7 @@ use Rattle.base64ct.specs.Encoding.{Alphabet, is_alphabet, character, unpadded_e
 use Rattle.base64ct.specs.Encoding.{padding_len, equals_sign, decoded_len, EachBelow, AreCharacters, IsMisaligned}
 use Rattle.base64ct.specs.Encoding.{Reads, IsLenient}
 use Rattle.base64ct.specs.Tables.{stem, filled, last_four, compared, reencoded, Passes}
-use Rattle.base64ct.specs.Counts.{is_refused, look_count, comparison_count}
+use Rattle.base64ct.specs.Counts.{is_refused, comparison_count}
 use Rattle.base64ct.proofs.Values.{value_at, map-value-character}
 use Rattle.base64ct.proofs.Encodings.{stem-text, below-drop}
 use Rattle.base64ct.proofs.Unpadded.{length-unpadded, unpadded-nil}
@@ -251,17 +251,3 @@ encoding_passes r a t b lawful below equal is =
 
 abbrev looks_unless : ℕ → Bool → ℕ
 looks_unless n b = cond b 0 (4 * (n / 4) + 4)
-
-looks_small : (n : ℕ) (b : Bool) → looks_unless n b ≤ n + 4
-looks_small n true = omega arith
-looks_small n false = omega arith
-
-pub look_count_small : (a : Alphabet) (t : List ℕ) (room : ℕ) → look_count a t room ≤ length t + 4
-look_count_small a t room = omega (arith, looks_small (length t - padding_len a t) (is_refused a t room))
-
-pub comparison_count_small : (a : Alphabet) (t : List ℕ) (room : ℕ) → comparison_count a t room ≤ 4
-comparison_count_small a t room = go (is_refused a t room || (length t == 0))
-  where
-    go : (b : Bool) → four_unless b ≤ 4
-    go true = omega arith
-    go false = omega arith

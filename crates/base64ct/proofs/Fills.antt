@@ -409,9 +409,3 @@ measured a w body block bytes at room k next left n lawful s is end some few thr
       omega (arith, e.3),
       omega (arith, length_at a e.0 k (omega (arith, e.3)), count),
     )
-
--- a decoder that has read nothing
-pub standing_none : (a : Alphabet) (w : ℕ) (body t kept : List ℕ) → length kept ≡ 3 → characters_from w w body ≡ Some t
-    → IsEncoding a (last_block t) → Standing a w body t kept 0 w 0
-standing_none a w body t kept three text last =
-    record { last = last; place = (text, omega arith); keeps = λ ne. absurd (ne refl); three = three }

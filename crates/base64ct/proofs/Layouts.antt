@@ -87,12 +87,6 @@ end_parts (c ∷ d ∷ f ∷ rest) = longer c (d ∷ f ∷ rest) (without_end (d
     longer c text t (inl e) = inl (ap (λ (l : List ℕ). c ∷ l) e)
     longer c text t (inr (e, is, sum)) = inr (e, is, ap (λ (l : List ℕ). c ∷ l) sum)
 
-and-left : (a b : Bool) → a ≡ false → a && b ≡ false
-and-left a b e = rw e refl
-
-or-none : (a b : Bool) → a ≡ false → b ≡ false → a || b ≡ false
-or-none a b e f = rw (e, f) refl
-
 -- a text without endings in it has none at its end
 without_none : (t : List ℕ) → NoEnds t → without_end t ≡ t
 unfolding without_end

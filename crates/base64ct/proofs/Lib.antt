@@ -13,7 +13,6 @@ pub mod GoodBlocks
 pub mod Compared
 pub mod CountedReading
 pub mod CountedAnswers
-pub mod MaskedTerms
 pub mod StepLaws
 pub mod DecodingLaws
 pub mod DecodingAnswers

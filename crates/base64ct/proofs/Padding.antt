@@ -154,10 +154,6 @@ refused_end a t count r lawful e refused accepted b below is =
     sym (stem-encoding a b lawful below) ∙ ap (λ (l : List ℕ). stem a l) is ∙ rw e refl in
     false≢true (sym refused ∙ accepted b below stem_is)
 
-pub padding_len_of : (a : Alphabet) (t : List ℕ) (p : Bool) → a.padded ≡ p
-    → cond p (count_by (λ c. c == equals_sign) (drop (length t - 2) t)) 0 ≡ padding_len a t
-padding_len_of a t p e = rw e refl
-
 pub one_counted : (m : List ℕ) (r : ℕ) → length m ≡ 1 → r ≡ bool_byte (slice_index m 0 == equals_sign)
     → r ≡ count_by (λ c. c == equals_sign) (drop (length m - 2) m)
 one_counted [] r len e = absurd (omega arith)
@@ -239,7 +235,3 @@ lenient_refused a t count r lawful e refused accepted b (values, below, odd, is,
     let all : AreCharacters a (take (length t - count) t) =
     subst (AreCharacters a) (sym stem_is) (are_characters-map a values lawful below) in
     false≢true (sym refused ∙ accepted (λ one. odd (sym (ap (λ (m : ℕ). m % 4) len) ∙ one)) all)
-
-pub lenient_misaligned : (a : Alphabet) (t b : List ℕ) → IsMisaligned a t → IsLenient a t b → ⊥
-lenient_misaligned a t b wrong (values, below, odd, is, bytes) =
-    wrong.1 (ap (λ (l : List ℕ). length l % 4) is ∙ length-text_padded a values wrong.0)

@@ -60,11 +60,6 @@ unfolding whole_bytes eights bits low_bits number
 whole_bytes-two true v w lv lw = cons_equal (omega arith) refl
 whole_bytes-two false v w lv lw = cons_equal (omega arith) refl
 
-pub whole_bytes-one : (low_first : Bool) (v : ℕ) → whole_bytes low_first (v ∷ []) ≡ []
-unfolding whole_bytes eights bits low_bits
-whole_bytes-one true v = refl
-whole_bytes-one false v = refl
-
 pub whole_bytes-nil : (low_first : Bool) → whole_bytes low_first [] ≡ []
 unfolding whole_bytes eights bits
 whole_bytes-nil low_first = refl

@@ -1,8 +1,16 @@
 -- What the steps of an alphabet give.
-use Rattle.std.proofs.Common.{◌≡◌, ℕ, zero, suc, ◌<◌, Bool, true, ◌==◌, ap, ◌∙◌, arith, inl, inr}
+use Rattle.std.proofs.Common.{◌≡◌, ℕ, zero, suc, ◌<◌, Bool, true, ◌==◌, Option, Some, None, refl, ap, ◌∙◌, arith}
+use Rattle.std.proofs.Common.{List, [], ◌∷◌, inl, inr, ◌%◌, w16, ℤ, to_z, pos, negsuc}
+use Rattle.std.specs.Prelude.{MatchOption, ⊤}
+use Rattle.std.proofs.lemmas.Int.{to_z_pos, to_z-of_z}
+use Rattle.std.specs.Int.{cast_unsigned}
+use Rattle.std.specs.Int.Signed.{mag}
 use Rattle.std.proofs.lemmas.Bool.{and_parts, eqb-true, cases_eq}
-use Rattle.base64ct.specs.Encoding.{Alphabet, character, value_of}
-use Rattle.base64ct.specs.Steps.{Steps, all_below, decoded_by, encoded_by, word_of, steps_agree}
+use Rattle.base64ct.specs.Encoding.{Alphabet, is_alphabet, are_ascii, character, value_of}
+use Rattle.base64ct.specs.Steps.{Steps, EncodeStep, past_value, past_sum, encode_from, all_below, decoded_by}
+use Rattle.base64ct.specs.Steps.{encoded_by, word_of, steps_agree}
+use Rattle.base64ct.proofs.Values.{value_of-Some}
+use Rattle.base64ct.proofs.Ascii.{items_below}
 
 -- a test that passed below n passes at each k below n
 pub at_below : (n : ℕ) (test : ℕ → Bool) → all_below n test ≡ true → (k : ℕ) → k < n → test k ≡ true
@@ -27,3 +35,44 @@ step_encoded a s agree v lt =
     let parts = and_parts (all_below 256 (λ c. decoded_by s c == word_of (value_of a c)))
     (all_below 64 (λ v. encoded_by s v == character a v)) agree in
     eqb-true _ _ (at_below 64 (λ v. encoded_by s v == character a v) parts.1 v lt)
+
+-- ---- the words of values and of characters as numbers
+
+value_small : (a : Alphabet) (c : ℕ) → is_alphabet a ≡ true → MatchOption (value_of a c) ⊤ (λ v. v < 64)
+value_small a c lawful = go (value_of a c) refl
+  where
+    go : (o : Option ℕ) → value_of a c ≡ o → MatchOption o ⊤ (λ v. v < 64)
+    go None e = tt
+    go (Some v) e = (value_of-Some a c v lawful e).0
+
+signed_word : (o : Option ℕ) (n : ℕ) → n ≡ word_of o → MatchOption o ⊤ (λ v. v < 64)
+    → MatchOption o (to_z w16 n ≡ negsuc 0) (λ v. to_z w16 n ≡ pos v)
+signed_word None n e below = rw e refl
+signed_word (Some v) n e below = rw e (to_z_pos w16 v (omega arith))
+
+pub decoded_value : (a : Alphabet) (s : Steps) (c n : ℕ) → is_alphabet a ≡ true → steps_agree a s ≡ true → c < 256
+    → n ≡ decoded_by s c → MatchOption (value_of a c) (to_z w16 n ≡ negsuc 0) (λ v. to_z w16 n ≡ pos v)
+decoded_value a s c n lawful agree lt e =
+    signed_word (value_of a c) n (e ∙ step_decoded a s agree c lt) (value_small a c lawful)
+
+-- a number of 16 bits is that of its word
+pub word_kept : (z : ℤ) → mag z < 0x8000 → to_z w16 (cast_unsigned w16 z) ≡ z
+word_kept z lt = to_z-of_z w16 z (record { sfits = lt })
+
+-- a step, and those behind it
+pub encode_more : (x y z v : ℕ) (step : EncodeStep) (steps : List EncodeStep) → y ≡ encode_from x v (step ∷ [])
+    → z ≡ encode_from y v steps → z ≡ encode_from x v (step ∷ steps)
+encode_more x y z v (past_value bound n) steps e f = f ∙ ap (λ (w : ℕ). encode_from w v steps) e
+encode_more x y z v (past_sum bound n) steps e f = f ∙ ap (λ (w : ℕ). encode_from w v steps) e
+
+pub four_steps : (x0 x1 x2 x3 x4 v : ℕ) (s1 s2 s3 s4 : EncodeStep) → x1 ≡ encode_from x0 v (s1 ∷ [])
+    → x2 ≡ encode_from x1 v (s2 ∷ []) → x3 ≡ encode_from x2 v (s3 ∷ []) → x4 ≡ encode_from x3 v (s4 ∷ [])
+    → x4 ≡ encode_from x0 v (s1 ∷ s2 ∷ s3 ∷ s4 ∷ [])
+four_steps x0 x1 x2 x3 x4 v s1 s2 s3 s4 e1 e2 e3 e4 =
+    encode_more x0 x1 x4 v s1 (s2 ∷ s3 ∷ s4 ∷ []) e1
+    (encode_more x1 x2 x4 v s2 (s3 ∷ s4 ∷ []) e2 (encode_more x2 x3 x4 v s3 (s4 ∷ []) e3 e4))
+
+pub encoded_character : (a : Alphabet) (s : Steps) (v n : ℕ) → are_ascii a ≡ true → steps_agree a s ≡ true → v < 64
+    → n ≡ encoded_by s v → n % 256 ≡ character a v
+encoded_character a s v n ascii agree lt e =
+    omega (arith, e, step_encoded a s agree v lt, items_below 128 a.characters (omega arith) ascii v)

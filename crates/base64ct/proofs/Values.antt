@@ -66,10 +66,6 @@ IsAlphabet-parts a h =
 pub value-character : (a : Alphabet) (v : ℕ) → is_alphabet a ≡ true → v < 64 → value_at a.characters (character a v) ≡ v
 value-character a v h lt = let parts = IsAlphabet-parts a h in value_of_item a.characters v parts.2 (omega arith)
 
-pub character-value : (a : Alphabet) (c : ℕ) → is_alphabet a ≡ true → value_at a.characters c < 64
-    → character a (value_at a.characters c) ≡ c
-character-value a c h lt = let parts = IsAlphabet-parts a h in value_found a.characters c (omega arith)
-
 -- `=` is no character
 pub character_is_no_equals : (a : Alphabet) (v : ℕ) → is_alphabet a ≡ true → v < 64 → character a v ≢ equals_sign
 character_is_no_equals a v h lt = let parts = IsAlphabet-parts a h in
@@ -106,14 +102,6 @@ no_equals_counted a (v ∷ vs) h below =
     ) refl
 
 -- ---- a search from the front
-
-pub found_first : (cs : List ℕ) (c v : ℕ) → v < length cs → ((k : ℕ) → k < v → slice_index cs k ≢ c)
-    → slice_index cs v ≡ c → MatchOption (position (λ x. x == c) cs) (64 ≤ v) (λ p. v ≡ p)
-found_first cs c v lt before at =
-    let first : value_at cs c ≡ v =
-    position_or_len_is (λ x. x == c) cs v 0 (omega arith) (λ k below. ne_eqb _ c (before k below))
-    (λ _. eq-eqb _ c at) in
-    rw (first, lt-ltb v (length cs) lt) refl
 
 pub found_none : (cs : List ℕ) (c : ℕ) → length cs ≡ 64 → ((k : ℕ) → k < 64 → slice_index cs k ≢ c)
     → MatchOption (position (λ x. x == c) cs) (64 ≤ 64) (λ p. 64 ≡ p)

@@ -1,8 +1,8 @@
 -- Text written in lines.
 use Rattle.std.proofs.Common.{◌≡◌, ℕ, zero, suc, ◌+◌, ◌-◌, ◌%◌, ◌<◌, ◌≤◌, true, List, [], ◌∷◌, ◌++◌, length, take, drop}
-use Rattle.std.proofs.Common.{refl, sym, ap, ◌∙◌, arith, take-add, slice_index}
+use Rattle.std.proofs.Common.{refl, sym, ap, ◌∙◌, arith, take-add}
 use Rattle.std.proofs.lemmas.List.{append_assoc, append-nil, length-append, take_at, take-append-drop, length-take-le}
-use Rattle.std.proofs.lemmas.List.{length-drop, drop-drop, drop_more}
+use Rattle.std.proofs.lemmas.List.{length-drop, drop-drop}
 use Rattle.std.proofs.lemmas.Slice.{take-put_mid}
 use borrow.Rule.Slice.PartMut.{put_mid}
 use Rattle.base64ct.proofs.Encodings.{below-take, below-drop}
@@ -341,14 +341,3 @@ line_wrote w e out one xs more ys at l m n e1 el ey en pos h fits =
       within = f.within;
       at = rw (← en) (sym (room-new_line w n pos h));
     }
-
-pub three_of : (m : List ℕ) (i : ℕ) → i + 3 ≤ length m
-    → take 3 (drop i m) ≡ slice_index m i ∷ slice_index m (i + 1) ∷ slice_index m (i + 2) ∷ []
-three_of m i h =
-    let two : i + 1 + 1 ≡ i + 2 = omega arith in
-    rw (
-      drop_more m i 0 (omega arith),
-      drop_more m (i + 1) 0 (omega arith),
-      drop_more m (i + 1 + 1) 0 (omega arith),
-      two,
-    ) refl

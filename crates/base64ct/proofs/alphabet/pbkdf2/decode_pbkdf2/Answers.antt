@@ -1,6 +1,16 @@
-use Rattle.std.proofs.Common.{arith}
-use Rattle.base64ct.proofs.MaskedTerms.{decoded_pbkdf2}
+use Rattle.std.proofs.Common.{refl, arith}
+use Rattle.base64ct.specs.Alphabets.{base64_pbkdf2, base64_pbkdf2_steps}
+use Rattle.base64ct.specs.StepsAgree.{base64_pbkdf2_agrees}
+use Rattle.base64ct.proofs.StepLaws.{decoded_value}
 use Rattle.base64ct.proofs.alphabet.pbkdf2.decode_pbkdf2.Goals as goal
 
 pub returns : goal.returns
-returns c = decoded_pbkdf2 c.args.c (omega arith)
+returns c =
+    decoded_value base64_pbkdf2 base64_pbkdf2_steps c.args.c _ refl base64_pbkdf2_agrees (omega arith)
+    (rw (
+      c.range_step.ensures,
+      c.range_step-2.ensures,
+      c.range_step-3.ensures,
+      c.one_step.ensures,
+      c.one_step-2.ensures,
+    ) refl)
