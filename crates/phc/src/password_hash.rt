@@ -263,19 +263,6 @@ fn has_printable_parts(parsed: &PasswordHash) -> bool
         && !(parsed.version.is_none() && has_lone_v(&parsed.params))
 }
 
-// The same record.
-pub(crate) fn copy_of(parsed: &PasswordHash) -> PasswordHash
-    ensures { result ≡ parsed.now }
-{
-    PasswordHash {
-        algorithm: parsed.algorithm,
-        version: parsed.version,
-        params: parsed.params,
-        salt: parsed.salt,
-        hash: parsed.hash,
-    }
-}
-
 // What the type of a version promises.
 fn promised_by_version(version: Option<Decimal>)
     ensures { IfSome version (λ n. n < 2 ^ 32) }
