@@ -162,42 +162,6 @@ fn record_of(id: &str, parts: FormParts<'_>, counts: &mut Counts) -> Result<Pass
     })
 }
 
-// The record of an identifier and the pieces behind it.
-#[tactic(auto, unfolding(crate::specs::Record::phc))]
-fn record_of_pieces(id: &str, pieces: Option<&str>, counts: &mut Counts) -> Result<PasswordHash>
-    requires looks { counts.old.looks ≤ 2 ^ 62 }
-    requires sames { counts.old.sames ≤ 2 ^ 62 }
-    ensures record_or_fault { result ≡ phc id.now (pieces_left dollar pieces.entry) }
-    ensures looks { OnOk result (counts.new.looks ≡ counts.old.looks + layout_looks (layout (pieces_left dollar pieces.entry))) }
-    ensures sames { OnOk result (counts.new.sames ≡ counts.old.sames + layout_comparisons (layout (pieces_left dollar pieces.entry))) }
-    ensures most_looks { counts.new.looks ≤ counts.old.looks + 156 }
-    ensures most_sames { counts.new.sames ≤ counts.old.sames + 8 }
-    ensures looks_stay { counts.old.looks ≤ counts.new.looks }
-    ensures sames_stay { counts.old.sames ≤ counts.new.sames }
-{
-    record_of(id, layout(pieces), counts)
-}
-
-// The record of a text.
-#[tactic(auto, unfolding(crate::specs::Record::phc_text))]
-fn record_of_text(s: &str, counts: &mut Counts) -> Result<PasswordHash>
-    requires looks { counts.old.looks ≤ 2 ^ 62 }
-    requires sames { counts.old.sames ≤ 2 ^ 62 }
-    ensures record_or_fault { result ≡ phc_text s.now }
-    ensures looks { OnOk result (counts.new.looks ≡ counts.old.looks + layout_looks (layout_of_text s.now)) }
-    ensures sames { OnOk result (counts.new.sames ≡ counts.old.sames + layout_comparisons (layout_of_text s.now)) }
-    ensures most_looks { counts.new.looks ≤ counts.old.looks + 156 }
-    ensures most_sames { counts.new.sames ≤ counts.old.sames + 8 }
-    ensures looks_stay { counts.old.looks ≤ counts.new.looks }
-    ensures sames_stay { counts.old.sames ≤ counts.new.sames }
-{
-    let Some(body) = behind(s, "$") else {
-        return Err(Error::MissingField);
-    };
-    let (id, pieces) = first_piece(body, '$');
-    record_of_pieces(id, pieces, counts)
-}
-
 impl PasswordHash {
     /// The record that a text is.
     ///
@@ -233,7 +197,12 @@ impl PasswordHash {
         ensures looks_stay { counts.old.looks ≤ counts.new.looks }
         ensures sames_stay { counts.old.sames ≤ counts.new.sames }
     {
-        record_of_text(s, counts)
+        // A record is large, so that no further function hands it on.
+        let Some(body) = behind(s, "$") else {
+            return Err(Error::MissingField);
+        };
+        let (id, pieces) = first_piece(body, '$');
+        record_of(id, layout(pieces), counts)
     }
 
     /// Whether the text of the record is read back as the record. It is not where there is a hash and no
@@ -261,19 +230,6 @@ fn has_printable_parts(parsed: &PasswordHash) -> bool
 {
     !(parsed.hash.is_some() && parsed.salt.is_none())
         && !(parsed.version.is_none() && has_lone_v(&parsed.params))
-}
-
-// The same record.
-pub(crate) fn copy_of(parsed: &PasswordHash) -> PasswordHash
-    ensures { result ≡ parsed.now }
-{
-    PasswordHash {
-        algorithm: parsed.algorithm,
-        version: parsed.version,
-        params: parsed.params,
-        salt: parsed.salt,
-        hash: parsed.hash,
-    }
 }
 
 // What the type of a version promises.

@@ -6,7 +6,7 @@ ghost use Rattle.std.specs.Cmp.Lexicographic.{pointwise, nat_list_eq_equiv};
 ghost use Rattle.phc.specs.Kept.{IsKept};
 ghost use Rattle.phc.specs.Record.{is_printable, phc_text, record_text};
 
-use crate::password_hash::{copy_of, promised_by_parts};
+use crate::password_hash::promised_by_parts;
 use crate::{Decimal, Ident, Output, ParamsString, PasswordHash, PhcStringError, Salt};
 use std::alloc::{AllocError, Global};
 use std::fmt;
@@ -54,10 +54,8 @@ impl PasswordHashString {
     {
         promised_by_parts(hash);
         let text = format!(in alloc; "{hash}")?;
-        Ok(PasswordHashString {
-            text,
-            parsed: copy_of(hash),
-        })
+        let parsed = hash.clone()?;
+        Ok(PasswordHashString { text, parsed })
     }
 
     /// A copy.
@@ -65,17 +63,18 @@ impl PasswordHashString {
         ensures same { IfOk result (λ h. h ≡ self.now) }
     {
         let text = String::from_str(alloc, self.as_str())?;
-        Ok(PasswordHashString {
-            text,
-            parsed: copy_of(&self.parsed),
-        })
+        let parsed = self.parsed.clone()?;
+        Ok(PasswordHashString { text, parsed })
     }
 
     /// The record.
     pub fn password_hash(&self) -> PasswordHash
         ensures same { result ≡ self.now }
     {
-        copy_of(&self.parsed)
+        match self.parsed.clone() {
+            Ok(parsed) => parsed,
+            Err(_) => unreachable!(),
+        }
     }
 
     /// The text.

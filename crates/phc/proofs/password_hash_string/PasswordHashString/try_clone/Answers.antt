@@ -1,4 +1,4 @@
-use Rattle.std.proofs.Common.{◌≡◌, Ok, ap, ◌∙◌, sym}
+use Rattle.std.proofs.Common.{rules, ◌≡◌, Ok, ap, ◌∙◌, sym}
 use Rattle.std.specs.String.{string_bytes}
 use Rattle.phc.specs.Record.{phc_text, record_text}
 use Rattle.phc.proofs.Printed.{prints_back}
@@ -10,4 +10,5 @@ invariant_of-result c =
     let text : string_bytes c.in_ok-text.text ≡ string_bytes c.self.inside.text =
     c.in_ok-text.ensures.ok ∙ c.as_str.ensures.text ∙ ap record_text (sym c.self.view_is)
     ∙ prints_back (string_bytes c.self.inside.text) c.self.inside.parsed read in
-    ap phc_text text ∙ read ∙ ap Ok (sym c.copy_of.ensures)
+    let same : c.in_ok-parsed.parsed ≡ c.self.inside.parsed = search rules in
+    ap phc_text text ∙ read ∙ ap Ok (sym same)
