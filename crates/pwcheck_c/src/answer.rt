@@ -1,6 +1,6 @@
 //! Answers and their numbers.
 
-ghost use Rattle.std.specs.Prelude.{◌≡◌, ◌≤◌, Some};
+ghost use Rattle.std.specs.Prelude.{◌≡◌, Some};
 ghost use Rattle.std.specs.List.{slice_get};
 ghost use Rattle.pwcheck_c.specs.Numbers.{answer_of};
 ghost use Rattle.pwcheck_c.specs.Words.{answer_word};

@@ -1,6 +1,6 @@
 //! The words of answers.
 
-ghost use Rattle.std.specs.Prelude.{◌≡◌, ◌<◌, ◌≤◌, ◌+◌, MatchOption};
+ghost use Rattle.std.specs.Prelude.{◌≡◌, ◌<◌, MatchOption};
 ghost use Rattle.pwcheck_c.specs.Numbers.{answer_of};
 ghost use Rattle.pwcheck_c.specs.Words.{answer_word};
 ghost use Rattle.pwcheck_c.specs.Written.{IsWritten};

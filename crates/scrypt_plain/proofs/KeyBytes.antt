@@ -1,11 +1,11 @@
 -- A key is a list of bytes.
-use Rattle.std.proofs.Common.{◌≡◌, ℕ, zero, suc, ◌+◌, ◌/◌, ◌%◌, ◌^◌, ◌<◌, List, [], ◌∷◌, ◌++◌, take, slice_index, refl}
+use Rattle.std.proofs.Common.{ℕ, zero, suc, ◌+◌, ◌/◌, ◌<◌, List, [], ◌∷◌, ◌++◌, take, slice_index}
 use Rattle.std.proofs.Common.{arith}
 use Rattle.std.specs.Int.{w32, to_be_bytes, bytes_high_first, byte_at}
 use Rattle.sha2.specs.Sha256.{sha256, digest_bytes}
 use Rattle.scrypt_plain.specs.Hmac.{hmac}
 use Rattle.scrypt_plain.specs.Laws.{AreBytes}
-use Rattle.scrypt_plain.specs.Pbkdf2.{pbkdf2_blocks, pbkdf2_once}
+use Rattle.scrypt_plain.specs.Pbkdf2.{pbkdf2_blocks}
 use Rattle.scrypt_plain.specs.Scrypt.{scrypt}
 
 bytes_append : (xs ys : List ℕ) → AreBytes xs → AreBytes ys → AreBytes (xs ++ ys)

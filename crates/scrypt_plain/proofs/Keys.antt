@@ -1,35 +1,12 @@
 -- What an accepted record says.
-use Rattle.std.proofs.Common.{◌≡◌, ℕ, ◌*◌, ◌^◌, ◌≤◌, Bool, true, false, refl, ap, sym, ◌∙◌, arith, Some, None}
-use Rattle.std.specs.Prelude.{IsTrue, ◌↔◌, ◌&&◌, ◌==◌, codes, is_none, length, nat_eq, nat_le, nat_lt}
+use Rattle.std.proofs.Common.{◌≡◌, ℕ, ◌≤◌, Bool, true, false, refl, ap, sym, ◌∙◌, arith, Some, None}
+use Rattle.std.specs.Prelude.{◌&&◌, ◌==◌, codes, is_none, length, nat_eq, nat_le}
 use Rattle.std.specs.Cmp.Lexicographic.{pointwise}
 use Rattle.phc.specs.declared.password_hash.PasswordHash.{PasswordHash}
 use Rattle.scrypt_plain.specs.declared.profile.Cost.{Cost}
 use Rattle.std.proofs.lemmas.Bool.Decides.{nat_tests}
 use Rattle.scrypt_plain.specs.Bounds.{in_bounds}
 use Rattle.scrypt_plain.specs.Profile.{cost_of, is_cost_in_bounds, scrypt_accepts}
-
--- what the test of the bounds tells
-pub record Bounds (ln r p : ℕ) : Type 0 where
-  pub ln_least : 1 ≤ ln
-  pub ln_most : ln ≤ 24
-  pub r_least : 1 ≤ r
-  pub p_least : 1 ≤ p
-  pub p_most : p ≤ 1024
-  pub parts_fit : r * p ≤ 131072
-  pub table_fits : 128 * r * 2 ^ ln ≤ 2 ^ 28
-
-pub bounds : (ln r p : ℕ) → in_bounds ln r p ≡ true → Bounds ln r p
-bounds ln r p h = record {
-  ln_least = grind (arith, nat_tests, h);
-  ln_most = grind (arith, nat_tests, h);
-  r_least = grind (arith, nat_tests, h);
-  p_least = grind (arith, nat_tests, h);
-  p_most = grind (arith, nat_tests, h);
-  parts_fit = grind (arith, nat_tests, h);
-  table_fits = grind (arith, nat_tests, h);
-}
-
--- ---- a record that is accepted
 
 -- the last three of six facts
 last_three : (a b c d e f : Bool) → a && b && c && d && e && f ≡ true → (d ≡ true) × (e ≡ true) × (f ≡ true)
