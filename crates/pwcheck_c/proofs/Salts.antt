@@ -1,6 +1,6 @@
 -- Salts of crypt(5) have neither `$` nor `=`.
-use Rattle.std.proofs.Common.{◌≡◌, ℕ, ◌≤◌, Bool, true, false, List, length, refl, sym, ap, ◌∙◌, arith}
-use Rattle.std.specs.Prelude.{◌==◌, ◌&&◌, not, nat_le, Result, Ok, Err}
+use Rattle.std.proofs.Common.{◌≡◌, ℕ, ◌≤◌, Bool, true, false, List, length, refl, sym, subst, ap, ◌∙◌, arith}
+use Rattle.std.specs.Prelude.{◌==◌, ◌&&◌, not, nat_le, ℤ, Result, Ok, Err}
 use Rattle.std.specs.List.{list_all}
 use Rattle.std.proofs.lemmas.Bool.{and_parts, eqb-true, false≢true}
 use Rattle.std.proofs.lemmas.Bool.Decides.{nat_tests}
@@ -9,7 +9,8 @@ use Rattle.phc.proofs.Characters.{all_weaker}
 use Rattle.sha_crypt.proofs.MadeTexts.{IsSalt, is_not}
 use Rattle.sha_crypt.specs.declared.errors.CryptError.{CryptError}
 use Rattle.stored_check.specs.declared.error.StoredError.{StoredError}
-use Rattle.pwcheck_c.specs.Inputs.{is_salt, is_salt_character, is_short, rounds_taken}
+use Rattle.pwcheck_c.specs.Inputs.{is_salt, is_salt_character, is_short, rounds_taken, text_takes}
+use Rattle.pwcheck_c.specs.Written.{IsPut}
 
 -- what is no character of a salt is another one
 other : (c : ℕ) → is_salt_character c ≡ false → (b : ℕ) → is_salt_character b ≡ true → is_not c b ≡ true
@@ -48,9 +49,21 @@ rounds_in_range password rounds is =
     (grind (arith, nat_tests, first.1), grind (arith, nat_tests, parts.1))
 
 -- parameters that are made with these rounds have them
-pub rounds_once : (m n : ℕ) (r : Result ℕ CryptError) → r ≡ Ok m → r ≡ Ok n → m ≡ n
+rounds_once : (m n : ℕ) (r : Result ℕ CryptError) → r ≡ Ok m → r ≡ Ok n → m ≡ n
 rounds_once m n r is_m is_n =
     ap (λ (o : Result ℕ CryptError). elim o as (λ _. ℕ) [ Ok k ↦ k | Err e ↦ 0 ]) (sym is_m ∙ is_n)
+
+-- the text that was put, at the rounds that parameters have, is the one of these rounds
+pub text_put : (text_of : List ℕ → List ℕ → ℕ → List ℕ) (password salt text old new : List ℕ)
+    (rounds params n_old n_new : ℕ) (status : ℤ) (made : Result ℕ CryptError) → text_takes password salt rounds ≡ true
+    → (1000 ≤ rounds → rounds ≤ 999999999 → made ≡ Ok rounds) → made ≡ Ok params
+    → text ≡ text_of password salt params → IsPut text old new n_old n_new status
+    → IsPut (text_of password salt rounds) old new n_old n_new status
+text_put text_of password salt text old new rounds params n_old n_new status made taken inside is text_is put =
+    let range = rounds_in_range password rounds (and_parts (rounds_taken password rounds) (is_salt salt) taken).0 in
+    let same : params ≡ rounds = rounds_once params rounds made is (inside range.0 range.1) in
+    subst (λ (t : List ℕ). IsPut t old new n_old n_new status)
+    (text_is ∙ ap (λ (n : ℕ). text_of password salt n) same) put
 
 abbrev pub as_verdict : Bool → Result Bool StoredError
 as_verdict b = Ok b
