@@ -107,6 +107,22 @@ module _ (old : Rows) (line : List ℕ) where
   refusal : (e : FileError) → old ≡ changed old (change_of (of.command line) (Says (error_word e)))
   refusal e = let no = no_change e in stays (error_word e) no.0 no.1
 
+  -- what is answered to a command that is no listing: what it is to be, or want of memory, where that may be
+  answered : {A : Type 0} (c : of.Command) (truth answer : Result A FileError) (may : Bool)
+      (word_of : Result A FileError → Word) (after : Rows) → Asks line c
+      → reply_by (text_in old) (length old) old (Some c) ≡ Says (word_of truth)
+      → is_costly_by (text_in old) (length old) (Some c) ≡ may → is_want truth ≡ false → IsAnswer truth may answer
+      → after ≡ changed old (change_of (of.command line) (Says (word_of answer)))
+      → (answer ≡ Err refused.OutOfMemory → after ≡ old)
+      → AnswersLineOver old line after (line_reply answer (word_of answer))
+  answered {A} c truth answer may word_of after asks reply costly known (inl is) next same =
+      says answer (word_of answer) after (ap is_want is ∙ known)
+      (reply_is old line _ asks.0 asks.1 ∙ reply ∙ ap (λ (a : Result A FileError). Says (word_of a)) (sym is)) next
+  answered c truth answer may word_of after asks reply costly known (inr (want, lacks)) next same =
+      let is_costly : table_is_costly old line ≡ true = costly_is old line _ asks.0 asks.1 ∙ costly ∙ lacks in
+      let none = same want in
+      rw want (is_costly, none)
+
   -- ---- set
 
   set_next : (user new : List ℕ) (answer : Result (Unit {0}) FileError) → of.command line ≡ Some (of.Set user new)
@@ -120,15 +136,10 @@ module _ (old : Rows) (line : List ℕ) where
       (is_ok (set_answer (text_in old user) (length old) new)) answer
       → after ≡ rows_after_set old user new answer
       → AnswersLineOver old line after (line_reply answer (set_word answer))
-  set_answered user new after answer asks (inl is) rows =
-      let known : is_want answer ≡ false = ap is_want is ∙ set_known (text_in old user) (length old) new in
-      let word : table_reply old line ≡ Says (set_word answer) =
-      reply_is old line _ asks.0 asks.1 ∙ ap (λ (a : Result (Unit {0}) FileError). Says (set_word a)) (sym is) in
-      says answer (set_word answer) after known word (rows ∙ set_next user new answer asks.1)
-  set_answered user new after answer asks (inr (want, may)) rows =
-      let same : after ≡ old = rows ∙ ap (rows_after_set old user new) want in
-      let costly : table_is_costly old line ≡ true = costly_is old line _ asks.0 asks.1 ∙ may in
-      rw want (costly, same)
+  set_answered user new after answer asks is rows =
+      answered (of.Set user new) (set_answer (text_in old user) (length old) new) answer _ set_word after asks refl refl
+      (set_known (text_in old user) (length old) new) is (rows ∙ set_next user new answer asks.1)
+      (λ want. rows ∙ ap (rows_after_set old user new) want)
 
   -- ---- check
 
@@ -141,14 +152,9 @@ module _ (old : Rows) (line : List ℕ) where
   pub check_answered : (user password : List ℕ) (answer : Result Bool FileError) → Asks line (of.Check user password)
       → IsAnswer (check_answer (text_in old user) password) (check_may_lack (text_in old user) password) answer
       → AnswersLineOver old line old (line_reply answer (check_word answer))
-  check_answered user password answer asks (inl is) =
-      let known : is_want answer ≡ false = ap is_want is ∙ check_known (text_in old user) password in
-      let word : table_reply old line ≡ Says (check_word answer) =
-      reply_is old line _ asks.0 asks.1 ∙ ap (λ (a : Result Bool FileError). Says (check_word a)) (sym is) in
-      says answer (check_word answer) old known word (check_next answer)
-  check_answered user password answer asks (inr (want, may)) =
-      let costly : table_is_costly old line ≡ true = costly_is old line _ asks.0 asks.1 ∙ may in
-      rw want (costly, refl)
+  check_answered user password answer asks is =
+      answered (of.Check user password) (check_answer (text_in old user) password) answer _ check_word old asks refl refl
+      (check_known (text_in old user) password) is (check_next answer) (λ want. refl)
 
   -- ---- upgrade
 
@@ -166,15 +172,11 @@ module _ (old : Rows) (line : List ℕ) where
       answer
       → after ≡ rows_after_upgrade old user password salt answer
       → AnswersLineOver old line after (line_reply answer (upgrade_word answer))
-  upgrade_answered user salt password after answer asks (inl is) rows =
-      let known : is_want answer ≡ false = ap is_want is ∙ upgrade_known (text_in old user) password salt in
-      let word : table_reply old line ≡ Says (upgrade_word answer) =
-      reply_is old line _ asks.0 asks.1 ∙ ap (λ (a : Result Bool FileError). Says (upgrade_word a)) (sym is) in
-      says answer (upgrade_word answer) after known word (rows ∙ upgrade_next user salt password answer asks.1)
-  upgrade_answered user salt password after answer asks (inr (want, may)) rows =
-      let same : after ≡ old = rows ∙ ap (rows_after_upgrade old user password salt) want in
-      let costly : table_is_costly old line ≡ true = costly_is old line _ asks.0 asks.1 ∙ may in
-      rw want (costly, same)
+  upgrade_answered user salt password after answer asks is rows =
+      answered (of.Upgrade user salt password) (upgrade_answer (text_in old user) password salt) answer _ upgrade_word
+      after asks refl refl (upgrade_known (text_in old user) password salt) is
+      (rows ∙ upgrade_next user salt password answer asks.1)
+      (λ want. rows ∙ ap (rows_after_upgrade old user password salt) want)
 
   -- ---- list, and lines that are no command
 

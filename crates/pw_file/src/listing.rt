@@ -1,6 +1,6 @@
 //! Replies as they are written.
 
-ghost use Rattle.std.specs.Prelude.{◌≡◌, ◌++◌, ◌∷◌, []};
+ghost use Rattle.std.specs.Prelude.{◌++◌, ◌∷◌, []};
 ghost use Rattle.std.specs.List.{flat_map};
 ghost use Rattle.line_io.specs.Output.{Puts};
 ghost use Rattle.pw_file.specs.Lines.{shown};

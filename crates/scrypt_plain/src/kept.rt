@@ -7,7 +7,7 @@ ghost use Rattle.scrypt_plain.specs.Profile.{scrypt_accepts, scrypt_key};
 ghost use Rattle.scrypt_plain.specs.KeyLength.{length-scrypt_key};
 ghost use Rattle.scrypt_plain.specs.Scrypt.{scrypt};
 
-use crate::profile::cost_of;
+use crate::profile::taken_cost;
 use crate::{FIRST_WORD, ScryptPlain, scrypt, scrypt_in, work_len};
 use phc::PasswordHash;
 use std::alloc::{AllocError, Global};
@@ -111,6 +111,7 @@ impl PhcKdf for ScryptKept {
         ScryptPlain.accepts(parsed, salt, length)
     }
 
+    #[tactic(auto, unfolding(crate::specs::Profile::scrypt_key))]
     fn derive(
         &self,
         alloc: Global,
@@ -119,9 +120,7 @@ impl PhcKdf for ScryptKept {
         salt: &[u8],
         out: &mut [u8],
     ) -> Result<(), AllocError> {
-        match cost_of(parsed) {
-            Some(cost) => { self.scrypt_into(alloc, password, salt, cost.ln, cost.r, cost.p, out) }
-            None => unreachable!(),
-        }
+        let cost = taken_cost(parsed, out.len());
+        self.scrypt_into(alloc, password, salt, cost.ln, cost.r, cost.p, out)
     }
 }
