@@ -153,8 +153,8 @@ module _ (old : Rows) (line : List ℕ) where
       → IsAnswer (check_answer (text_in old user) password) (check_may_lack (text_in old user) password) answer
       → AnswersLineOver old line old (line_reply answer (check_word answer))
   check_answered user password answer asks is =
-      answered (of.Check user password) (check_answer (text_in old user) password) answer _ check_word old asks refl refl
-      (check_known (text_in old user) password) is (check_next answer) (λ want. refl)
+      answered (of.Check user password) (check_answer (text_in old user) password) answer _ check_word old asks
+      refl refl (check_known (text_in old user) password) is (check_next answer) (λ want. refl)
 
   -- ---- upgrade
 

@@ -1,9 +1,9 @@
 -- Runs that keep their input whole.
 use Rattle.std.proofs.Common.{◌≡◌, ◌≢◌, ℕ, ◌<◌, ◌≤◌, List, [], ◌∷◌, ◌++◌, length, drop, refl, sym, ap, ◌∙◌, subst}
-use Rattle.std.proofs.Common.{arith, Option, None, Some}
+use Rattle.std.proofs.Common.{arith, Option, Some}
 use Rattle.std.specs.Io.KnownBytes.{Consumes, Appends, IsAtEnd}
-use Rattle.std.proofs.lemmas.List.{append-nil, length-append, nil_from_length}
-use Rattle.line_io.specs.Devices.{WhereTold, AppendsPrefix}
+use Rattle.std.proofs.lemmas.List.{length-append, nil_from_length}
+use Rattle.line_io.specs.Devices.{WhereTold}
 use Rattle.line_io.proofs.Moved.{where_told, where_told_end, appends_none}
 use Rattle.base64ct.specs.Encoding.{encoding, EachBelow}
 use Rattle.base64ct.specs.Alphabets.{base64}

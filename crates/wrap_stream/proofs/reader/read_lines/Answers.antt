@@ -1,4 +1,5 @@
-use Rattle.std.proofs.Common.{arith, rules, ap, ℕ, List, ◌+◌, ◌*◌, ◌/◌, ◌-◌, ◌++◌, ◌∙◌, length, length-take-le, refl, sym}
+use Rattle.std.proofs.Common.{arith, rules, ap, ℕ, List, ◌+◌, ◌*◌, ◌/◌, ◌-◌, ◌++◌, ◌∙◌, length, length-take-le, refl}
+use Rattle.std.proofs.Common.{sym}
 use Rattle.std.proofs.Common.{take}
 use Rattle.std.proofs.lemmas.List.{length-take, take-take}
 use Rattle.base64ct.specs.Alphabets.{base64_unpadded}
