@@ -1,11 +1,12 @@
 -- `decoding` gives the one list of bytes that a text is the encoding of.
-use Rattle.std.proofs.Common.{◌≡◌, ◌≢◌, ℕ, zero, suc, ◌+◌, ◌*◌, ◌/◌, ◌-◌, Bool, true, false, List, [], ◌∷◌, length}
+use Rattle.std.proofs.Common.{◌≡◌, ℕ, zero, suc, ◌+◌, ◌*◌, ◌/◌, ◌-◌, Bool, true, false, List, [], ◌∷◌, length}
 use Rattle.std.proofs.Common.{refl, sym, ap, ◌∙◌, arith}
 use Rattle.std.specs.Prelude.{◌&&◌, nat_eq, nat_lt, Option, Some, None, if◌then◌else◌}
 use Rattle.std.specs.Cmp.Lexicographic.{pointwise}
 use Rattle.std.proofs.lemmas.Bool.{and_parts}
 use Rattle.std.proofs.lemmas.Bool.Decides.{nat_tests}
 use Rattle.base64ct.specs.Encoding.{Alphabet, is_alphabet, EachBelow, encoding, whole_bytes, decoded_len, byte_count}
+use Rattle.base64ct.specs.Answers.{IsNoEncoding}
 use Rattle.base64ct.specs.Decoding.{decoding, if_encodes, are_bytes, values_in}
 use Rattle.base64ct.proofs.Encodings.{decoded-encoding, encoding_once as once}
 use Rattle.base64ct.proofs.Padding.{length-encoding, padding_count}
@@ -69,19 +70,18 @@ pub decoding_is : (a : Alphabet) (t b : List ℕ) → is_alphabet a ≡ true →
     → decoding a t ≡ Some b
 decoding_is a t b lawful below is = ap (decoding a) is ∙ decoding-encoding a b lawful below
 
-by_option : (a : Alphabet) (t : List ℕ) (r : Option (List ℕ)) → decoding a t ≡ r
-    → ((b : List ℕ) → EachBelow 256 b → encoding a b ≢ t) → r ≡ None
+by_option : (a : Alphabet) (t : List ℕ) (r : Option (List ℕ)) → decoding a t ≡ r → IsNoEncoding a t
+    → r ≡ None
 by_option a t None is none = refl
 by_option a t (Some b) is none = let parts = decoding-Some a t b is in absurd (none b parts.0 (sym parts.1))
 
 -- no encoding, nothing found
-pub decoding-None : (a : Alphabet) (t : List ℕ) → ((b : List ℕ) → EachBelow 256 b → encoding a b ≢ t)
-    → decoding a t ≡ None
+pub decoding-None : (a : Alphabet) (t : List ℕ) → IsNoEncoding a t → decoding a t ≡ None
 decoding-None a t none = by_option a t (decoding a t) refl none
 
 -- nothing found, no encoding
-pub undecodable : (a : Alphabet) (t : List ℕ) → is_alphabet a ≡ true → decoding a t ≡ None → (b : List ℕ)
-    → EachBelow 256 b → encoding a b ≢ t
+pub undecodable : (a : Alphabet) (t : List ℕ) → is_alphabet a ≡ true → decoding a t ≡ None
+    → IsNoEncoding a t
 undecodable a t lawful none b below same = none_some b (sym none ∙ decoding_is a t b lawful below (sym same))
 
 -- the length of an unpadded text tells the number of its bytes

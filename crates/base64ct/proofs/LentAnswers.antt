@@ -1,11 +1,12 @@
 -- What the calls that lend a buffer say, from what was done to it and what is answered.
-use Rattle.std.proofs.Common.{◌≡◌, ◌≢◌, ℕ, ◌<◌, ◌≤◌, List, length, take, drop, Result, Ok, Err, refl, sym, ap, ◌∙◌}
+use Rattle.std.proofs.Common.{◌≡◌, ℕ, ◌<◌, ◌≤◌, List, length, take, drop, Result, Ok, Err, refl, sym, ap, ◌∙◌}
 use Rattle.std.proofs.Common.{subst}
 use Rattle.std.specs.Prelude.{Some, None, MatchResult, IfOk, OnErr, IsErr, ◌↔◌, ◌⊎◌, ◌++◌}
 use Rattle.std.specs.Str.{IsUtf8}
 use Rattle.std.proofs.lemmas.List.{take_at}
 use denote.Ref.{Bor}
-use Rattle.base64ct.specs.Encoding.{Alphabet, encoding, decoded_len, longest_input, EachBelow, IsMisaligned}
+use Rattle.base64ct.specs.Encoding.{Alphabet, encoding, decoded_len, longest_input}
+use Rattle.base64ct.specs.Answers.{OnMisaligned, OnNoRoom, OnReadable, OnRoom, IsNoEncoding}
 use Rattle.base64ct.specs.Decoding.{decoding}
 use Rattle.base64ct.specs.Lent.{Decodes, Encodes}
 use Rattle.base64ct.specs.declared.errors.Error.{Error}
@@ -24,24 +25,23 @@ hands_back_same t outcome bytes all ok same = subst (HandsBack t outcome) same o
 -- the five clauses of the call that lends
 abbrev pub DecodeEnds : Alphabet → Result (Bor (List ℕ)) Error → (src old new : List ℕ) → Type 0
 DecodeEnds a t src old new = (drop (decoded_len a src) new ≡ drop (decoded_len a src) old)
-    × (IsMisaligned a src → new ≡ old)
-    × ((IsMisaligned a src → ⊥) → length old < decoded_len a src → new ≡ old)
+    × OnMisaligned a src (new ≡ old)
+    × OnNoRoom a src (length old) (new ≡ old)
     × IfOk t (λ b. b.now ≡ take (length b.now) new)
 
 abbrev pub SaysMisaligned : Alphabet → Result (Bor (List ℕ)) Error → (src : List ℕ) → Type 0
-SaysMisaligned a t src = IsMisaligned a src → t ≡ Err InvalidEncoding
+SaysMisaligned a t src = OnMisaligned a src (t ≡ Err InvalidEncoding)
 
 abbrev pub SaysNoRoom : Alphabet → Result (Bor (List ℕ)) Error → (src old : List ℕ) → Type 0
-SaysNoRoom a t src old = (IsMisaligned a src → ⊥) → length old < decoded_len a src → t ≡ Err InvalidLength
+SaysNoRoom a t src old = OnNoRoom a src (length old) (t ≡ Err InvalidLength)
 
 abbrev pub SaysAnswer : Alphabet → Result (Bor (List ℕ)) Error → (src old : List ℕ) → Type 0
-SaysAnswer a t src old = (IsMisaligned a src → ⊥) → decoded_len a src ≤ length old
-    → MatchResult t (λ b. src ≡ encoding a b.now)
-    (λ e. (e ≡ InvalidEncoding) × ((b : List ℕ) → EachBelow 256 b → encoding a b ≢ src))
+SaysAnswer a t src old = OnReadable a src (length old)
+    (MatchResult t (λ b. src ≡ encoding a b.now) (λ e. (e ≡ InvalidEncoding) × IsNoEncoding a src))
 
 abbrev pub SaysDecoded : Alphabet → Result (Bor (List ℕ)) Error → (src old : List ℕ) → Type 0
-SaysDecoded a t src old = decoded_len a src ≤ length old
-    → MatchResult t (λ b. decoding a src ≡ Some b.now) (λ e. (e ≡ InvalidEncoding) × (decoding a src ≡ None))
+SaysDecoded a t src old = OnRoom a src (length old)
+    (MatchResult t (λ b. decoding a src ≡ Some b.now) (λ e. (e ≡ InvalidEncoding) × (decoding a src ≡ None)))
 
 abbrev pub DecodeSays : Alphabet → Result (Bor (List ℕ)) Error → (src old : List ℕ) → Type 0
 DecodeSays a t src old =

@@ -1,11 +1,12 @@
 -- What a call has done to a buffer that is lent to it, and what it answers.
-use Rattle.std.specs.Prelude.{◌≡◌, ◌≢◌, ◌↔◌, ◌⊎◌, ◌++◌, ℕ, ◌<◌, ◌≤◌, List, length, take, drop, Result, Err, Some, None}
+use Rattle.std.specs.Prelude.{◌≡◌, ◌↔◌, ◌⊎◌, ◌++◌, ℕ, ◌<◌, ◌≤◌, List, length, take, drop, Result, Err, Some, None}
 use Rattle.std.specs.Prelude.{IsErr, IfOk, OnErr, MatchResult}
 use Rattle.std.specs.Borrow.{RattleType, u8 as byte}
 use Rattle.std.specs.contracts.vec.Vec.{the_row as vec_row}
 use Rattle.std.specs.contracts.alloc.Global.{the_row as global}
 use Rattle.std.specs.contracts.impls.GlobalAllocator.TheImpl.{ghosts as global_allocator}
-use Rattle.base64ct.specs.Encoding.{Alphabet, encoding, decoded_len, longest_input, EachBelow, IsMisaligned}
+use Rattle.base64ct.specs.Encoding.{Alphabet, encoding, decoded_len, longest_input}
+use Rattle.base64ct.specs.Answers.{OnMisaligned, OnNoRoom, OnReadable, OnRoom, IsNoEncoding}
 use Rattle.base64ct.specs.Decoding.{decoding}
 use Rattle.base64ct.specs.declared.errors.Error.{Error}
 use Rattle.base64ct.specs.declared.errors.Error.TheVariants.{InvalidEncoding, InvalidLength}
@@ -14,13 +15,13 @@ use Rattle.base64ct.specs.declared.errors.InvalidLengthError.{InvalidLengthError
 -- decoding a text into a buffer that was old and is new
 unfoldable pub Decodes : Alphabet → (src old new : List ℕ) → Result ℕ Error → Type 0
 Decodes a src old new r =
-    (IsMisaligned a src → (r ≡ Err InvalidEncoding) × (new ≡ old))
-    × ((IsMisaligned a src → ⊥) → length old < decoded_len a src → (r ≡ Err InvalidLength) × (new ≡ old))
-    × ((IsMisaligned a src → ⊥) → decoded_len a src ≤ length old
-    → MatchResult r (λ n. (n ≡ decoded_len a src) × (src ≡ encoding a (take n new)))
-    (λ e. (e ≡ InvalidEncoding) × ((b : List ℕ) → EachBelow 256 b → encoding a b ≢ src)))
-    × (decoded_len a src ≤ length old
-    → MatchResult r (λ n. (n ≡ decoded_len a src) × (n ≤ length old) × (decoding a src ≡ Some (take n new)))
+    OnMisaligned a src ((r ≡ Err InvalidEncoding) × (new ≡ old))
+    × OnNoRoom a src (length old) ((r ≡ Err InvalidLength) × (new ≡ old))
+    × OnReadable a src (length old)
+    (MatchResult r (λ n. (n ≡ decoded_len a src) × (src ≡ encoding a (take n new)))
+    (λ e. (e ≡ InvalidEncoding) × IsNoEncoding a src))
+    × OnRoom a src (length old)
+    (MatchResult r (λ n. (n ≡ decoded_len a src) × (n ≤ length old) × (decoding a src ≡ Some (take n new)))
     (λ e. (e ≡ InvalidEncoding) × (decoding a src ≡ None)))
     × (drop (decoded_len a src) new ≡ drop (decoded_len a src) old)
 

@@ -1,9 +1,10 @@
 //! What decoding and comparing count.
 
-ghost use Rattle.std.specs.Prelude.{◌≡◌, ◌≢◌, ◌<◌, ◌≤◌, ◌+◌, ◌^◌, ◌==◌, ℕ, List, Ok, Err, Some, None, length, cond, MatchResult};
+ghost use Rattle.std.specs.Prelude.{◌≡◌, ◌<◌, ◌≤◌, ◌+◌, ◌^◌, ◌==◌, ℕ, List, Ok, Err, Some, None, length, cond, MatchResult};
 ghost use Rattle.std.specs.Cmp.Lexicographic.{pointwise};
-ghost use Rattle.base64ct.specs.Encoding.{encoding, decoded_len, EachBelow, IsMisaligned, IsLenient};
+ghost use Rattle.base64ct.specs.Encoding.{encoding, IsLenient};
 ghost use Rattle.base64ct.specs.Decoding.{decoding};
+ghost use Rattle.base64ct.specs.Answers.{OnMisaligned, OnNoRoom, OnReadable, OnRoom, IsNoEncoding};
 ghost use Rattle.base64ct.specs.Tables.{shaped, Passes};
 ghost use Rattle.base64ct.specs.Counts.{look_count, comparison_count};
 
@@ -23,25 +24,25 @@ pub fn decode_with<'d, T: CodeTable, C: SameByte>(
     requires spells { T.spells table.old + length src.now + 5 ≤ 2 ^ 63 }
     requires sames { C.count cmp.old + length src.now + 5 ≤ 2 ^ 63 }
     ensures misaligned { let a = shaped (T.characters table.old) shape in
-        IsMisaligned a src.now → result ≡ Err Error.InvalidEncoding }
+        OnMisaligned a src.now (result ≡ Err Error.InvalidEncoding) }
     ensures no_room { let a = shaped (T.characters table.old) shape in
-        (IsMisaligned a src.now → ⊥) → length dst.old < decoded_len a src.now → result ≡ Err Error.InvalidLength }
+        OnNoRoom a src.now (length dst.old) (result ≡ Err Error.InvalidLength) }
     ensures answer { let a = shaped (T.characters table.old) shape in
-        (IsMisaligned a src.now → ⊥) → decoded_len a src.now ≤ length dst.old
-        → MatchResult result
+        OnReadable a src.now (length dst.old)
+        (MatchResult result
         (λ b. IsLenient a src.now b.now × Passes C.related a src.now b.now)
         (λ e. (e ≡ Error.InvalidEncoding)
-        × ((b : List ℕ) → IsLenient a src.now b → Passes C.related a src.now b → ⊥)) }
+        × ((b : List ℕ) → IsLenient a src.now b → Passes C.related a src.now b → ⊥))) }
     ensures equal { let a = shaped (T.characters table.old) shape in ((x y : ℕ) → C.related x y ≡ (x == y))
-        → (IsMisaligned a src.now → ⊥) → decoded_len a src.now ≤ length dst.old
-        → MatchResult result
+        → OnReadable a src.now (length dst.old)
+        (MatchResult result
         (λ b. src.now ≡ encoding a b.now)
-        (λ e. (e ≡ Error.InvalidEncoding) × ((b : List ℕ) → EachBelow 256 b → encoding a b ≢ src.now)) }
+        (λ e. (e ≡ Error.InvalidEncoding) × IsNoEncoding a src.now)) }
     ensures decoded { let a = shaped (T.characters table.old) shape in ((x y : ℕ) → C.related x y ≡ (x == y))
-        → decoded_len a src.now ≤ length dst.old
-        → MatchResult result
+        → OnRoom a src.now (length dst.old)
+        (MatchResult result
         (λ b. decoding a src.now ≡ Some b.now)
-        (λ e. (e ≡ Error.InvalidEncoding) × (decoding a src.now ≡ None)) }
+        (λ e. (e ≡ Error.InvalidEncoding) × (decoding a src.now ≡ None))) }
     ensures looks { let a = shaped (T.characters table.old) shape in
         T.looks table.new ≡ T.looks table.old + look_count a src.now (length dst.old) }
     ensures sames { let a = shaped (T.characters table.old) shape in
@@ -180,15 +181,14 @@ impl Counts {
     ) -> Result<&'d [u8], Error>
         requires looks { self.old.looks + length src.now + 5 ≤ 2 ^ 63 }
         requires sames { self.old.sames + length src.now + 5 ≤ 2 ^ 63 }
-        ensures misaligned { IsMisaligned E.alphabet src.now → result ≡ Err Error.InvalidEncoding }
-        ensures no_room { (IsMisaligned E.alphabet src.now → ⊥) → length dst.old < decoded_len E.alphabet src.now
-            → result ≡ Err Error.InvalidLength }
-        ensures answer { (IsMisaligned E.alphabet src.now → ⊥) → decoded_len E.alphabet src.now ≤ length dst.old
-            → MatchResult result (λ b. src.now ≡ encoding E.alphabet b.now)
-            (λ e. (e ≡ Error.InvalidEncoding) × ((b : List ℕ) → EachBelow 256 b → encoding E.alphabet b ≢ src.now)) }
-        ensures decoded { decoded_len E.alphabet src.now ≤ length dst.old
-            → MatchResult result (λ b. decoding E.alphabet src.now ≡ Some b.now)
-            (λ e. (e ≡ Error.InvalidEncoding) × (decoding E.alphabet src.now ≡ None)) }
+        ensures misaligned { OnMisaligned E.alphabet src.now (result ≡ Err Error.InvalidEncoding) }
+        ensures no_room { OnNoRoom E.alphabet src.now (length dst.old) (result ≡ Err Error.InvalidLength) }
+        ensures answer { OnReadable E.alphabet src.now (length dst.old)
+            (MatchResult result (λ b. src.now ≡ encoding E.alphabet b.now)
+            (λ e. (e ≡ Error.InvalidEncoding) × IsNoEncoding E.alphabet src.now)) }
+        ensures decoded { OnRoom E.alphabet src.now (length dst.old)
+            (MatchResult result (λ b. decoding E.alphabet src.now ≡ Some b.now)
+            (λ e. (e ≡ Error.InvalidEncoding) × (decoding E.alphabet src.now ≡ None))) }
         ensures looks { self.new.looks ≡ self.old.looks + look_count E.alphabet src.now (length dst.old) }
         ensures sames { self.new.sames ≡ self.old.sames + comparison_count E.alphabet src.now (length dst.old) }
     {

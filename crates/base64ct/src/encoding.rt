@@ -1,10 +1,11 @@
 //! Encoding and decoding of whole texts.
 
-ghost use Rattle.std.specs.Prelude.{◌≡◌, ◌≢◌, ◌↔◌, ◌⊎◌, ◌<◌, ◌≤◌, ◌++◌, ℕ, List, Ok, Err, Some, None, length, take, drop, IsErr, IfOk, OnErr, MatchResult, string_bytes};
+ghost use Rattle.std.specs.Prelude.{◌≡◌, ◌↔◌, ◌⊎◌, ◌<◌, ◌≤◌, ◌++◌, ℕ, List, Ok, Err, Some, None, length, take, drop, IsErr, IfOk, OnErr, MatchResult, string_bytes};
 ghost use Rattle.std.specs.Borrow.{sem, Array, u8 as byte};
 ghost use Rattle.std.specs.Io.BufRead.{Rests};
-ghost use Rattle.base64ct.specs.Encoding.{encoding, decoded_len, longest_input, EachBelow, IsMisaligned, IsLenient};
+ghost use Rattle.base64ct.specs.Encoding.{encoding, decoded_len, longest_input, IsLenient};
 ghost use Rattle.base64ct.specs.Decoding.{decoding};
+ghost use Rattle.base64ct.specs.Answers.{OnMisaligned, OnNoRoom, OnReadable, OnRoom, IsNoEncoding};
 
 use crate::alphabet::Alphabet;
 use crate::decode::{bytes_of, count_bytes, decode_unpadded, padding_of};
@@ -33,19 +34,17 @@ pub trait Encoding: Copy + Alphabet {
     final fn decode<'d>(src: &[u8], dst: &'d mut [u8]) -> Result<&'d [u8], Error>
         ensures* buffer { sem 𝓛 (Rests (Array byte 0) dst.entry (λ new.
             (drop (decoded_len Self.alphabet src.now) new ≡ drop (decoded_len Self.alphabet src.now) dst.old)
-            × (IsMisaligned Self.alphabet src.now → new ≡ dst.old)
-            × ((IsMisaligned Self.alphabet src.now → ⊥) → length dst.old < decoded_len Self.alphabet src.now → new ≡ dst.old)
+            × OnMisaligned Self.alphabet src.now (new ≡ dst.old)
+            × OnNoRoom Self.alphabet src.now (length dst.old) (new ≡ dst.old)
             × IfOk result (λ b. b.now ≡ take (length b.now) new))) }
-        ensures misaligned { IsMisaligned Self.alphabet src.now → result ≡ Err Error.InvalidEncoding }
-        ensures no_room { (IsMisaligned Self.alphabet src.now → ⊥) → length dst.old < decoded_len Self.alphabet src.now
-            → result ≡ Err Error.InvalidLength }
-        ensures answer { (IsMisaligned Self.alphabet src.now → ⊥) → decoded_len Self.alphabet src.now ≤ length dst.old
-            → MatchResult result (λ b. src.now ≡ encoding Self.alphabet b.now)
-            (λ e. (e ≡ Error.InvalidEncoding)
-            × ((b : List ℕ) → EachBelow 256 b → encoding Self.alphabet b ≢ src.now)) }
-        ensures decoded { decoded_len Self.alphabet src.now ≤ length dst.old
-            → MatchResult result (λ b. decoding Self.alphabet src.now ≡ Some b.now)
-            (λ e. (e ≡ Error.InvalidEncoding) × (decoding Self.alphabet src.now ≡ None)) }
+        ensures misaligned { OnMisaligned Self.alphabet src.now (result ≡ Err Error.InvalidEncoding) }
+        ensures no_room { OnNoRoom Self.alphabet src.now (length dst.old) (result ≡ Err Error.InvalidLength) }
+        ensures answer { OnReadable Self.alphabet src.now (length dst.old)
+            (MatchResult result (λ b. src.now ≡ encoding Self.alphabet b.now)
+            (λ e. (e ≡ Error.InvalidEncoding) × IsNoEncoding Self.alphabet src.now)) }
+        ensures decoded { OnRoom Self.alphabet src.now (length dst.old)
+            (MatchResult result (λ b. decoding Self.alphabet src.now ≡ Some b.now)
+            (λ e. (e ≡ Error.InvalidEncoding) × (decoding Self.alphabet src.now ≡ None))) }
     {
         finish_decoded(fill_decoded::<Self>(src, dst))
     }
@@ -53,20 +52,19 @@ pub trait Encoding: Copy + Alphabet {
     /// Decodes as [`decode`](Encoding::decode), and tells how many bytes there are. Its clauses on `dst`
     /// serve callers that read their buffer again.
     final fn decode_into(src: &[u8], dst: &mut [u8]) -> Result<usize, Error>
-        ensures misaligned { IsMisaligned Self.alphabet src.now
-            → (result ≡ Err Error.InvalidEncoding) × (dst.new ≡ dst.old) }
-        ensures no_room { (IsMisaligned Self.alphabet src.now → ⊥) → length dst.old < decoded_len Self.alphabet src.now
-            → (result ≡ Err Error.InvalidLength) × (dst.new ≡ dst.old) }
-        ensures answer { (IsMisaligned Self.alphabet src.now → ⊥) → decoded_len Self.alphabet src.now ≤ length dst.old
-            → MatchResult result
+        ensures misaligned { OnMisaligned Self.alphabet src.now
+            ((result ≡ Err Error.InvalidEncoding) × (dst.new ≡ dst.old)) }
+        ensures no_room { OnNoRoom Self.alphabet src.now (length dst.old)
+            ((result ≡ Err Error.InvalidLength) × (dst.new ≡ dst.old)) }
+        ensures answer { OnReadable Self.alphabet src.now (length dst.old)
+            (MatchResult result
             (λ n. (n ≡ decoded_len Self.alphabet src.now) × (src.now ≡ encoding Self.alphabet (take n dst.new)))
-            (λ e. (e ≡ Error.InvalidEncoding)
-            × ((b : List ℕ) → EachBelow 256 b → encoding Self.alphabet b ≢ src.now)) }
-        ensures decoded { decoded_len Self.alphabet src.now ≤ length dst.old
-            → MatchResult result
+            (λ e. (e ≡ Error.InvalidEncoding) × IsNoEncoding Self.alphabet src.now)) }
+        ensures decoded { OnRoom Self.alphabet src.now (length dst.old)
+            (MatchResult result
             (λ n. (n ≡ decoded_len Self.alphabet src.now) × (n ≤ length dst.old)
             × (decoding Self.alphabet src.now ≡ Some (take n dst.new)))
-            (λ e. (e ≡ Error.InvalidEncoding) × (decoding Self.alphabet src.now ≡ None)) }
+            (λ e. (e ≡ Error.InvalidEncoding) × (decoding Self.alphabet src.now ≡ None))) }
         ensures rest { drop (decoded_len Self.alphabet src.now) dst.new
             ≡ drop (decoded_len Self.alphabet src.now) dst.old }
     {
@@ -101,7 +99,7 @@ pub trait Encoding: Copy + Alphabet {
     final fn decode_vec(alloc: Global, input: &str) -> Result<Vec<u8>, DecodeVecError>
         ensures answer { MatchResult result (λ b. input.now ≡ encoding Self.alphabet b.items)
             (λ e. e ≡ DecodeVecError.InvalidEncoding
-            → (b : List ℕ) → EachBelow 256 b → encoding Self.alphabet b ≢ input.now) }
+            → IsNoEncoding Self.alphabet input.now) }
         ensures decoded { MatchResult result (λ b. decoding Self.alphabet input.now ≡ Some b.items)
             (λ e. e ≡ DecodeVecError.InvalidEncoding → decoding Self.alphabet input.now ≡ None) }
     {

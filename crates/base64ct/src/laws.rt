@@ -1,15 +1,16 @@
 //! Laws over the definitions.
 
-ghost use Rattle.std.specs.Prelude.{◌≡◌, ◌≢◌, ◌↔◌, ◌<◌, ◌+◌, ◌*◌, ◌/◌, ◌==◌, ◌≤◌, ◌++◌, List, ℕ, Option, Some, None, Result, length, position, slice_index, true, false};
+ghost use Rattle.std.specs.Prelude.{◌≡◌, ◌↔◌, ◌<◌, ◌+◌, ◌*◌, ◌/◌, ◌==◌, ◌++◌, List, ℕ, Option, Some, None, Result, length, position, slice_index, true, false};
 ghost use Rattle.base64ct.specs.Blocks.{blocks, IsEncoding, AreGood};
 ghost use Rattle.base64ct.specs.Decoding.{decoding};
+ghost use Rattle.base64ct.specs.Answers.{IsNoEncoding};
 ghost use Rattle.base64ct.specs.Encoding.{Alphabet, encoding, is_alphabet, EachBelow, IsLenient, character, value_of};
 ghost use Rattle.std.specs.List.{concat};
 ghost use Rattle.base64ct.specs.Blocks.{decoded};
 ghost use Rattle.base64ct.specs.Wrapping.{layout, StandsInLines, HoldsOnlyEnds};
 ghost use Rattle.base64ct.specs.Encoders.{Encoded};
 ghost use Rattle.base64ct.specs.Decoders.{Decoded, left, IsOpened};
-ghost use Rattle.base64ct.specs.Runs.{EncodeRun, DecodeRun, Fits, slices, IsWide};
+ghost use Rattle.base64ct.specs.Runs.{EncodeRun, DecodeRun, slices, IsWide};
 ghost use Rattle.base64ct.specs.declared.errors.Error.{Error};
 ghost use Rattle.base64ct.specs.Steps.{decoded_by, encoded_by, word_of};
 
@@ -27,7 +28,7 @@ pub fn decoding_tells()
     ensures some { (a : Alphabet) (t b : List ℕ) → is_alphabet a ≡ true
         → (decoding a t ≡ Some b) ↔ (EachBelow 256 b × (t ≡ encoding a b)) }
     ensures none { (a : Alphabet) (t : List ℕ) → is_alphabet a ≡ true
-        → (decoding a t ≡ None) ↔ ((b : List ℕ) → EachBelow 256 b → encoding a b ≢ t) }
+        → (decoding a t ≡ None) ↔ IsNoEncoding a t }
 {}
 
 /// A text is an encoding exactly where all its blocks are good.

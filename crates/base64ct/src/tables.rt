@@ -1,9 +1,10 @@
 //! Decoding by a table of characters and a test of two bytes, which count how often they are asked.
 
-ghost use Rattle.std.specs.Prelude.{◌≡◌, ◌≢◌, ◌↔◌, ◌<◌, ◌≤◌, ◌+◌, ◌*◌, ◌/◌, ◌%◌, ◌^◌, ◌==◌, ◌&&◌, ◌++◌, ◌-◌, [], ◌∷◌, ℕ, Bool, List, Ok, Err, Some, None, true, length, take, drop, replicate, slice_index, position, MatchOption, MatchResult, IfOk, pos, negsuc, cond};
+ghost use Rattle.std.specs.Prelude.{◌≡◌, ◌≢◌, ◌↔◌, ◌<◌, ◌≤◌, ◌+◌, ◌*◌, ◌/◌, ◌%◌, ◌^◌, ◌==◌, ◌&&◌, ◌++◌, ◌-◌, [], ◌∷◌, ℕ, List, Ok, Err, Some, None, true, length, take, drop, replicate, slice_index, position, MatchOption, MatchResult, IfOk, pos, negsuc, cond};
 ghost use Rattle.std.specs.Cmp.Lexicographic.{pointwise};
-ghost use Rattle.base64ct.specs.Encoding.{character, unpadded_encoding, byte_count, encoding, padding_len, decoded_len, AreCharacters, EachBelow, IsMisaligned, Reads, IsLenient};
+ghost use Rattle.base64ct.specs.Encoding.{character, unpadded_encoding, byte_count, encoding, padding_len, decoded_len, AreCharacters, EachBelow, Reads, IsLenient};
 ghost use Rattle.base64ct.specs.Decoding.{decoding};
+ghost use Rattle.base64ct.specs.Answers.{OnMisaligned, OnNoRoom, OnReadable, OnRoom, IsNoEncoding};
 ghost use Rattle.base64ct.specs.Tables.{is_table, shaped, filled, Passes};
 ghost use Rattle.base64ct.specs.Counts.{look_count, comparison_count};
 
@@ -354,25 +355,25 @@ pub fn decode_with_into<T: CodeTable, C: SameByte>(
     requires spells { T.spells table.old + length src.now + 5 ≤ 2 ^ 63 }
     requires sames { C.count cmp.old + length src.now + 5 ≤ 2 ^ 63 }
     ensures misaligned { let a = shaped (T.characters table.old) shape in
-        IsMisaligned a src.now → (result ≡ Err Error.InvalidEncoding) × (dst.new ≡ dst.old) }
+        OnMisaligned a src.now ((result ≡ Err Error.InvalidEncoding) × (dst.new ≡ dst.old)) }
     ensures no_room { let a = shaped (T.characters table.old) shape in
-        (IsMisaligned a src.now → ⊥) → length dst.old < decoded_len a src.now → (result ≡ Err Error.InvalidLength) × (dst.new ≡ dst.old) }
+        OnNoRoom a src.now (length dst.old) ((result ≡ Err Error.InvalidLength) × (dst.new ≡ dst.old)) }
     ensures answer { let a = shaped (T.characters table.old) shape in
-        (IsMisaligned a src.now → ⊥) → decoded_len a src.now ≤ length dst.old
-        → MatchResult result
+        OnReadable a src.now (length dst.old)
+        (MatchResult result
         (λ n. (n ≡ decoded_len a src.now) × IsLenient a src.now (take n dst.new) × Passes C.related a src.now (take n dst.new))
         (λ e. (e ≡ Error.InvalidEncoding)
-        × ((b : List ℕ) → IsLenient a src.now b → Passes C.related a src.now b → ⊥)) }
+        × ((b : List ℕ) → IsLenient a src.now b → Passes C.related a src.now b → ⊥))) }
     ensures equal { let a = shaped (T.characters table.old) shape in ((x y : ℕ) → C.related x y ≡ (x == y))
-        → (IsMisaligned a src.now → ⊥) → decoded_len a src.now ≤ length dst.old
-        → MatchResult result
+        → OnReadable a src.now (length dst.old)
+        (MatchResult result
         (λ n. src.now ≡ encoding a (take n dst.new))
-        (λ e. (e ≡ Error.InvalidEncoding) × ((b : List ℕ) → EachBelow 256 b → encoding a b ≢ src.now)) }
+        (λ e. (e ≡ Error.InvalidEncoding) × IsNoEncoding a src.now)) }
     ensures decoded { let a = shaped (T.characters table.old) shape in ((x y : ℕ) → C.related x y ≡ (x == y))
-        → decoded_len a src.now ≤ length dst.old
-        → MatchResult result
+        → OnRoom a src.now (length dst.old)
+        (MatchResult result
         (λ n. decoding a src.now ≡ Some (take n dst.new))
-        (λ e. (e ≡ Error.InvalidEncoding) × (decoding a src.now ≡ None)) }
+        (λ e. (e ≡ Error.InvalidEncoding) × (decoding a src.now ≡ None))) }
     ensures fits { IfOk result (λ n. n ≤ length dst.old) }
     ensures rest { let n = decoded_len (shaped (T.characters table.old) shape) src.now in
         drop n dst.new ≡ drop n dst.old }

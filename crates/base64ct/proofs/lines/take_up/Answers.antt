@@ -1,7 +1,5 @@
-use Rattle.std.proofs.Common.{◌≡◌, ◌<◌, ℕ, List, ◌∷◌, ◌++◌, length, take, drop, slice_index, arith, ◌∙◌, sym}
-use Rattle.std.proofs.lemmas.List.{take_rest, length-append, length-take-le, get_or-take}
-use Rattle.base64ct.specs.Encoding.{unpadded_encoding}
-use Rattle.base64ct.specs.Encoders.{whole_blocks}
+use Rattle.std.proofs.Common.{◌<◌, ℕ, List, ◌++◌, length, take, arith, ◌∙◌, sym}
+use Rattle.std.proofs.lemmas.List.{take_rest, length-append, length-take-le}
 use Rattle.base64ct.proofs.Held.{letters_one, rest_one, letters_two, rest_two, held_none}
 use Rattle.base64ct.proofs.lines.take_up.Goals as goal
 
