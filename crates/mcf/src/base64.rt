@@ -1,7 +1,8 @@
 //! The Base64 alphabets of password hashes.
 
-ghost use Rattle.std.specs.Prelude.{◌≡◌, ◌≢◌, ◌↔◌, ◌⊎◌, ◌<◌, ◌≤◌, ◌++◌, ℕ, List, Some, None, Err, length, take, drop, IsErr, IfOk, OnErr, IsOkUnless, MatchResult, string_bytes};
-ghost use Rattle.base64ct.specs.Encoding.{encoding, decoded_len, longest_input, EachBelow};
+ghost use Rattle.std.specs.Prelude.{◌≡◌, ◌↔◌, ◌⊎◌, ◌<◌, ◌≤◌, ◌++◌, ℕ, List, Some, None, Err, length, take, drop, IsErr, IfOk, OnErr, IsOkUnless, MatchResult, string_bytes};
+ghost use Rattle.base64ct.specs.Encoding.{encoding, decoded_len, longest_input};
+ghost use Rattle.base64ct.specs.Answers.{OnRoom, IsNoEncoding};
 ghost use Rattle.base64ct.specs.Decoding.{decoding};
 
 use base64ct::{
@@ -33,13 +34,12 @@ impl Base64 {
     pub fn decode<'d>(self, src: &[u8], dst: &'d mut [u8]) -> Result<&'d [u8], Error>
         ensures no_room { length dst.old < decoded_len (alphabet_of self) src.now
             → result ≡ Err Error.InvalidLength }
-        ensures answer { decoded_len (alphabet_of self) src.now ≤ length dst.old
-            → MatchResult result (λ b. src.now ≡ encoding (alphabet_of self) b.now)
-            (λ e. (e ≡ Error.InvalidEncoding)
-            × ((b : List ℕ) → EachBelow 256 b → encoding (alphabet_of self) b ≢ src.now)) }
-        ensures decoded { decoded_len (alphabet_of self) src.now ≤ length dst.old
-            → MatchResult result (λ b. decoding (alphabet_of self) src.now ≡ Some b.now)
-            (λ e. (e ≡ Error.InvalidEncoding) × (decoding (alphabet_of self) src.now ≡ None)) }
+        ensures answer { OnRoom (alphabet_of self) src.now (length dst.old)
+            (MatchResult result (λ b. src.now ≡ encoding (alphabet_of self) b.now)
+            (λ e. (e ≡ Error.InvalidEncoding) × IsNoEncoding (alphabet_of self) src.now)) }
+        ensures decoded { OnRoom (alphabet_of self) src.now (length dst.old)
+            (MatchResult result (λ b. decoding (alphabet_of self) src.now ≡ Some b.now)
+            (λ e. (e ≡ Error.InvalidEncoding) × (decoding (alphabet_of self) src.now ≡ None))) }
     {
         match self {
             Base64::B64 => Base64Unpadded::decode(src, dst),
@@ -54,15 +54,14 @@ impl Base64 {
     pub fn decode_into(self, src: &[u8], dst: &mut [u8]) -> Result<usize, Error>
         ensures no_room { length dst.old < decoded_len (alphabet_of self) src.now
             → (result ≡ Err Error.InvalidLength) × (dst.new ≡ dst.old) }
-        ensures answer { decoded_len (alphabet_of self) src.now ≤ length dst.old → MatchResult result
+        ensures answer { OnRoom (alphabet_of self) src.now (length dst.old) (MatchResult result
             (λ n. (n ≡ decoded_len (alphabet_of self) src.now)
             × (src.now ≡ encoding (alphabet_of self) (take n dst.new)))
-            (λ e. (e ≡ Error.InvalidEncoding)
-            × ((b : List ℕ) → EachBelow 256 b → encoding (alphabet_of self) b ≢ src.now)) }
-        ensures decoded { decoded_len (alphabet_of self) src.now ≤ length dst.old → MatchResult result
+            (λ e. (e ≡ Error.InvalidEncoding) × IsNoEncoding (alphabet_of self) src.now)) }
+        ensures decoded { OnRoom (alphabet_of self) src.now (length dst.old) (MatchResult result
             (λ n. (n ≡ decoded_len (alphabet_of self) src.now) × (n ≤ length dst.old)
             × (decoding (alphabet_of self) src.now ≡ Some (take n dst.new)))
-            (λ e. (e ≡ Error.InvalidEncoding) × (decoding (alphabet_of self) src.now ≡ None)) }
+            (λ e. (e ≡ Error.InvalidEncoding) × (decoding (alphabet_of self) src.now ≡ None))) }
         ensures rest { drop (decoded_len (alphabet_of self) src.now) dst.new
             ≡ drop (decoded_len (alphabet_of self) src.now) dst.old }
     {
@@ -78,7 +77,7 @@ impl Base64 {
     pub fn decode_vec(self, alloc: Global, input: &str) -> Result<Vec<u8>, DecodeVecError>
         ensures answer { MatchResult result (λ b. input.now ≡ encoding (alphabet_of self) b.items)
             (λ e. e ≡ DecodeVecError.InvalidEncoding
-            → (b : List ℕ) → EachBelow 256 b → encoding (alphabet_of self) b ≢ input.now) }
+            → IsNoEncoding (alphabet_of self) input.now) }
         ensures decoded { MatchResult result (λ b. decoding (alphabet_of self) input.now ≡ Some b.items)
             (λ e. e ≡ DecodeVecError.InvalidEncoding → decoding (alphabet_of self) input.now ≡ None) }
     {

@@ -1,6 +1,6 @@
 //! The fields of a password hash, each behind a `$`.
 
-ghost use Rattle.std.specs.Prelude.{◌≡◌, ◌≢◌, ◌⊎◌, ◌<◌, ◌≤◌, ℕ, List, None, Some, Err, IfOk, IfErr, MatchResult, length, ⊤};
+ghost use Rattle.std.specs.Prelude.{◌≡◌, ◌⊎◌, ◌<◌, ◌≤◌, ℕ, List, None, Some, Err, IfOk, IfErr, MatchResult, length, ⊤};
 ghost use Rattle.std.specs.Result.{result_err};
 ghost use Rattle.std.specs.List.{list_all};
 ghost use Rattle.pieces.specs.Pieces.{pieces_left};
@@ -65,7 +65,8 @@ pub struct Field<'a> {
 
 impl<'a> Field<'a> {
     ghost use Rattle.base64ct.specs.Decoding.{decoding};
-    ghost use Rattle.base64ct.specs.Encoding.{encoding, decoded_len, EachBelow};
+    ghost use Rattle.base64ct.specs.Encoding.{encoding, decoded_len};
+    ghost use Rattle.base64ct.specs.Answers.{OnRoom, IsNoEncoding};
     ghost use Rattle.base64ct.specs.declared.errors.Error.TheVariants.{InvalidEncoding, InvalidLength};
     ghost use Rattle.mcf.specs.Alphabets.{alphabet_of};
     ghost use Rattle.mcf.specs.Views.{field_text};
@@ -101,18 +102,16 @@ impl<'a> Field<'a> {
         ensures no_room { length out.old
             < decoded_len (alphabet_of base64_variant) (field_text self.entry)
             → result ≡ Err (Error.Base64 InvalidLength) }
-        ensures answer { decoded_len (alphabet_of base64_variant) (field_text self.entry)
-            ≤ length out.old
-            → MatchResult result
+        ensures answer { OnRoom (alphabet_of base64_variant) (field_text self.entry) (length out.old)
+            (MatchResult result
             (λ b. field_text self.entry ≡ encoding (alphabet_of base64_variant) b.now)
-            (λ e. (e ≡ Error.Base64 InvalidEncoding) × ((b : List ℕ) → EachBelow 256 b
-            → encoding (alphabet_of base64_variant) b ≢ field_text self.entry)) }
-        ensures decoded { decoded_len (alphabet_of base64_variant) (field_text self.entry)
-            ≤ length out.old
-            → MatchResult result
+            (λ e. (e ≡ Error.Base64 InvalidEncoding)
+            × IsNoEncoding (alphabet_of base64_variant) (field_text self.entry))) }
+        ensures decoded { OnRoom (alphabet_of base64_variant) (field_text self.entry) (length out.old)
+            (MatchResult result
             (λ b. decoding (alphabet_of base64_variant) (field_text self.entry) ≡ Some b.now)
             (λ e. (e ≡ Error.Base64 InvalidEncoding)
-            × (decoding (alphabet_of base64_variant) (field_text self.entry) ≡ None)) }
+            × (decoding (alphabet_of base64_variant) (field_text self.entry) ≡ None))) }
     {
         match base64_variant.decode(self.text.as_bytes(), out) {
             Ok(bytes) => Ok(bytes),
@@ -126,8 +125,8 @@ impl<'a> Field<'a> {
             ⊎ (e ≡ Error.OutOfMemory)) }
         ensures answer { MatchResult result
             (λ b. field_text self.entry ≡ encoding (alphabet_of base64_variant) b.items)
-            (λ e. e ≡ Error.Base64 InvalidEncoding → (b : List ℕ) → EachBelow 256 b
-            → encoding (alphabet_of base64_variant) b ≢ field_text self.entry) }
+            (λ e. e ≡ Error.Base64 InvalidEncoding
+            → IsNoEncoding (alphabet_of base64_variant) (field_text self.entry)) }
         ensures decoded { MatchResult result
             (λ b. decoding (alphabet_of base64_variant) (field_text self.entry) ≡ Some b.items)
             (λ e. e ≡ Error.Base64 InvalidEncoding
