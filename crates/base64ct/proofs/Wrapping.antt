@@ -7,8 +7,8 @@ use Rattle.std.proofs.lemmas.Slice.{take-put_mid}
 use borrow.Rule.Slice.PartMut.{put_mid}
 use Rattle.base64ct.proofs.Encodings.{below-take, below-drop}
 use Rattle.std.proofs.lemmas.Bool.{lt-ltb, le-ltb}
-use Rattle.base64ct.specs.Encoding.{Alphabet, is_alphabet, unpadded_encoding, EachBelow}
-use Rattle.base64ct.proofs.Unpadded.{bytes-unpadded, unpadded-append, unpadded-nil}
+use Rattle.base64ct.specs.Encoding.{Alphabet, is_alphabet, unpadded_encoding, unpadded_len, EachBelow}
+use Rattle.base64ct.proofs.Unpadded.{bytes-unpadded, length-unpadded, unpadded-append, unpadded-nil}
 use Rattle.base64ct.proofs.GoodBlocks.{below-append}
 use Rattle.base64ct.specs.Encoders.{wrap_from, room_after, unwrap_from, bytes_in, Stands, Wrote}
 
@@ -268,6 +268,17 @@ unpadded_apart a input done m below whole h =
     ∙ unpadded-append a (take m (drop done input)) (drop m (drop done input))
     (below-take 256 m (drop done input) (omega arith) (below-drop 256 done input below)) (omega arith)
     ∙ rw (drop-drop m done input) refl
+
+-- the characters of a stride, as they stand at the front of a buffer
+pub stride_characters : (a : Alphabet) (input chars dst : List ℕ) (done m k n : ℕ) → EachBelow 256 input → k ≡ m
+    → done + m ≤ length input → n ≡ unpadded_len (length (take k (drop done input)))
+    → dst ≡ unpadded_encoding a (take k (drop done input)) ++ drop n chars
+    → take n dst ≡ unpadded_encoding a (take m (drop done input))
+stride_characters a input chars dst done m k n below same within count written =
+    let below_src = below-take 256 k (drop done input) (omega arith) (below-drop 256 done input below) in
+    ap (λ (l : List ℕ). take n l) written
+    ∙ take_at (unpadded_encoding a (take k (drop done input))) (drop n chars) n
+    (omega (arith, count, length-unpadded a (take k (drop done input)) below_src)) ∙ rw same refl
 
 pub striding_fits : (a : Alphabet) (w : ℕ) (e input old out : List ℕ) (position done at room left m : ℕ) (xs : List ℕ)
     → EachBelow 256 input → m % 3 ≡ 0 → done + m ≤ length input → xs ≡ unpadded_encoding a (take m (drop done input))

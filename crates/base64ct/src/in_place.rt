@@ -5,7 +5,7 @@ ghost use Rattle.base64ct.specs.Encoding.{byte_count, EachBelow, AreCharacters, 
 
 use crate::InvalidEncodingError;
 use crate::alphabet::Alphabet;
-use crate::blocks::decode_block;
+use crate::blocks::{decode_block, put_three};
 use crate::decode::{bytes_of, padding_of};
 
 // The bytes of a last block of less than four characters, whatever bits are left over, and a number
@@ -37,7 +37,7 @@ pub(crate) fn read_in_place<A: Alphabet>(buf: &mut [u8], count: usize) -> bool
         let i = 4 * block;
         let o = 3 * block;
         let (bytes, wrong) = decode_block::<A>(buf[i], buf[i + 1], buf[i + 2], buf[i + 3]);
-        buf[o..o + 3].copy_from_slice(&bytes);
+        put_three(&mut buf[o..o + 3], bytes);
         fault |= wrong;
     }
     let o = 3 * blocks;
