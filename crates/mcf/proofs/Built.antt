@@ -1,10 +1,10 @@
 -- Texts that are built from an identifier and fields.
-use Rattle.std.proofs.Common.{◌≡◌, ◌≢◌, ℕ, zero, suc, ◌+◌, ◌-◌, Bool, true, false, List, [], ◌∷◌, ◌++◌, length, drop}
+use Rattle.std.proofs.Common.{◌≡◌, ◌≢◌, ℕ, suc, ◌+◌, ◌-◌, Bool, true, false, List, [], ◌∷◌, ◌++◌, length, drop}
 use Rattle.std.proofs.Common.{refl, sym, ap, ◌∙◌, arith}
 use Rattle.std.specs.Prelude.{not, nat_eq, Some, None, Ok, if◌then◌else◌}
 use Rattle.std.specs.List.{list_all, starts_with, ends_with}
 use Rattle.std.specs.Cmp.Lexicographic.{pointwise}
-use Rattle.std.proofs.lemmas.Bool.{and_parts, false≢true}
+use Rattle.std.proofs.lemmas.Bool.{and_parts}
 use Rattle.std.proofs.lemmas.Bool.Decides.{nat_tests}
 use Rattle.std.proofs.lemmas.List.{append-nil, append_assoc, length-append}
 use Rattle.std.proofs.Math.Seq.{drop-append-add}
@@ -16,15 +16,9 @@ use Rattle.mcf.specs.Grammar.{is_delimited, is_identifier, fault, mcf, parts, Pa
 use Rattle.mcf.specs.Grammar.{with_dollar, with_field}
 use Rattle.mcf.proofs.ValidTexts.{valid_of, pieces_of_valid}
 use Rattle.pieces.proofs.FaultLaws.{or_none, some_none}
+use Rattle.pieces.proofs.Tests.{lacks}
 
 -- ---- bytes that are no `$`
-
--- a text of bytes among which `$` is none
-lacks : (p : ℕ → Bool) → p 36 ≡ false → (s : List ℕ) → list_all p s ≡ true → LacksByte 36 s
-lacks p other [] h i below = absurd (omega (arith, below))
-lacks p other (b ∷ s) h zero below =
-    λ same. false≢true (sym other ∙ ap p (sym same) ∙ (and_parts (p b) (list_all p s) h).0)
-lacks p other (b ∷ s) h (suc i) below = lacks p other s (and_parts (p b) (list_all p s) h).1 i (omega (arith, below))
 
 other_byte : (b : ℕ) → b ≢ 36 → pointwise nat_eq (36 ∷ []) (b ∷ []) ≡ false
 other_byte b other = grind (arith, nat_tests, other)
@@ -61,7 +55,7 @@ pub fault_identifier : (id : List ℕ) → is_identifier id ≡ true
     → (fault (with_dollar id) ≡ None) × (parts (with_dollar id) ≡ record { id = id; fields = [] })
 fault_identifier [] h = absurd (no_identifier h)
 fault_identifier (b ∷ id) h =
-    let none = lacks is_identifier_byte refl (b ∷ id) (identifier_bytes (b ∷ id) h) in
+    let none = lacks is_identifier_byte 36 refl (b ∷ id) (identifier_bytes (b ∷ id) h) in
     let end = not_at_end [] b id none in
     let cut = cut_in_front 36 (b ∷ id) ∙ ap (λ (ps : List (List ℕ)). [] ∷ ps) (one_piece 36 (b ∷ id) none) in
     whole (36 ∷ (b ∷ id)) (b ∷ id) [] (rw end refl) cut h refl
@@ -92,7 +86,7 @@ pub fault_pushed : (s field : List ℕ) → fault s ≡ None → field_fault fie
 fault_pushed s [] h good = absurd (some_none FieldInvalid good)
 fault_pushed s (b ∷ field) h good =
     let valid = valid_of s h in
-    let none = lacks is_field_byte refl (b ∷ field) (field_bytes b field good) in
+    let none = lacks is_field_byte 36 refl (b ∷ field) (field_bytes b field good) in
     let cut : pieces_at 36 (s ++ 36 ∷ (b ∷ field)) ≡ [] ∷ ((parts s).id ∷ ((parts s).fields ++ (b ∷ field) ∷ [])) =
     cut_append 36 s (b ∷ field) ∙ ap (λ (ps : List (List ℕ)). ps ++ pieces_at 36 (b ∷ field)) (pieces_of_valid s h)
     ∙ ap (λ (ps : List (List ℕ)). [] ∷ ((parts s).id ∷ ((parts s).fields ++ ps))) (one_piece 36 (b ∷ field) none) in

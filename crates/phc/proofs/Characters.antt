@@ -1,5 +1,5 @@
 -- Which bytes the parts of a record consist of.
-use Rattle.std.proofs.Common.{◌≡◌, ℕ, zero, suc, ◌^◌, ◌<◌, Bool, true, false, List, [], ◌∷◌, ◌++◌, length, map}
+use Rattle.std.proofs.Common.{◌≡◌, ℕ, zero, suc, ◌^◌, ◌<◌, Bool, true, false, List, [], ◌∷◌, length, map}
 use Rattle.std.proofs.Common.{slice_index, refl, sym, ap, ◌∙◌, arith}
 use Rattle.std.specs.Prelude.{◌==◌, ◌&&◌, nat_le}
 use Rattle.std.specs.List.{list_all}
@@ -8,7 +8,6 @@ use Rattle.std.specs.Fmt.{decimal}
 use Rattle.std.proofs.lemmas.Bool.{and_parts, false≢true}
 use Rattle.std.proofs.lemmas.Bool.Decides.{nat_tests}
 use Rattle.std.proofs.lemmas.Fmt.{digits_decimal}
-use Rattle.pieces.specs.Pieces.{LacksByte}
 use Rattle.base64ct.specs.Alphabets.{base64_unpadded}
 use Rattle.base64ct.specs.Encoding.{EachBelow, character, groups}
 use Rattle.base64ct.specs.Encoding as base64
@@ -16,14 +15,7 @@ use Rattle.base64ct.proofs.Encodings.{groups-below}
 use Rattle.phc.specs.Encoded.{encoding}
 use Rattle.phc.specs.Grammar.{has, is_name, is_name_byte, is_value_byte}
 use Rattle.phc.proofs.Decimals.{own}
-
--- a text of bytes among which c is none
-pub lacks : (p : ℕ → Bool) (c : ℕ) → p c ≡ false → (s : List ℕ) → list_all p s ≡ true → LacksByte c s
-lacks p c other [] h i below = absurd (omega (arith, below))
-lacks p c other (b ∷ s) h zero below =
-    λ same. false≢true (sym other ∙ ap p (sym same) ∙ (and_parts (p b) (list_all p s) h).0)
-lacks p c other (b ∷ s) h (suc i) below =
-    lacks p c other s (and_parts (p b) (list_all p s) h).1 i (omega (arith, below))
+pub use Rattle.pieces.proofs.Tests.{all_append, all_weaker, lacks}
 
 not_same : (p : ℕ → Bool) (c b : ℕ) → p c ≡ false → p b ≡ true → (b == c) ≡ false
 not_same p c b other h = by_test (b == c) refl
@@ -39,21 +31,6 @@ has_none p c other [] h = refl
 has_none p c other (b ∷ s) h =
     let parts = and_parts (p b) (list_all p s) h in
     rw (not_same p c b other parts.0) (has_none p c other s parts.1)
-
--- both parts of a text
-pub all_append : (p : ℕ → Bool) (s t : List ℕ) → list_all p s ≡ true → list_all p t ≡ true → list_all p (s ++ t) ≡ true
-all_append p [] t hs ht = ht
-all_append p (b ∷ s) t hs ht =
-    let parts = and_parts (p b) (list_all p s) hs in
-    rw (parts.0) (all_append p s t parts.1 ht)
-
--- a weaker test
-pub all_weaker : (p q : ℕ → Bool) → ((b : ℕ) → p b ≡ true → q b ≡ true) → (s : List ℕ) → list_all p s ≡ true
-    → list_all q s ≡ true
-all_weaker p q weaker [] h = refl
-all_weaker p q weaker (b ∷ s) h =
-    let parts = and_parts (p b) (list_all p s) h in
-    rw (weaker b parts.0) (all_weaker p q weaker s parts.1)
 
 -- ---- names
 

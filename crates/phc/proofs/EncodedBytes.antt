@@ -1,5 +1,5 @@
 -- Lengths of texts that are encodings of salts and outputs, and how their faults stand with them.
-use Rattle.std.proofs.Common.{◌≡◌, ℕ, ◌+◌, ◌*◌, ◌/◌, ◌≤◌, ◌<◌, ◌⊎◌, true, false, List, [], ◌∷◌, length, refl, sym, ◌∙◌}
+use Rattle.std.proofs.Common.{◌≡◌, ℕ, ◌+◌, ◌*◌, ◌/◌, ◌≤◌, ◌<◌, ◌⊎◌, true, false, List, length, refl, sym, ◌∙◌}
 use Rattle.std.proofs.Common.{arith, inl, inr}
 use Rattle.std.specs.Prelude.{Option, Some, None, is_some, nat_le, nat_lt, ◌==◌}
 use Rattle.std.specs.Str.{IsUtf8}
@@ -8,15 +8,12 @@ use Rattle.std.proofs.lemmas.Str.{IsUtf8-from_ascii}
 use Rattle.base64ct.specs.Alphabets.{base64_unpadded}
 use Rattle.base64ct.specs.Counts.{comparison_count}
 use Rattle.base64ct.specs.Encoding.{EachBelow, byte_count, decoded_len, longest_input}
-use Rattle.base64ct.specs.declared.errors.Error.TheVariants.{InvalidEncoding}
 use Rattle.base64ct.proofs.Ascii.{encoding_ascii}
 use Rattle.base64ct.proofs.DecodingLaws.{decoding-Some, decoding-encoding, length-decodable, length-decoding}
 use Rattle.base64ct.proofs.DecodingLaws.{decoded_len-unpadded}
-use Rattle.pieces.proofs.FaultLaws.{first_none, unless_none}
+use Rattle.phc.proofs.FieldFaults.{good_salt}
 use Rattle.phc.specs.Encoded.{decoding, encoding}
 use Rattle.phc.specs.Grammar.{salt_fault}
-use Rattle.pieces.specs.Faults.{unless}
-use Rattle.phc.specs.declared.error.Error.TheVariants.{Base64, SaltTooShort, SaltTooLong}
 
 -- a text of at most k characters stands for at most as many bytes
 pub room_enough : (k n : ℕ) (t : List ℕ) → length t ≤ k → byte_count k ≤ n → decoded_len base64_unpadded t ≤ n
@@ -54,14 +51,8 @@ pub record SaltBytes (t : List ℕ) : Type 0 where
 
 pub salt_bytes : (t : List ℕ) → salt_fault t ≡ None → SaltBytes t
 salt_bytes t h =
-    let one = first_none (unless (nat_le 11 (length t)) SaltTooShort)
-    (unless (nat_le (length t) 64) SaltTooLong ∷ (unless (is_some (decoding t)) (Base64 InvalidEncoding) ∷ [])) h in
-    let two = first_none (unless (nat_le (length t) 64) SaltTooLong)
-    (unless (is_some (decoding t)) (Base64 InvalidEncoding) ∷ []) one.1 in
-    let three = first_none (unless (is_some (decoding t)) (Base64 InvalidEncoding)) [] two.1 in
-    let least : 11 ≤ length t = grind (arith, nat_tests, unless_none (nat_le 11 (length t)) SaltTooShort one.0) in
-    let most : length t ≤ 64 = grind (arith, nat_tests, unless_none (nat_le (length t) 64) SaltTooLong two.0) in
-    let is = found (decoding t) (unless_none (is_some (decoding t)) (Base64 InvalidEncoding) three.0) in
+    let good = good_salt t h in
+    let is = found (decoding t) good.decodes in
     let parts = decoding-Some base64_unpadded t is.0 is.1 in
     let size = decoded_length t is.0 is.1 in
     record {
@@ -69,8 +60,8 @@ salt_bytes t h =
       decoded = is.1;
       small = parts.0;
       text = parts.1;
-      least = omega (arith, size, least);
-      most = omega (arith, size, most);
+      least = omega (arith, size, good.least);
+      most = omega (arith, size, good.most);
     }
 
 -- the encoding of 8 to 48 bytes is the text of a salt

@@ -2,6 +2,7 @@ pub mod NameLemmas
 pub mod Characters
 pub mod PairTexts
 pub mod LayoutFaults
+mod FieldFaults
 pub mod BytesLemmas
 pub mod Decimals
 pub mod Joining

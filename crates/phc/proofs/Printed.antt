@@ -1,7 +1,7 @@
 -- An accepted text prints back.
 use Rattle.std.proofs.Common.{◌≡◌, ℕ, ◌^◌, ◌<◌, Bool, true, false, List, [], ◌∷◌, ◌++◌, length, take, drop, get_or, map}
-use Rattle.std.proofs.Common.{refl, sym, ap, ◌∙◌, arith, append_assoc, take-append-drop, Result, Ok, Err}
-use Rattle.std.specs.Prelude.{◌&&◌, not, nat_eq, nat_le, nat_lt, Option, Some, None, is_some, unwrap_or, codes}
+use Rattle.std.proofs.Common.{refl, sym, ap, ◌∙◌, arith, append_assoc, take-append-drop, Ok}
+use Rattle.std.specs.Prelude.{◌&&◌, not, nat_eq, nat_le, nat_lt, Option, Some, None, is_some, codes}
 use Rattle.std.specs.Prelude.{if◌then◌else◌}
 use Rattle.std.specs.Option.{option_and_then}
 use Rattle.std.specs.Fmt.{decimal}
@@ -18,21 +18,18 @@ use Rattle.base64ct.specs.Alphabets.{base64_unpadded}
 use Rattle.base64ct.proofs.DecodingLaws.{decoding-Some, same_true}
 use Rattle.phc.specs.Encoded.{decoding}
 use Rattle.phc.specs.Grammar.{fault_of, version_fault, text_fault, salt_fault}
-use Rattle.pieces.specs.Faults.{unless, value_or_fault}
 use Rattle.phc.specs.Grammar.{hash_fault, pairs_of, pair_of, text_pairs, decimal_value, fault_of_layout, layout}
 use Rattle.phc.specs.Grammar.{version_digits, params_text, read_first, pieces_behind, has, is_plain}
 use Rattle.pieces.specs.Numbers.{has_leading_zero, number_after}
-use Rattle.pieces.proofs.FaultLaws.{first_none, unless_none}
+use Rattle.pieces.proofs.FaultLaws.{err_ok, value_found}
 use Rattle.phc.specs.Params.{Pairs, pairs_text}
 use Rattle.phc.specs.PairsOfText.{pairs_text-text_pairs}
 use Rattle.phc.specs.Record.{record_of_layout, phc, phc_of_pieces, phc_text, version_part, params_part, bytes_part}
 use Rattle.phc.specs.Record.{hash_part, record_text}
-use Rattle.phc.specs.declared.error.Error.{Error}
-use Rattle.phc.specs.declared.error.Error.TheVariants.{Base64, MissingField, ParamValueInvalid, ParamValueTooLong}
-use Rattle.phc.specs.declared.error.Error.TheVariants.{SaltTooShort, SaltTooLong}
-use Rattle.base64ct.specs.declared.errors.Error.TheVariants.{InvalidEncoding, InvalidLength}
+use Rattle.phc.specs.declared.error.Error.TheVariants.{MissingField}
 use Rattle.phc.specs.declared.password_hash.PasswordHash.{PasswordHash}
 use Rattle.phc.proofs.Decimals.{own}
+use Rattle.phc.proofs.FieldFaults.{decimal_found, good_hash, good_salt}
 use Rattle.phc.proofs.LayoutFaults.{good_parts}
 
 -- pieces with a `$` before each
@@ -98,11 +95,7 @@ version_case q qs (Some digits) is h = by_value (decimal_value digits) refl
   where
     by_value : (n : Option ℕ) → decimal_value digits ≡ n → shown (q ∷ qs) ≡ version_part n ++ shown qs
     by_value None e =
-        let tests = first_none (unless (nat_le (length digits) 64) ParamValueTooLong)
-        (unless (is_some (decimal_value digits)) ParamValueInvalid ∷ []) h in
-        let some = unless_none (is_some (decimal_value digits)) ParamValueInvalid
-        (first_none (unless (is_some (decimal_value digits)) ParamValueInvalid) [] tests.1).0 in
-        absurd (false_true (ap is_some (sym e) ∙ some))
+        absurd (false_true (ap is_some (sym e) ∙ decimal_found digits h))
     by_value (Some n) e = rw (version_text q digits is, decimal_back digits n e) refl
 
 version_shown : (pieces : List (List ℕ)) → fault_of version_fault (read_first version_digits pieces) ≡ None
@@ -147,33 +140,12 @@ bytes_case q qs (Some b) is some = ap (λ (t : List ℕ). 36 ∷ (t ++ shown qs)
 salt_shown : (pieces : List (List ℕ)) → fault_of salt_fault (first pieces) ≡ None
     → shown pieces ≡ bytes_part (option_and_then decoding (first pieces)) ++ shown (drop 1 pieces)
 salt_shown [] h = refl
-salt_shown (q ∷ qs) h =
-    let one = first_none (unless (nat_le 11 (length q)) SaltTooShort)
-    (unless (nat_le (length q) 64) SaltTooLong ∷ (unless (is_some (decoding q)) (Base64 InvalidEncoding) ∷ [])) h in
-    let two = first_none (unless (nat_le (length q) 64) SaltTooLong)
-    (unless (is_some (decoding q)) (Base64 InvalidEncoding) ∷ []) one.1 in
-    let three = first_none (unless (is_some (decoding q)) (Base64 InvalidEncoding)) [] two.1 in
-    bytes_case q qs (decoding q) refl (unless_none (is_some (decoding q)) (Base64 InvalidEncoding) three.0)
+salt_shown (q ∷ qs) h = bytes_case q qs (decoding q) refl (good_salt q h).decodes
 
 hash_shown : (pieces : List (List ℕ)) → fault_of hash_fault (first pieces) ≡ None
     → shown pieces ≡ bytes_part (option_and_then decoding (first pieces)) ++ shown (drop 1 pieces)
 hash_shown [] h = refl
-hash_shown (q ∷ qs) h =
-    let one = first_none (unless (nat_le (length q) 86) (Base64 InvalidLength))
-    (unless (is_some (decoding q)) (Base64 InvalidEncoding)
-    ∷ (unless (nat_le 10 (length (unwrap_or (decoding q) []))) _ ∷ [])) h in
-    let two = first_none (unless (is_some (decoding q)) (Base64 InvalidEncoding))
-    (unless (nat_le 10 (length (unwrap_or (decoding q) []))) _ ∷ []) one.1 in
-    bytes_case q qs (decoding q) refl (unless_none (is_some (decoding q)) (Base64 InvalidEncoding) two.0)
-
-salt_found : (q : List ℕ) → salt_fault q ≡ None → is_some (decoding q) ≡ true
-salt_found q h =
-    let one = first_none (unless (nat_le 11 (length q)) SaltTooShort)
-    (unless (nat_le (length q) 64) SaltTooLong ∷ (unless (is_some (decoding q)) (Base64 InvalidEncoding) ∷ [])) h in
-    let two = first_none (unless (nat_le (length q) 64) SaltTooLong)
-    (unless (is_some (decoding q)) (Base64 InvalidEncoding) ∷ []) one.1 in
-    let three = first_none (unless (is_some (decoding q)) (Base64 InvalidEncoding)) [] two.1 in
-    unless_none (is_some (decoding q)) (Base64 InvalidEncoding) three.0
+hash_shown (q ∷ qs) h = bytes_case q qs (decoding q) refl (good_hash q h).decodes
 
 -- a hash stands behind a salt
 behind_salt : (pieces : List (List ℕ)) → fault_of salt_fault (first pieces) ≡ None
@@ -182,7 +154,7 @@ behind_salt : (pieces : List (List ℕ)) → fault_of salt_fault (first pieces) 
     ≡ hash_part (option_and_then decoding (first pieces)) (option_and_then decoding (first (drop 1 pieces)))
     ++ shown (drop 1 (drop 1 pieces))
 behind_salt [] hs hh = refl
-behind_salt (q ∷ qs) hs hh = by_salt (decoding q) refl (salt_found q hs)
+behind_salt (q ∷ qs) hs hh = by_salt (decoding q) refl (good_salt q hs).decodes
   where
     by_salt : (r : Option (List ℕ)) → decoding q ≡ r → is_some r ≡ true
         → shown qs ≡ hash_part r (option_and_then decoding (first qs)) ++ shown (drop 1 qs)
@@ -214,36 +186,20 @@ layout_printed id pieces h =
     (version_shown pieces good.version) (params_shown after_version good.params) (salt_shown after_params good.salt)
     (behind_salt after_params good.salt good.hash) (nothing_shown (drop 1 (drop 1 after_params)) good.end)
 
-accepted : (id : List ℕ) (pieces : List (List ℕ)) (r : PasswordHash) (f : Option Error)
-    → fault_of_layout id (layout pieces) ≡ f → value_or_fault (record_of_layout id (layout pieces)) f ≡ Ok r
+accepted : (id : List ℕ) (pieces : List (List ℕ)) (r : PasswordHash) → phc id pieces ≡ Ok r
     → record_text r ≡ 36 ∷ (id ++ shown pieces)
-accepted id pieces r None is h = rw (← ok_same _ _ h) (layout_printed id pieces is)
-  where
-    ok_same : (a b : PasswordHash) → (let x : Result PasswordHash Error = Ok a in x ≡ Ok b) → a ≡ b
-    ok_same a b e = cc
-accepted id pieces r (Some e) is h = absurd (err_ok h)
-  where
-    err_ok : Err e ≡ Ok r → ⊥
-    err_ok x = cc
+unfolding phc
+accepted id pieces r h =
+    let is = value_found (record_of_layout id (layout pieces)) r (fault_of_layout id (layout pieces)) h in
+    rw (← is.1) (layout_printed id pieces is.0)
 
 of_pieces : (pieces : List (List ℕ)) (r : PasswordHash) → phc_of_pieces pieces ≡ Ok r
     → record_text r ≡ join_with_byte 36 pieces
-unfolding phc
-of_pieces [] r h = absurd (err_ok h)
-  where
-    err_ok : Err MissingField ≡ Ok r → ⊥
-    err_ok x = cc
-of_pieces ([] ∷ []) r h = absurd (err_ok h)
-  where
-    err_ok : Err MissingField ≡ Ok r → ⊥
-    err_ok x = cc
+of_pieces [] r h = absurd (err_ok MissingField r h)
+of_pieces ([] ∷ []) r h = absurd (err_ok MissingField r h)
 of_pieces ([] ∷ id ∷ pieces) r h =
-    accepted id pieces r (fault_of_layout id (layout pieces)) refl h
-    ∙ ap (λ (t : List ℕ). 36 ∷ t) (sym (join_shown id pieces))
-of_pieces ((b ∷ front) ∷ others) r h = absurd (err_ok h)
-  where
-    err_ok : Err MissingField ≡ Ok r → ⊥
-    err_ok x = cc
+    accepted id pieces r h ∙ ap (λ (t : List ℕ). 36 ∷ t) (sym (join_shown id pieces))
+of_pieces ((b ∷ front) ∷ others) r h = absurd (err_ok MissingField r h)
 
 -- the record of an accepted text prints it
 pub prints_back : (s : List ℕ) (r : PasswordHash) → phc_text s ≡ Ok r → record_text r ≡ s

@@ -1,6 +1,6 @@
 -- A record that is read is printable, and its parts are valid.
 use Rattle.std.proofs.Common.{◌≡◌, ℕ, ◌+◌, ◌*◌, ◌/◌, ◌^◌, ◌<◌, ◌≤◌, Bool, true, false, List, [], ◌∷◌, ◌++◌, length}
-use Rattle.std.proofs.Common.{drop, refl, sym, ap, ◌∙◌, arith, Result, Ok, Err}
+use Rattle.std.proofs.Common.{drop, refl, sym, ap, ◌∙◌, arith, Ok}
 use Rattle.std.specs.Prelude.{◌&&◌, not, map, nat_eq, nat_le, nat_lt, Option, Some, None, IfSome, is_some, is_none}
 use Rattle.std.specs.Prelude.{codes, unwrap_or, if◌then◌else◌}
 use Rattle.std.specs.Option.{option_and_then}
@@ -12,27 +12,25 @@ use Rattle.pieces.specs.Pieces.{first, pieces_at}
 use Rattle.base64ct.specs.Alphabets.{base64_unpadded}
 use Rattle.base64ct.specs.Encoding.{EachBelow}
 use Rattle.base64ct.proofs.DecodingLaws.{decoding-Some, length-decodable, same_true}
-use Rattle.base64ct.specs.declared.errors.Error.TheVariants.{InvalidEncoding, InvalidLength}
-use Rattle.std.specs.declared.cmp.Ordering.TheVariants.{Less}
 use Rattle.phc.specs.Encoded.{decoding}
 use Rattle.phc.specs.Grammar.{pieces_behind, cut_pairs, decimal_value, fault_of, fault_of_layout, read_first, has}
 use Rattle.phc.specs.Grammar.{hash_fault, is_plain, layout, pair_fault, pairs_of}
 use Rattle.pieces.specs.Numbers.{number_after}
 use Rattle.phc.specs.Grammar.{params_text, salt_fault, text_fault, text_pairs, version_digits}
-use Rattle.pieces.specs.Faults.{unless, value_or_fault}
+use Rattle.pieces.specs.Faults.{unless}
 use Rattle.phc.specs.Grammar.{version_fault}
 use Rattle.phc.specs.Params.{Pairs, pair_text, pairs_text}
 use Rattle.phc.specs.PairsOfText.{pairs_text-text_pairs}
 use Rattle.phc.specs.Record.{IsRecord, is_lone_v, is_pair, is_printable, phc, phc_of_pieces, phc_text, record_of_layout}
 use Rattle.phc.specs.declared.error.Error.{Error}
-use Rattle.phc.specs.declared.error.Error.TheVariants.{Base64, MissingField, OutputSize}
-use Rattle.phc.specs.declared.error.Error.TheVariants.{ParamValueInvalid, ParamValueTooLong, ParamsMaxExceeded}
-use Rattle.phc.specs.declared.error.Error.TheVariants.{SaltTooLong, SaltTooShort}
+use Rattle.phc.specs.declared.error.Error.TheVariants.{MissingField}
+use Rattle.phc.specs.declared.error.Error.TheVariants.{ParamsMaxExceeded}
 use Rattle.phc.specs.declared.password_hash.PasswordHash.{PasswordHash}
 use Rattle.phc.proofs.Characters.{has_none}
+use Rattle.phc.proofs.FieldFaults.{decimal_found, good_hash, good_salt}
 use Rattle.phc.proofs.LayoutFaults.{good_parts}
 use Rattle.phc.proofs.PairTexts.{is_pair_byte, pair_bytes, pairs_valid}
-use Rattle.pieces.proofs.FaultLaws.{first_none, unless_none}
+use Rattle.pieces.proofs.FaultLaws.{err_ok, first_none, unless_none, value_found}
 
 none_some : {A : Type 0} (a : A) → None ≡ Some a → ⊥
 none_some a h = cc
@@ -47,21 +45,12 @@ some_not_none : {A : Type 0} (o : Option A) → is_some o ≡ true → is_none o
 some_not_none None h = absurd (false≢true h)
 some_not_none (Some a) h = refl
 
-salt_decoded : (q : List ℕ) → salt_fault q ≡ None → is_some (decoding q) ≡ true
-salt_decoded q h =
-    let one = first_none (unless (nat_le 11 (length q)) SaltTooShort)
-    (unless (nat_le (length q) 64) SaltTooLong ∷ (unless (is_some (decoding q)) (Base64 InvalidEncoding) ∷ [])) h in
-    let two = first_none (unless (nat_le (length q) 64) SaltTooLong)
-    (unless (is_some (decoding q)) (Base64 InvalidEncoding) ∷ []) one.1 in
-    unless_none (is_some (decoding q)) (Base64 InvalidEncoding)
-    (first_none (unless (is_some (decoding q)) (Base64 InvalidEncoding)) [] two.1).0
-
 hash_behind_salt : (pieces : List (List ℕ)) → fault_of salt_fault (first pieces) ≡ None
     → (is_some (option_and_then decoding (first (drop 1 pieces))) && is_none (option_and_then decoding (first pieces)))
     ≡ false
 hash_behind_salt [] h = refl
 hash_behind_salt (q ∷ qs) h =
-    rw (some_not_none (decoding q) (salt_decoded q h)) (and_false (is_some (option_and_then decoding (first qs))))
+    rw (some_not_none (decoding q) (good_salt q h).decodes) (and_false (is_some (option_and_then decoding (first qs))))
 
 -- ---- one single pair named `v` is a version
 
@@ -89,13 +78,6 @@ lone_pairs q (p ∷ []) is h none = by_test (pointwise nat_eq p.0 (codes "v")) r
     by_test : (t : Bool) → pointwise nat_eq p.0 (codes "v") ≡ t → t ≡ false
     by_test false e = refl
     by_test true e = absurd (none_some p.1 (sym none ∙ lone_version q p text valid e))
-
-decimal_found : (digits : List ℕ) → version_fault digits ≡ None → is_some (decimal_value digits) ≡ true
-decimal_found digits h =
-    let one = first_none (unless (nat_le (length digits) 64) ParamValueTooLong)
-    (unless (is_some (decimal_value digits)) ParamValueInvalid ∷ []) h in
-    unless_none (is_some (decimal_value digits)) ParamValueInvalid
-    (first_none (unless (is_some (decimal_value digits)) ParamValueInvalid) [] one.1).0
 
 params_case : (q : List ℕ) (test : Bool) → version_digits q ≡ None
     → fault_of text_fault (if test then Some q else None) ≡ None
@@ -154,16 +136,9 @@ params_bound (Some s) h = rw (pairs_text-text_pairs s h) (text_bound s h)
 salt_bounds : (q b : List ℕ) → decoding q ≡ Some b → salt_fault q ≡ None
     → EachBelow 256 b × (8 ≤ length b) × (length b ≤ 48)
 salt_bounds q b is h =
-    let one = first_none (unless (nat_le 11 (length q)) SaltTooShort)
-    (unless (nat_le (length q) 64) SaltTooLong ∷ (unless (is_some (decoding q)) (Base64 InvalidEncoding) ∷ [])) h in
-    let two = first_none (unless (nat_le (length q) 64) SaltTooLong)
-    (unless (is_some (decoding q)) (Base64 InvalidEncoding) ∷ []) one.1 in
-    let long = unless_none (nat_le 11 (length q)) SaltTooShort one.0 in
-    let short = unless_none (nat_le (length q) 64) SaltTooLong two.0 in
-    let least : 11 ≤ length q = grind (arith, nat_tests, long) in
-    let most : length q ≤ 64 = grind (arith, nat_tests, short) in
+    let good = good_salt q h in
     let size : length q ≡ (4 * length b + 2) / 3 = length-decodable base64_unpadded q b refl is in
-    ((decoding-Some base64_unpadded q b is).0, omega (arith, least, size), omega (arith, most, size))
+    ((decoding-Some base64_unpadded q b is).0, omega (arith, good.least, size), omega (arith, good.most, size))
 
 salt_case : (q : List ℕ) (r : Option (List ℕ)) → decoding q ≡ r → salt_fault q ≡ None
     → IfSome r (λ b. EachBelow 256 b × (8 ≤ length b) × (length b ≤ 48))
@@ -178,19 +153,12 @@ salt_valid (Some q) h = salt_case q (decoding q) refl h
 hash_bounds : (q b : List ℕ) → decoding q ≡ Some b → hash_fault q ≡ None
     → EachBelow 256 b × (10 ≤ length b) × (length b ≤ 64)
 hash_bounds q b is h =
-    let one = first_none (unless (nat_le (length q) 86) (Base64 InvalidLength))
-    (unless (is_some (decoding q)) (Base64 InvalidEncoding)
-    ∷ (unless (nat_le 10 (length (unwrap_or (decoding q) []))) (OutputSize Less 10) ∷ [])) h in
-    let two = first_none (unless (is_some (decoding q)) (Base64 InvalidEncoding))
-    (unless (nat_le 10 (length (unwrap_or (decoding q) []))) (OutputSize Less 10) ∷ []) one.1 in
-    let three = first_none (unless (nat_le 10 (length (unwrap_or (decoding q) []))) (OutputSize Less 10)) [] two.1 in
-    let short = unless_none (nat_le (length q) 86) (Base64 InvalidLength) one.0 in
+    let good = good_hash q h in
     let long : nat_le 10 (length b) ≡ true = ap (λ (o : Option (List ℕ)). nat_le 10 (length (unwrap_or o []))) (sym is)
-    ∙ unless_none (nat_le 10 (length (unwrap_or (decoding q) []))) (OutputSize Less 10) three.0 in
+    ∙ good.least in
     let least : 10 ≤ length b = grind (arith, nat_tests, long) in
-    let most : length q ≤ 86 = grind (arith, nat_tests, short) in
     let size : length q ≡ (4 * length b + 2) / 3 = length-decodable base64_unpadded q b refl is in
-    ((decoding-Some base64_unpadded q b is).0, least, omega (arith, most, size))
+    ((decoding-Some base64_unpadded q b is).0, least, omega (arith, good.most, size))
 
 hash_case : (q : List ℕ) (r : Option (List ℕ)) → decoding q ≡ r → hash_fault q ≡ None
     → IfSome r (λ b. EachBelow 256 b × (10 ≤ length b) × (length b ≤ 64))
@@ -232,27 +200,17 @@ read_layout id pieces h =
       printable = two_tests _ _ (hash_behind_salt after_params good.salt) (no_lone_v pieces good.version good.params);
     }
 
-accepted : (id : List ℕ) (pieces : List (List ℕ)) (r : PasswordHash) (fault : Option Error)
-    → fault_of_layout id (layout pieces) ≡ fault
-    → value_or_fault (record_of_layout id (layout pieces)) fault ≡ Ok r → IsRead r
-accepted id pieces r None is h = rw (← ok_same _ _ h) (read_layout id pieces is)
-  where
-    ok_same : (a b : PasswordHash) → (let x : Result PasswordHash Error = Ok a in x ≡ Ok b) → a ≡ b
-    ok_same a b e = cc
-accepted id pieces r (Some e) is h = absurd (err_ok h)
-  where
-    err_ok : Err e ≡ Ok r → ⊥
-    err_ok x = cc
-
-no_record : (e : Error) (r : PasswordHash) → Err e ≡ Ok r → ⊥
-no_record e r x = cc
+accepted : (id : List ℕ) (pieces : List (List ℕ)) (r : PasswordHash) → phc id pieces ≡ Ok r → IsRead r
+unfolding phc
+accepted id pieces r h =
+    let is = value_found (record_of_layout id (layout pieces)) r (fault_of_layout id (layout pieces)) h in
+    rw (← is.1) (read_layout id pieces is.0)
 
 of_pieces : (pieces : List (List ℕ)) (r : PasswordHash) → phc_of_pieces pieces ≡ Ok r → IsRead r
-unfolding phc
-of_pieces [] r h = absurd (no_record MissingField r h)
-of_pieces ([] ∷ []) r h = absurd (no_record MissingField r h)
-of_pieces ([] ∷ id ∷ pieces) r h = accepted id pieces r (fault_of_layout id (layout pieces)) refl h
-of_pieces ((b ∷ front) ∷ others) r h = absurd (no_record MissingField r h)
+of_pieces [] r h = absurd (err_ok MissingField r h)
+of_pieces ([] ∷ []) r h = absurd (err_ok MissingField r h)
+of_pieces ([] ∷ id ∷ pieces) r h = accepted id pieces r h
+of_pieces ((b ∷ front) ∷ others) r h = absurd (err_ok MissingField r h)
 
 -- a record that is read has valid parts and is printable
 pub read_is : (s : List ℕ) (r : PasswordHash) → phc_text s ≡ Ok r → IsRead r

@@ -55,10 +55,13 @@ fn has_name_bytes(bytes: &[u8]) -> bool
 pub(crate) fn is_name(s: &str) -> bool
     ensures { result ≡ is_name s.now }
 {
-    1 <= s.len() && s.len() <= 32 && has_name_bytes(s.as_bytes())
+    1 <= s.len() && s.len() <= Ident::MAX_LENGTH && has_name_bytes(s.as_bytes())
 }
 
 impl Ident {
+    // The most characters.
+    const MAX_LENGTH: usize = 32;
+
     /// The name that `s` is, or else `ParamNameInvalid`.
     pub fn new(s: &str) -> Result<Ident>
         ensures name { result ≡ value_or_fault s.now (name_fault s.now) }

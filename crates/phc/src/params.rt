@@ -56,7 +56,7 @@ impl Model for ParamsString {
 fn is_value(text: &str) -> bool
     ensures { result ≡ (nat_le (length text.now) 64 && has_value_bytes text.now) }
 {
-    text.len() <= 64 && has_value_bytes(text.as_bytes())
+    text.len() <= Value::MAX_LENGTH && has_value_bytes(text.as_bytes())
 }
 
 // The fault of what stands behind the name of a pair.
@@ -68,7 +68,7 @@ fn fault_behind_name(text: &str) -> Option<Error>
         return None;
     }
     let (value, _) = first_piece(text, '=');
-    if value.len() > 64 {
+    if value.len() > Value::MAX_LENGTH {
         Some(Error::ParamValueTooLong)
     } else {
         Some(Error::ParamValueInvalid)
@@ -112,7 +112,7 @@ fn fault_of_text(s: &str) -> Option<Error>
     if s.is_empty() {
         return None;
     }
-    if s.len() > 127 {
+    if s.len() > ParamsString::MAX_LENGTH {
         return Some(Error::ParamsMaxExceeded);
     }
     fault_of_pairs(s)
@@ -127,7 +127,7 @@ fn appended(text: &ShortBytes<127>, name: &str, value: &str) -> Option<ShortByte
 {
     let mut longer = *text;
     let comma = if text.len() == 0 { "" } else { "," };
-    if text.len() + comma.len() + name.len() + 1 + value.len() > 127 {
+    if text.len() + comma.len() + name.len() + 1 + value.len() > ParamsString::MAX_LENGTH {
         return None;
     }
     longer.push_all(comma.as_bytes());
@@ -139,6 +139,9 @@ fn appended(text: &ShortBytes<127>, name: &str, value: &str) -> Option<ShortByte
 
 impl ParamsString {
     ghost use Rattle.phc.specs.ValueViews.{pair_view, pairs_left, value_text};
+
+    // The most characters.
+    const MAX_LENGTH: usize = 127;
 
     /// No pairs.
     pub fn new() -> Self
@@ -212,7 +215,7 @@ impl ParamsString {
         if self.get(name).is_some() {
             return Err(Error::ParamNameDuplicated);
         }
-        if bytes.len() > 48 {
+        if bytes.len() > Value::MAX_BYTES {
             return Err(Error::ParamValueTooLong);
         }
         let mut room = [0; 64];

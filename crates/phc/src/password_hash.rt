@@ -15,7 +15,7 @@ ghost use Rattle.phc.specs.Views.{parts_of};
 
 use crate::layout::{FormParts, layout};
 use crate::value::decimal;
-use crate::{Decimal, Error, Ident, Output, ParamsString, PasswordHashString, Result, Salt};
+use crate::{Decimal, Error, Ident, Output, ParamsString, PasswordHashString, Result, Salt, Value};
 use base64ct::Counts;
 use pieces::{behind, first_piece, is_end};
 use std::alloc::{AllocError, Global};
@@ -46,7 +46,7 @@ fn version_of(digits: Option<&str>) -> Result<Option<Decimal>>
     let Some(digits) = digits else {
         return Ok(None);
     };
-    if digits.len() > 64 {
+    if digits.len() > Value::MAX_LENGTH {
         return Err(Error::ParamValueTooLong);
     }
     match decimal(digits) {

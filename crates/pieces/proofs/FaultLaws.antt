@@ -1,7 +1,7 @@
 -- Where no fault is found, each test holds; and what holds of each fault holds of the one that is found.
 use Rattle.std.proofs.Common.{◌≡◌, Bool, true, false, List, ◌∷◌, refl, subst}
-use Rattle.std.specs.Prelude.{IfSome, Option, Some, None}
-use Rattle.pieces.specs.Faults.{first_fault, or_else, unless}
+use Rattle.std.specs.Prelude.{IfSome, Option, Some, None, Ok, Err}
+use Rattle.pieces.specs.Faults.{first_fault, or_else, unless, value_or_fault}
 
 pub some_none : {A : Type 0} (a : A) → Some a ≡ None → ⊥
 some_none a h = cc
@@ -19,6 +19,17 @@ first_none fault faults h = or_none fault (first_fault faults) h
 pub unless_none : {E : Type 0} (test : Bool) (e : E) → unless test e ≡ None → test ≡ true
 unless_none true e h = refl
 unless_none false e h = absurd (some_none e h)
+
+-- ---- a value, or its fault
+
+pub err_ok : {A : Type 0} {E : Type 0} (e : E) (a : A) → Err e ≡ Ok a → ⊥
+err_ok e a h = cc
+
+-- where a value is answered, there is no fault
+pub value_found : {A : Type 0} {E : Type 0} (a b : A) (fault : Option E) → value_or_fault a fault ≡ Ok b
+    → (fault ≡ None) × (a ≡ b)
+value_found a b None h = (refl, cc)
+value_found a b (Some e) h = absurd (err_ok e b h)
 
 -- ---- what holds of each fault
 

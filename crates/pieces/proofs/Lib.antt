@@ -1,6 +1,7 @@
 pub mod Cuts
 pub mod FaultLaws
 pub mod Fronts
+pub mod Tests
 mod Vectors
 mod Ascii
 mod LastPlaces

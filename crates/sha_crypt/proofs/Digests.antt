@@ -23,6 +23,7 @@ use Rattle.sha_crypt.specs.Simple.{characters, word_character}
 use Rattle.sha_crypt.specs.declared.errors.Family.{Family}
 use Rattle.sha_crypt.specs.declared.errors.Family.TheVariants.{Sha256, Sha512}
 use Rattle.sha_crypt.proofs.HashFields.{below_map, field_is_found}
+use Rattle.pieces.proofs.Tests.{all_append}
 
 -- ---- characters
 
@@ -30,12 +31,6 @@ passes_at : (p : ℕ → Bool) (cs : List ℕ) (i : ℕ) → list_all p cs ≡ t
 passes_at p [] i h below = absurd (omega (arith, below))
 passes_at p (c ∷ cs) zero h below = (and_parts (p c) (list_all p cs) h).0
 passes_at p (c ∷ cs) (suc i) h below = passes_at p cs i (and_parts (p c) (list_all p cs) h).1 (omega (arith, below))
-
-pub all_append : (p : ℕ → Bool) (s t : List ℕ) → list_all p s ≡ true → list_all p t ≡ true → list_all p (s ++ t) ≡ true
-all_append p [] t hs ht = ht
-all_append p (b ∷ s) t hs ht =
-    let parts = and_parts (p b) (list_all p s) hs in
-    rw (parts.0) (all_append p s t parts.1 ht)
 
 values_pass : (p : ℕ → Bool) (values : List ℕ) → list_all p base64_sha_crypt.characters ≡ true → EachBelow 64 values
     → list_all p (map (character base64_sha_crypt) values) ≡ true

@@ -37,7 +37,7 @@ by_length n t (Some b) is other =
 pub wrong_length : (n : ℕ) (t : List ℕ) → byte_count (length t) ≢ n → None ≡ field_bytes n t
 wrong_length n t other = by_length n t (decoding base64_sha_crypt t) refl other
 
-same_tests : (p q : Bool) → (p ≡ true → q ≡ true) → (q ≡ true → p ≡ true) → p ≡ q
+pub same_tests : (p q : Bool) → (p ≡ true → q ≡ true) → (q ≡ true → p ≡ true) → p ≡ q
 same_tests true true f g = refl
 same_tests false false f g = refl
 same_tests true false f g = sym (f refl)

@@ -2,15 +2,14 @@
 use Rattle.std.proofs.Common.{◌≡◌, ◌≢◌, ℕ, zero, suc, ◌^◌, ◌<◌, ◌≤◌, Bool, true, false, List, [], ◌∷◌, ◌++◌, length}
 use Rattle.std.proofs.Common.{take, drop, refl, sym, ap, ◌∙◌, arith, Ok}
 use Rattle.std.specs.Prelude.{not, ◌==◌, nat_eq, codes, Some, None, if◌then◌else◌}
-use Rattle.std.specs.Char.{is_ascii_digit}
 use Rattle.std.specs.Fmt.{decimal}
 use Rattle.std.specs.List.{list_all, starts_with}
-use Rattle.std.specs.Str.{all_ascii_digits}
 use Rattle.std.proofs.lemmas.Bool.{and_parts, false≢true}
 use Rattle.std.proofs.lemmas.Bool.Decides.{nat_tests}
 use Rattle.base64ct.proofs.DecodingLaws.{same_true, true_same}
 use Rattle.pieces.specs.Pieces.{EachLacks, LacksByte, behind, pieces_at}
 use Rattle.pieces.proofs.Cuts.{cut_joined}
+use Rattle.pieces.proofs.Tests.{lacks}
 use Rattle.rand_core.specs.Stream.{Stream}
 use Rattle.sha_crypt.specs.Check.{check_answer, fields_answer, text_fields}
 use Rattle.sha_crypt.specs.Families.{Scheme, scheme_fields, sha256_answer, sha512_answer}
@@ -91,20 +90,6 @@ module _ (s : Scheme) (is : IsScheme s) (password salt : List ℕ) (n : ℕ) (le
       ∙ ok_tested s.size (made_fields s password salt n) (hash_is_field s is password salt n (omega (arith, least)))
 
 -- ---- the pieces
-
-lacks : (p : ℕ → Bool) (c : ℕ) → p c ≡ false → (s : List ℕ) → list_all p s ≡ true → LacksByte c s
-lacks p c other [] h i below = absurd (omega (arith, below))
-lacks p c other (b ∷ s) h zero below =
-    λ same. false≢true (sym other ∙ ap p (sym same) ∙ (and_parts (p b) (list_all p s) h).0)
-lacks p c other (b ∷ s) h (suc i) below =
-    lacks p c other s (and_parts (p b) (list_all p s) h).1 i (omega (arith, below))
-
-digits_pass : (p : ℕ → Bool) → ((b : ℕ) → is_ascii_digit b ≡ true → p b ≡ true) → (s : List ℕ)
-    → all_ascii_digits s ≡ true → list_all p s ≡ true
-digits_pass p weaker [] h = refl
-digits_pass p weaker (b ∷ s) h =
-    let parts = and_parts (is_ascii_digit b) (all_ascii_digits s) h in
-    rw (weaker b parts.0) (digits_pass p weaker s parts.1)
 
 each_lacks : (n : ℕ) (salt hash : List ℕ) → n < 2 ^ 64 → LacksByte 36 salt → LacksByte 36 hash
     → EachLacks 36 (rounds_pieces (not (n == 5000)) n ++ salt ∷ (hash ∷ []))

@@ -10,8 +10,8 @@ returns-then-is_value c =
     let value : (nat_le (length c.args.text.now) 64 && has_value_bytes c.args.text.now) ≡ true = search rules in
     sym (no_fault c.args.text.now value)
 
-pub returns-else-value-gt64 : goal.returns-else-value-gt64
-returns-else-value-gt64 c =
+pub returns-else-value-gt-MAX_LENGTH : goal.returns-else-value-gt-MAX_LENGTH
+returns-else-value-gt-MAX_LENGTH c =
     let none : (nat_le (length c.args.text.now) 64 && has_value_bytes c.args.text.now) ≡ false = search rules in
     let cut : pieces_at 61 c.args.text.now ≡ c.first_piece.result.0.now ∷ pieces_left 61 c.first_piece.result.1 =
     c.first_piece.ensures.pieces in
