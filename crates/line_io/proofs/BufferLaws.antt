@@ -6,9 +6,10 @@ use Rattle.std.proofs.Common.{rules, drop-cons, length-drop, length-append, eqb}
 use borrow.Rule.Slice.PartMut.{put_mid, post_of}
 use Rattle.std.specs.Prelude.{◌↔◌, ◌||◌, nat_lt, if◌then◌else◌}
 use Rattle.std.specs.List.{list_any}
-use Rattle.std.proofs.lemmas.Bool.{cases_Bool, or_cases}
+use Rattle.std.proofs.lemmas.Bool.{cases_Bool, or_cases, or_parts}
+use Rattle.std.proofs.Math.Bool.{or-true, or-false}
 use Rattle.std.proofs.lemmas.List.{drop-drop, take-append-drop, take-append-le, drop-take, length-take-le}
-use Rattle.std.proofs.lemmas.List.{drop-append-le}
+use Rattle.std.proofs.lemmas.List.{drop-append-le, nil_from_length}
 use Rattle.std.proofs.lemmas.List.Folds.{list_any-append}
 use Rattle.std.proofs.lemmas.Slice.{take-put_mid_below}
 use Rattle.std.proofs.Math.Seq.{take-append-add, take-length}
@@ -58,29 +59,13 @@ kept bytes buf start end room ordered within =
     ∙ ap (λ k. drop start (take k bytes)) (sym m)
     ∙ drop-take start (end - start) bytes
 
-or-false : (a b : Bool) → a || b ≡ false → (a ≡ false) × (b ≡ false)
-or-false true b e = absurd (cc)
-or-false false b e = (refl, e)
-
-or-true : (a : Bool) → a || true ≡ true
-or-true true = refl
-or-true false = refl
-
-or-false_r : (a : Bool) → a || false ≡ a
-or-false_r true = refl
-or-false_r false = refl
-
-nothing : (xs : List ℕ) → length xs ≡ 0 → xs ≡ []
-nothing [] e = refl
-nothing (x ∷ xs) e = absurd (omega arith)
-
 -- fewer bytes hold no feed either
 pub fewer : (n m : ℕ) (xs : List ℕ) → n ≤ m → NoFeed (take m xs) → NoFeed (take n xs)
 fewer zero m xs h free = refl
 fewer (suc n) zero xs h free = absurd (omega arith)
 fewer (suc n) (suc m) [] h free = refl
 fewer (suc n) (suc m) (x ∷ xs) h free =
-    let p = or-false (is_feed x) (list_any is_feed (take m xs)) free in
+    let p = or_parts (is_feed x) (list_any is_feed (take m xs)) free in
     rw p.0 (fewer n m xs (omega arith) p.1)
 
 pub free-append : (xs ys : List ℕ) → NoFeed xs → NoFeed ys → NoFeed (xs ++ ys)
@@ -220,7 +205,7 @@ drop_step left left_now before mid now long next seen g free e p k =
           }
       | inr fits ↦
           let q : pending now ≡ pending mid = rw fits at p in
-          let s : next ≡ long = (rw fits at e) ∙ or-false_r long in
+          let s : next ≡ long = (rw fits at e) ∙ or-false long in
           record {
             gone = g.gone;
             bytes = g.bytes;
@@ -371,7 +356,7 @@ line_answers true long count gone tail bytes b e short longer gone_free free len
   ),
 )
 line_answers false long count gone tail bytes b e short longer gone_free free len l first =
-    let p = or-false long (nat_lt 8192 count) e in
+    let p = or_parts long (nat_lt 8192 count) e in
     let fits : count ≤ 8192 = search rules in
     let none = short p.0 in
     (ap length l ∙ len, fits, (rw l free), (rw l (rw none at first)))
@@ -430,7 +415,7 @@ last_line left left_now before mid now long seen count g k all free within end s
         | inr h ↦ let w = some h in rw (whole, length-append g.gone (pending mid)) (omega arith)
       ]),
       k.ended_same ∙ end,
-      (p ∙ nothing (drop (count + 0) (pending mid)) (rw (length-drop (count + 0) (pending mid)) (omega arith))),
+      (p ∙ nil_from_length (drop (count + 0) (pending mid)) (rw (length-drop (count + 0) (pending mid)) (omega arith))),
       omega (arith, k.taken_same, k.max_same),
     ))
 

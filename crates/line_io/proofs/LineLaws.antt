@@ -1,23 +1,13 @@
 -- Laws of `lines` and `whole_lines`.
 use Rattle.std.proofs.Common.{◌≡◌, ℕ, ◌<◌, Bool, true, false, cond, List, [], ◌∷◌, ◌++◌, length, ◌⊎◌, inl, inr, refl}
 use Rattle.std.proofs.Common.{ap, ◌∙◌, arith, rules}
-use Rattle.std.specs.Prelude.{◌||◌, All}
+use Rattle.std.specs.Prelude.{All}
 use Rattle.std.specs.List.{slice_split, list_any, onto_first}
 use Rattle.std.proofs.lemmas.List.Splits.{slice_split_none, slice_split_at, slice_split-cons_no}
 use Rattle.std.proofs.lemmas.List.Elements.{All-cons}
+use Rattle.std.proofs.lemmas.Bool.{or_parts}
+use Rattle.std.proofs.Math.Bool.{or-true}
 use Rattle.line_io.specs.Lines.{lines, whole_lines, without_empty_last, is_feed, NoFeed}
-
-or-true : (a : Bool) → a || true ≡ true
-or-true true = refl
-or-true false = refl
-
-or-false_left : (a b : Bool) → a || b ≡ false → a ≡ false
-or-false_left true b e = e
-or-false_left false b e = refl
-
-or-false_right : (a b : Bool) → a || b ≡ false → b ≡ false
-or-false_right true b e = absurd (cc)
-or-false_right false b e = e
 
 -- the first part of a list of parts that isn't empty stays
 keeps_first : (part : List ℕ) (parts : List (List ℕ)) → (0 < length parts)
@@ -39,8 +29,8 @@ split_some (b ∷ text) =
 all_free : (text : List ℕ) → NoFeed text → All (λ b. is_feed b ≡ false) text
 all_free [] free = search rules
 all_free (b ∷ text) free =
-    All-cons (λ x. is_feed x ≡ false) b text (or-false_left (is_feed b) (list_any is_feed text) free)
-    (all_free text (or-false_right (is_feed b) (list_any is_feed text) free))
+    let parts = or_parts (is_feed b) (list_any is_feed text) free in
+    All-cons (λ x. is_feed x ≡ false) b text parts.0 (all_free text parts.1)
 
 -- a line, its feed and the rest
 pub lines-first : (line rest : List ℕ) → NoFeed line → lines (line ++ 10 ∷ rest) ≡ line ∷ lines rest

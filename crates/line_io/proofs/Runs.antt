@@ -1,14 +1,16 @@
 -- What a run of calls of next_line has answered. Of the output of a line these laws say nothing: it is flat_map of the
 -- lines.
-use Rattle.std.proofs.Common.{◌≡◌, ℕ, ◌<◌, ◌≤◌, ◌+◌, ◌-◌, Bool, true, false, List, [], ◌∷◌, ◌++◌, ◌⊎◌, inl, inr, length}
+use Rattle.std.proofs.Common.{◌≡◌, ℕ, ◌<◌, ◌≤◌, ◌+◌, ◌-◌, true, false, List, [], ◌∷◌, ◌++◌, ◌⊎◌, inl, inr, length}
 use Rattle.std.proofs.Common.{take, map, Option, None, Some, refl, sym, ap, ◌∙◌, append_assoc, arith, rules}
 use Rattle.std.proofs.Common.{length-append}
 use Rattle.std.specs.List.{list_any}
 use Rattle.std.proofs.lemmas.List.Folds.{list_any-append}
-use Rattle.std.specs.Prelude.{◌||◌, nat_lt}
+use Rattle.std.specs.Prelude.{nat_lt}
 use Rattle.std.specs.Io.KnownBytes.{Consumes}
 use Rattle.std.proofs.Math.Seq.{take-append-add}
-use Rattle.std.proofs.lemmas.List.{take-append-le}
+use Rattle.std.proofs.lemmas.List.{take-append-le, nil_from_length}
+use Rattle.std.proofs.lemmas.Bool.{or_parts}
+use Rattle.std.proofs.Math.Bool.{or-true}
 use Rattle.line_io.specs.Lines.{lines, whole_lines, is_feed, NoFeed}
 use Rattle.line_io.specs.Buffer.{pending, line, taken, max_bytes, is_ended, is_closed, is_last, IsFirstLine, KnowsEnd}
 use Rattle.line_io.specs.Runs.{IsNew, IsCall, Calls, line_answer, AnswersUntil, LinesOfBytes}
@@ -48,23 +50,11 @@ run_start left b max new = record {
   at_end = λ h. absurd (let e = new.unended in cc);
 }
 
-or-true : (a : Bool) → a || true ≡ true
-or-true true = refl
-or-true false = refl
-
-or-false : (a b : Bool) → a || b ≡ false → (a ≡ false) × (b ≡ false)
-or-false true b e = absurd (cc)
-or-false false b e = (refl, e)
-
-nothing : (xs : List ℕ) → length xs ≡ 0 → xs ≡ []
-nothing [] e = refl
-nothing (x ∷ xs) e = absurd (omega arith)
-
 -- a line and its feed are whole lines
 whole_line : (l : List ℕ) → NoFeed l → whole_lines (l ++ 10 ∷ []) ≡ l ++ 10 ∷ []
 whole_line [] free = refl
 whole_line (b ∷ l) free =
-    let p = or-false (is_feed b) (list_any is_feed l) free in
+    let p = or_parts (is_feed b) (list_any is_feed l) free in
     let some : list_any is_feed ((b ∷ l) ++ 10 ∷ []) ≡ true =
     rw (list_any-append is_feed (b ∷ l) (10 ∷ [])) (or-true (list_any is_feed (b ∷ l))) in
     rw some (ap (λ xs. b ∷ xs) (whole_line l p.1))
@@ -72,7 +62,7 @@ whole_line (b ∷ l) free =
 -- after the end nothing is pending and nothing comes
 none_left : (b now : LineBuffer) (bytes : List ℕ) → pending b ≡ [] → taken now ≡ taken b
     → taken now ≡ taken b + length bytes → pending b ++ bytes ≡ []
-none_left b now bytes p same counted = rw p (nothing bytes (omega arith))
+none_left b now bytes p same counted = rw p (nil_from_length bytes (omega arith))
 
 no_line : (bytes l : List ℕ) (b : LineBuffer) → bytes ≡ [] → IsFirstLine bytes l b → ⊥
 no_line bytes l b none (inl c) = let e = ap length (sym none ∙ c.0) in let f = length-append l (10 ∷ pending b) in

@@ -13,6 +13,7 @@ use Rattle.base64ct.specs.Decoding.{decoding}
 use Rattle.base64ct.proofs.DecodingLaws.{decoding-Some, decoding_is}
 use Rattle.base64ct.proofs.GoodBlocks.{encoding-append}
 use Rattle.base64ct.proofs.Encodings.{below-three}
+use Rattle.base64ct.proofs.GoodBlocks.{below-append}
 use Rattle.wrap_stream.specs.Front.{BeginsWrapped, IsFront, IsWrapped, bytes_of_whole, characters, is_end, is_whole}
 use Rattle.wrap_stream.specs.Front.{or_none, whole_block_bytes}
 use Rattle.base64ct.specs.Wrapping.{AreLines}
@@ -24,7 +25,7 @@ use Rattle.wrap_stream.proofs.Letters.{lawful, encoding-nil}
 use Rattle.wrap_stream.proofs.Grown.{Adds, Good, Waits, completed_four, completes, good_none, grown_adds}
 use Rattle.wrap_stream.proofs.Runs.{ReadsAll, after_return, begins_line, output-cons, output-nil, output-stuck}
 use Rattle.wrap_stream.proofs.Runs.{read_line, read_lines, run-append, run-cons, run-nil, run-stuck, waits_complete}
-use Rattle.wrap_stream.proofs.Laid.{Sane, Shape, below-append, grown_true, grown_false, laid, stuck_is}
+use Rattle.wrap_stream.proofs.Laid.{Sane, Shape, grown_true, grown_false, laid, stuck_is}
 
 -- ---- a text that is read to an end is a wrapped encoding
 

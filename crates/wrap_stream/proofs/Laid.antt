@@ -4,8 +4,9 @@ use Rattle.std.proofs.Common.{refl, sym, ap, ◌∙◌, arith, inl, inr}
 use Rattle.std.specs.Prelude.{◌==◌, ◌&&◌, ◌⊎◌, ⊤, nat_lt}
 use Rattle.std.proofs.lemmas.List.{append-nil, append_assoc, length-append}
 use Rattle.std.proofs.lemmas.Bool.{ltb-true, eqb-true, and_parts}
-use Rattle.base64ct.specs.Encoding.{unpadded_encoding, EachBelow}
+use Rattle.base64ct.specs.Encoding.{unpadded_encoding}
 use Rattle.base64ct.specs.Alphabets.{base64}
+use Rattle.base64ct.proofs.GoodBlocks.{below-append}
 use Rattle.base64ct.proofs.Unpadded.{unpadded-append}
 use Rattle.wrap_stream.specs.Front.{whole_block_bytes}
 use Rattle.base64ct.specs.Wrapping.{AreLines, IsEnding, Wrapped}
@@ -17,10 +18,6 @@ use Rattle.wrap_stream.proofs.Grown.{Adds, Good, adds_none, grown_adds}
 use Rattle.wrap_stream.proofs.Runs.{run-cons, output-cons, run-nil, output-nil, run-stuck, next_within, next_return}
 
 -- ---- what is added
-
-pub below-append : (xs ys : List ℕ) → EachBelow 256 xs → EachBelow 256 ys → EachBelow 256 (xs ++ ys)
-below-append [] ys hx hy = hy
-below-append (x ∷ xs) ys hx hy = elim [ zero ↦ hx 0 | suc i ↦ below-append xs ys (λ j. hx (suc j)) hy i ]
 
 adds_more : (a b mid rest s t cs : List ℕ) → Adds a mid s → Adds b rest (mid ++ cs) → t ≡ s ++ cs → Adds (a ++ b) rest t
 adds_more a b mid rest s t cs f g is = record {

@@ -14,7 +14,7 @@ pub record Laying (w : ℕ) (e : List ℕ) (room : ℕ) (chars out : List ℕ) (
   pub put : take at out ≡ wrap_from w e room (take done chars)
   pub at_room : left ≡ room_after w room done
 
-room_none : (w room : ℕ) → room ≡ room_after w room 0
+pub room_none : (w room : ℕ) → room ≡ room_after w room 0
 unfolding room_after
 room_none w room = refl
 

@@ -19,7 +19,8 @@ use Rattle.base64ct.specs.Encoders.{whole_blocks}
 use Rattle.wrap_stream.specs.Outcomes.{WrapOutcome, wrapped}
 use Rattle.base64ct.specs.Encoders.{wrap_from, room_after}
 use Rattle.wrap_stream.proofs.Letters.{encoding-nil}
-use Rattle.wrap_stream.proofs.Laid.{below-append}
+use Rattle.base64ct.proofs.GoodBlocks.{below-append}
+use Rattle.wrap_stream.proofs.Laying.{room_none}
 use Rattle.base64ct.proofs.Wrapping.{room_after-add, wrap-append, wrap-nil}
 use Rattle.base64ct.proofs.Encoders.{wrap_is}
 
@@ -150,10 +151,6 @@ pub record Pieces (w : ℕ) (left left_now written written_now : Option (List �
   pub waits : waiting ≡ rest_of bytes
   pub at_room : room ≡ room_after w w (length (encoding base64 (whole_blocks bytes)))
   pub count : length bytes ≡ taken
-
-room_none : (w room : ℕ) → room ≡ room_after w room 0
-unfolding room_after
-room_none w room = refl
 
 pub pieces_none : (w : ℕ) (left written : Option (List ℕ)) (waiting : List ℕ) → 0 < w → waiting ≡ []
     → Pieces w left left written written waiting w 0

@@ -1,13 +1,14 @@
 -- Texts read byte by byte: in steps, and along the lines of an encoding.
-use Rattle.std.proofs.Common.{◌≡◌, ℕ, zero, suc, ◌+◌, ◌-◌, ◌%◌, ◌<◌, Bool, true, false, List, [], ◌∷◌, ◌++◌, length}
+use Rattle.std.proofs.Common.{◌≡◌, ℕ, zero, suc, ◌+◌, ◌-◌, ◌%◌, ◌<◌, true, false, List, [], ◌∷◌, ◌++◌, length}
 use Rattle.std.proofs.Common.{refl, sym, ap, ◌∙◌, subst, arith, inl, inr}
-use Rattle.std.specs.Prelude.{◌==◌, ◌||◌}
+use Rattle.std.specs.Prelude.{◌==◌}
 use Rattle.std.specs.List.{join_by}
 use Rattle.std.proofs.lemmas.List.{append-nil, append_assoc}
 use Rattle.std.proofs.lemmas.Bool.{lt-ltb}
 use Rattle.base64ct.specs.Encoding.{encoding}
 use Rattle.base64ct.specs.Alphabets.{base64}
 use Rattle.base64ct.proofs.Padding.{length-encoding_padded}
+use Rattle.std.proofs.lemmas.Bool.{or_parts}
 use Rattle.wrap_stream.specs.Front.{is_end}
 use Rattle.base64ct.specs.Wrapping.{AreLines, IsEnding}
 use Rattle.wrap_stream.specs.Reading.{State, at, next, run, output, grown, moved, is_stuck, is_complete}
@@ -65,10 +66,6 @@ pub next_within : (w room : ℕ) (block : List ℕ) (c : ℕ) → is_end c ≡ f
     → next w (Within (suc room)) block c ≡ grown room (block ++ c ∷ [])
 unfolding next
 next_within w room block c h = rw h refl
-
-or_parts : (p q : Bool) → (p || q) ≡ false → (p ≡ false) × (q ≡ false)
-or_parts true q h = absurd (cc h)
-or_parts false q h = (refl, h)
 
 pub next_return : (w : ℕ) (block : List ℕ) (c : ℕ) → is_end c ≡ false
     → next w AfterReturn block c ≡ grown (w - 1) (block ++ c ∷ [])

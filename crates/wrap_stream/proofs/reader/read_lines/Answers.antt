@@ -4,7 +4,7 @@ use Rattle.std.proofs.Common.{take}
 use Rattle.std.proofs.lemmas.List.{length-take, take-take}
 use Rattle.base64ct.specs.Alphabets.{base64_unpadded}
 use Rattle.base64ct.proofs.DecodingLaws.{decoded_len-unpadded}
-use Rattle.wrap_stream.proofs.Turning.{length-put_mid}
+use Rattle.base64ct.proofs.Wrapping.{length-put_mid}
 use Rattle.wrap_stream.proofs.SoFar.{few_unpadded, tail_put}
 use Rattle.wrap_stream.proofs.Gathered.{lines_read}
 use Rattle.wrap_stream.proofs.reader.read_lines.Goals as goal
