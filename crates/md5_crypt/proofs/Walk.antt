@@ -3,6 +3,7 @@ use Rattle.std.proofs.Common.{◌≡◌, ℕ, ◌<◌, ◌≤◌, Bool, true, fa
 use Rattle.std.proofs.Common.{Err, inl, inr}
 use Rattle.std.specs.Prelude.{nat_lt, nat_eq, Some, None}
 use Rattle.std.specs.Cmp.Lexicographic.{pointwise}
+use Rattle.std.proofs.lemmas.Bool.{false≢true}
 use Rattle.std.proofs.lemmas.Bool.Decides.{nat_tests}
 use Rattle.base64ct.specs.Alphabets.{base64_sha_crypt}
 use Rattle.base64ct.specs.Decoding.{decoding}
@@ -36,9 +37,6 @@ answer_same magic password f bytes digest wanted r short found digest_is wanted_
     let test : r ≡ pointwise nat_eq (md5_field digest) f.hash =
     r_is ∙ ap (λ (x : List ℕ). pointwise nat_eq x bytes) wanted_is ∙ same in
     rw (fits, found, ← digest_is, ← test) refl
-
-false_true : false ≡ true → ⊥
-false_true h = cc
 
 -- ---- the verdict by its cases
 
@@ -79,7 +77,7 @@ module _ (accepted : PasswordHash → List ℕ → ℕ → Bool) (tag : List ℕ
       → Other r → Whole r
   not_a_text e r short bad h = elim h [
     | inl a ↦ inl (a ∙ ap stored_answer (verdict_of_fault e short bad) ∙ sym (legacy_of_fault e short bad))
-    | inr b ↦ absurd (false_true (sym (no_lack e short bad) ∙ b.1))
+    | inr b ↦ absurd (false≢true (sym (no_lack e short bad) ∙ b.1))
   ]
 
   pub md5_text : (magic : Magic) (r : Result Bool LegacyError) → length password ≤ 4096 → fault stored ≡ None

@@ -6,7 +6,7 @@
 //! cheap: texts of this kind are read for migration, and are not to be made.
 #![tactic(auto)]
 
-ghost use Rattle.std.specs.Prelude.{◌≡◌, ◌^◌, ◌<◌, ◌≤◌, length, take};
+ghost use Rattle.std.specs.Prelude.{◌≡◌, ◌^◌, ◌<◌, length, take};
 ghost use Rattle.md5_crypt.specs.Digest.{md5_crypt_digest};
 
 mod check;

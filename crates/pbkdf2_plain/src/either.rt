@@ -1,6 +1,6 @@
 //! Two key derivations as one.
 
-ghost use Rattle.std.specs.Prelude.{◌≡◌, ◌≤◌, ℕ, List, OnErr, OnOk, length, true};
+ghost use Rattle.std.specs.Prelude.{◌≡◌, length};
 
 use phc::{Ident, PasswordHash};
 use std::alloc::{AllocError, Global};
