@@ -284,7 +284,7 @@ pub asked_part : (a : Alphabet) (t : List ℕ) (read n from m : ℕ) → AskedAr
     → from + m ≤ read + n → AskedAreGood a t from m
 asked_part a t read n from m good ge le = λ j low high long. good j (omega arith) (omega arith) long
 
--- ---- a buffer that is filled in three parts
+-- ---- a buffer that is filled in two parts
 
 pub as_filled : (a : Alphabet) (w : ℕ) (body t kept out : List ℕ) (read n at room : ℕ) → length out ≡ n
     → AskedAreGood a t read n × (out ≡ take n (drop read (decoded a t))) × Standing a w body t kept at room (read + n)
@@ -303,42 +303,30 @@ of_filled a w body t kept out new read n at room is len f =
     × Standing a w body t kept at room (read + k)) count (f.good, f.bytes, f.stands) in
     (g.0, is ∙ g.1, g.2)
 
-pub assembled : (out xs ys zs : List ℕ) (first last m k : ℕ) → length xs ≡ first → m ≡ last - first → length ys ≡ m
-    → first ≤ last → last ≤ length out → length zs ≡ length out - last
-    → k ≡ length (put_mid first m (xs ++ drop first out) ys) - last
-    → put_mid last k (put_mid first m (xs ++ drop first out) ys) zs ≡ (xs ++ ys) ++ zs
-assembled out xs ys zs first last m k lx em ly le within lz ek =
+pub two_parts : (out xs ys : List ℕ) (first m : ℕ) → length xs ≡ first → first ≤ length out
+    → m ≡ length (xs ++ drop first out) - first → length ys ≡ m → put_mid first m (xs ++ drop first out) ys ≡ xs ++ ys
+two_parts out xs ys first m lx le em ly =
     let one : List ℕ = xs ++ drop first out in
-    let two : List ℕ = put_mid first m one ys in
     let l1 : length one ≡ length out = omega (arith, length-append xs (drop first out), length-drop first out) in
-    let l2 : length two ≡ length out = length-put_mid first m one ys (omega (arith, l1)) ly ∙ l1 in
-    let l3 : length (put_mid last k two zs) ≡ length out =
-    length-put_mid last k two zs (omega (arith, l2)) (omega (arith, l2)) ∙ l2 in
-    let t2 : take last two ≡ take first one ++ ys =
-    take-put_mid first m one ys last (omega arith) (omega (arith, l1)) in
-    let t3 : take (length out) (put_mid last k two zs) ≡ take last two ++ zs =
-    take-put_mid last k two zs (length out) (omega (arith, l2)) (omega (arith, l2)) in
-    sym (take_all (length out) (put_mid last k two zs) (omega (arith, l3))) ∙ t3
-    ∙ ap (λ (l : List ℕ). l ++ zs) (t2 ∙ ap (λ (l : List ℕ). l ++ ys) (take_at xs (drop first out) first lx))
+    let l2 : length (put_mid first m one ys) ≡ length out = length-put_mid first m one ys (omega (arith, l1)) ly ∙ l1 in
+    sym (take_all (length out) (put_mid first m one ys) (omega (arith, l2)))
+    ∙ take-put_mid first m one ys (length out) (omega (arith, l1)) (omega (arith, l1))
+    ∙ ap (λ (l : List ℕ). l ++ ys) (take_at xs (drop first out) first lx)
 
--- the first two parts
-pub two_filled : (a : Alphabet) (w : ℕ) (body t kept new xs ys zs : List ℕ) (read first m place left next room : ℕ)
+-- a block's rest and whole blocks
+pub two_filled : (a : Alphabet) (w : ℕ) (body t kept new xs ys : List ℕ) (read first m place left next room : ℕ)
     → is_alphabet a ≡ true → length xs ≡ first → length ys ≡ m → (read + first) % 3 ≡ 0 → m % 3 ≡ 0
     → read + first + m < length (decoded a t)
     → AskedAreGood a t read first × (xs ≡ take first (drop read (decoded a t)))
-    × Standing a w body t kept place left (read + first) → new ≡ (xs ++ ys) ++ zs → EachBelow 256 new
+    × Standing a w body t kept place left (read + first) → new ≡ xs ++ ys → EachBelow 256 new
     → characters_from w left (drop place body)
     ≡ before (unpadded_encoding a ys) (characters_from w room (drop next body)) → next ≤ length body
     → Filled a w body t kept (xs ++ ys) read next room
-two_filled a w body t kept new xs ys zs read first m place left next room lawful lx ly thirds whole fits f is below text
+two_filled a w body t kept new xs ys read first m place left next room lawful lx ly thirds whole fits f is below text
     within =
-    let front : EachBelow 256 (xs ++ ys) =
-    subst (λ (l : List ℕ). EachBelow 256 l) (ap (λ (l : List ℕ). take (length (xs ++ ys)) l) is
-    ∙ take_at (xs ++ ys) zs (length (xs ++ ys)) refl)
-    (below-take 256 (length (xs ++ ys)) new (omega arith) below) in
     let small : EachBelow 256 ys =
     subst (λ (l : List ℕ). EachBelow 256 l) (drop_at xs ys (length xs) refl)
-    (below-drop 256 (length xs) (xs ++ ys) front) in
+    (below-drop 256 (length xs) (xs ++ ys) (subst (EachBelow 256) is below)) in
     let one = as_filled a w body t kept xs read first place left lx f in
     filled_more a w body t kept kept xs ys read place left next room one
     (blocks_filled a w body t kept ys (read + length xs) place left next room lawful (omega (arith, lx, thirds))

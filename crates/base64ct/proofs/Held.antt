@@ -47,7 +47,8 @@ pub letters_one : (a : Alphabet) (waiting input block : List ℕ) (n : ℕ) → 
     → unpadded_encoding a (whole_blocks (take n waiting ++ input))
     ≡ block ++ unpadded_encoding a (whole_blocks (drop 2 input))
 letters_one a waiting input block n is two h hw hi eb =
-    letters_held a (take n waiting ++ input) block (drop 2 input) (slice_index waiting 0) (slice_index input 0) (slice_index input 1)
+    letters_held a (take n waiting ++ input) block (drop 2 input) (slice_index waiting 0)
+    (slice_index input 0) (slice_index input 1)
     (omega (arith, hw 0, get_or-take n waiting 0 0 (omega arith)))
     (hi 0)
     (hi 1)
@@ -66,7 +67,8 @@ pub letters_two : (a : Alphabet) (waiting input block : List ℕ) (n : ℕ) → 
     → unpadded_encoding a (whole_blocks (take n waiting ++ input))
     ≡ block ++ unpadded_encoding a (whole_blocks (drop 1 input))
 letters_two a waiting input block n is two h hw hi eb =
-    letters_held a (take n waiting ++ input) block (drop 1 input) (slice_index waiting 0) (slice_index waiting 1) (slice_index input 0)
+    letters_held a (take n waiting ++ input) block (drop 1 input) (slice_index waiting 0)
+    (slice_index waiting 1) (slice_index input 0)
     (omega (arith, hw 0, get_or-take n waiting 0 0 (omega arith)))
     (omega (arith, hw 1, get_or-take n waiting 1 0 (omega arith)))
     (hi 0)
