@@ -14,7 +14,7 @@ use Rattle.pieces.specs.Pieces.{LacksByte, EachLacks, pieces_at, behind}
 use Rattle.pieces.proofs.Cuts.{cut_joined, join_pieces, pieces_lack}
 use Rattle.sha_crypt.specs.Check.{text_fields, from_front, from_identifier}
 use Rattle.sha_crypt.specs.Digest.{sha_crypt_digest}
-use Rattle.sha_crypt.specs.Families.{Scheme, scheme_fields, old_scheme_fields, scheme_hash_field}
+use Rattle.sha_crypt.specs.Families.{Scheme, scheme_fields, old_scheme_fields}
 use Rattle.sha_crypt.specs.Fields.{ShaFields, split_fields, cut_salt, old_fields, old_number, plain_number, sha_fields}
 use Rattle.sha_crypt.specs.Fields.{short_salt, checked_hash}
 use Rattle.sha_crypt.specs.HashField.{is_hash_field, hash_field}
@@ -150,7 +150,8 @@ written_anew s pieces f h =
 
 -- the digest is that of the whole salt
 pub same_hash_field : (s : Scheme) (password : List ℕ) (f : ShaFields)
-    → scheme_hash_field s password (cut_salt f) ≡ scheme_hash_field s password f
+    → hash_field s.places (sha_crypt_digest s.hash password (cut_salt f).salt f.rounds)
+    ≡ hash_field s.places (sha_crypt_digest s.hash password f.salt f.rounds)
 same_hash_field s password f = ap (hash_field s.places) (digest-take s.hash password f.salt f.rounds)
 
 -- ---- texts and pieces

@@ -1,6 +1,6 @@
 //! The check of a password against a stored text.
 
-ghost use Rattle.std.specs.Prelude.{◌≡◌, ◌≤◌, ◌+◌, ◌*◌, ◌/◌, ◌^◌, Ok, false, true};
+ghost use Rattle.std.specs.Prelude.{◌≡◌, ◌≤◌, ◌+◌, ◌*◌, ◌/◌, ◌^◌, Err, Ok, false, if◌then◌else◌, true};
 ghost use Rattle.base64ct.specs.Encoding.{unpadded_len};
 ghost use Rattle.sha_crypt.specs.Check.{check_answer, fields_answer, is_verdict};
 ghost use Rattle.sha_crypt.specs.Fields.{checked_hash};
@@ -13,6 +13,18 @@ use crate::fields::{Reading, ShaText, text_parts};
 use crate::hasher::Hasher;
 use crate::{CheckError, Family, FormatFault};
 use base64ct::Counts;
+
+// The answer by whether the hash matches.
+fn answer_of(matches: bool) -> Result<(), CheckError>
+    ensures answer { result ≡ (if matches then Ok tt else Err CheckError.HashMismatch) }
+    ensures verdict { is_verdict result ≡ true }
+{
+    if matches {
+        Ok(())
+    } else {
+        Err(CheckError::HashMismatch)
+    }
+}
 
 // Whether the text of the hash is the hash field of the password's digest.
 fn check_parts<const N: usize, H: Hasher<N>>(
@@ -39,11 +51,7 @@ fn check_parts<const N: usize, H: Hasher<N>>(
     };
     let digest = sha_crypt_digest::<N, H>(password, parts.salt.as_bytes(), parts.rounds);
     let wanted = in_order(places, &digest);
-    if bool::from(counts.same_bytes(&wanted, &bytes)) {
-        Ok(())
-    } else {
-        Err(CheckError::HashMismatch)
-    }
+    answer_of(bool::from(counts.same_bytes(&wanted, &bytes)))
 }
 
 /// The answer for a text, under a family with its identifier and places.

@@ -5,8 +5,8 @@ use Rattle.sha_crypt.specs.Views.{fields_of}
 use Rattle.sha_crypt.proofs.HashFields.{answer_same}
 use Rattle.sha_crypt.proofs.check.check_parts.Goals as goal
 
-pub returns-then-from-clause-answer : goal.returns-then-from-clause-answer
-returns-then-from-clause-answer g c =
+pub returns-clause-answer : goal.returns-clause-answer
+returns-clause-answer g c =
     let found : field_bytes g.row.N c.args.parts.hash.now ≡ Some c.in-Some.bytes =
     sym (c.counted_bytes.ensures.bytes ∙ ap (field_bytes g.row.N) c.as_bytes.ensures.value) ∙ c.in-Some.is in
     let digest_is : c.sha_crypt_digest-digest.result
@@ -14,21 +14,7 @@ returns-then-from-clause-answer g c =
     c.sha_crypt_digest-digest.ensures
     ∙ ap (λ (s : List ℕ). sha_crypt_digest g.H.Hasher.hash c.args.password.now s c.args.parts.rounds)
     c.as_bytes-2.ensures.value in
-    answer_same g.H.Hasher.hash c.args.places.now c.args.password.now g.row.N (fields_of c.args.parts) c.in-Some.bytes
-    c.sha_crypt_digest-digest.result c.in_order-wanted.result _
-    found digest_is c.in_order-wanted.ensures.value c.in_order-wanted.ensures.small
-    (sym c.if-from.true ∙ c.from.ensures ∙ c.same_bytes.ensures.answer)
-
-pub returns-else-from-clause-answer : goal.returns-else-from-clause-answer
-returns-else-from-clause-answer g c =
-    let found : field_bytes g.row.N c.args.parts.hash.now ≡ Some c.in-Some.bytes =
-    sym (c.counted_bytes.ensures.bytes ∙ ap (field_bytes g.row.N) c.as_bytes.ensures.value) ∙ c.in-Some.is in
-    let digest_is : c.sha_crypt_digest-digest.result
-    ≡ sha_crypt_digest g.H.Hasher.hash c.args.password.now c.args.parts.salt.now c.args.parts.rounds =
-    c.sha_crypt_digest-digest.ensures
-    ∙ ap (λ (s : List ℕ). sha_crypt_digest g.H.Hasher.hash c.args.password.now s c.args.parts.rounds)
-    c.as_bytes-2.ensures.value in
-    answer_same g.H.Hasher.hash c.args.places.now c.args.password.now g.row.N (fields_of c.args.parts) c.in-Some.bytes
-    c.sha_crypt_digest-digest.result c.in_order-wanted.result _
-    found digest_is c.in_order-wanted.ensures.value c.in_order-wanted.ensures.small
-    (sym c.if-from.false ∙ c.from.ensures ∙ c.same_bytes.ensures.answer)
+    c.answer_of.ensures.answer
+    ∙ answer_same g.H.Hasher.hash c.args.places.now c.args.password.now g.row.N (fields_of c.args.parts)
+    c.in-Some.bytes c.sha_crypt_digest-digest.result c.in_order-wanted.result _ found digest_is
+    c.in_order-wanted.ensures.value c.in_order-wanted.ensures.small (c.from.ensures ∙ c.same_bytes.ensures.answer)
