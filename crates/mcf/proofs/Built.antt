@@ -16,7 +16,7 @@ use Rattle.mcf.specs.Grammar.{is_delimited, is_identifier, fault, mcf, parts, Pa
 use Rattle.mcf.specs.Grammar.{with_dollar, with_field}
 use Rattle.mcf.proofs.ValidTexts.{valid_of, pieces_of_valid}
 use Rattle.pieces.proofs.FaultLaws.{or_none, some_none}
-use Rattle.pieces.proofs.Tests.{lacks}
+use Rattle.pieces.proofs.ByteTests.{lacks}
 
 -- ---- bytes that are no `$`
 

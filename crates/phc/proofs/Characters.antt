@@ -15,7 +15,7 @@ use Rattle.base64ct.proofs.Encodings.{groups-below}
 use Rattle.phc.specs.Encoded.{encoding}
 use Rattle.phc.specs.Grammar.{has, is_name, is_name_byte, is_value_byte}
 use Rattle.phc.proofs.Decimals.{own}
-pub use Rattle.pieces.proofs.Tests.{all_append, all_weaker, lacks}
+pub use Rattle.pieces.proofs.ByteTests.{all_append, all_weaker, lacks}
 
 not_same : (p : ℕ → Bool) (c b : ℕ) → p c ≡ false → p b ≡ true → (b == c) ≡ false
 not_same p c b other h = by_test (b == c) refl

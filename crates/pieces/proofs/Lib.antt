@@ -1,7 +1,7 @@
+pub mod ByteTests
 pub mod Cuts
 pub mod FaultLaws
 pub mod Fronts
-pub mod Tests
 mod Vectors
 mod Ascii
 mod LastPlaces

@@ -23,7 +23,7 @@ use Rattle.sha_crypt.specs.Simple.{characters, word_character}
 use Rattle.sha_crypt.specs.declared.errors.Family.{Family}
 use Rattle.sha_crypt.specs.declared.errors.Family.TheVariants.{Sha256, Sha512}
 use Rattle.sha_crypt.proofs.HashFields.{below_map, field_is_found}
-use Rattle.pieces.proofs.Tests.{all_append}
+use Rattle.pieces.proofs.ByteTests.{all_append}
 
 -- ---- characters
 

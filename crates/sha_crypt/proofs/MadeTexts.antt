@@ -9,7 +9,7 @@ use Rattle.std.proofs.lemmas.Bool.Decides.{nat_tests}
 use Rattle.base64ct.proofs.DecodingLaws.{same_true, true_same}
 use Rattle.pieces.specs.Pieces.{EachLacks, LacksByte, behind, pieces_at}
 use Rattle.pieces.proofs.Cuts.{cut_joined}
-use Rattle.pieces.proofs.Tests.{lacks}
+use Rattle.pieces.proofs.ByteTests.{lacks}
 use Rattle.rand_core.specs.Stream.{Stream}
 use Rattle.sha_crypt.specs.Check.{check_answer, fields_answer, text_fields}
 use Rattle.sha_crypt.specs.Families.{Scheme, scheme_fields, sha256_answer, sha512_answer}
