@@ -1,18 +1,20 @@
 -- What decoding by a table and a test answers, over plain lists.
-use Rattle.std.proofs.Common.{◌≡◌, ◌≢◌, ℕ, ◌+◌, ◌-◌, ◌*◌, ◌/◌, ◌%◌, ◌==◌, ◌<◌, ◌≤◌, Bool, true, false, cond, not, ◌&&◌}
+use Rattle.std.proofs.Common.{◌≡◌, ◌≢◌, ℕ, ◌-◌, ◌*◌, ◌/◌, ◌%◌, ◌==◌, ◌<◌, ◌≤◌, Bool, true, false, cond, not, ◌&&◌}
 use Rattle.std.proofs.Common.{◌||◌, List, [], ◌∷◌, length, map, take, drop, refl, sym, ap, ◌∙◌, subst, arith, inl, inr}
 use Rattle.std.specs.Cmp.Lexicographic.{pointwise, same_text}
 use Rattle.std.specs.Prelude.{nat_lt}
-use Rattle.std.proofs.lemmas.Bool.{cases_eq, ne_eqb, eq-eqb, false≢true, le-ltb}
+use Rattle.std.proofs.lemmas.Bool.{cases_eq, ne_eqb, eq-eqb, eqb-true, false≢true, and_parts, le-ltb}
 use Rattle.std.proofs.lemmas.List.{length-map, length-take-le, length-drop, take_at, nil_from_length}
 use Rattle.std.proofs.lemmas.List.Sums.{count_by-le-length}
 use Rattle.base64ct.specs.Encoding.{Alphabet, is_alphabet, character, unpadded_encoding, encoding, byte_count}
 use Rattle.base64ct.specs.Encoding.{padding_len, equals_sign, decoded_len, EachBelow, AreCharacters, IsMisaligned}
 use Rattle.base64ct.specs.Encoding.{Reads, IsLenient}
-use Rattle.base64ct.specs.Tables.{stem, filled, last_four, compared, reencoded, Passes}
+use Rattle.base64ct.specs.Tables.{shaped, stem, filled, last_four, compared, reencoded, Passes}
+use Rattle.base64ct.specs.Answers.{IsNoEncoding}
+use Rattle.base64ct.specs.declared.tables.Shape.{Shape}
 use Rattle.base64ct.specs.Counts.{is_refused, comparison_count}
 use Rattle.base64ct.proofs.Values.{value_at, map-value-character}
-use Rattle.base64ct.proofs.Encodings.{stem-text, below-drop}
+use Rattle.base64ct.proofs.Encodings.{stem-text, below-drop, below-take}
 use Rattle.base64ct.proofs.Unpadded.{length-unpadded, unpadded-nil}
 use Rattle.base64ct.proofs.Padding.{stem-encoding, length-encoding_padded, aligned_from, lenient_found, lenient_refused}
 use Rattle.base64ct.proofs.Compared.{encoding_from_lenient, lenient_from_encoding}
@@ -43,19 +45,21 @@ refused_of : (p : Bool) (n d room : ℕ) → (p ≡ true → n % 4 ≡ 0) → d 
 refused_of false n d room ok fits = le-ltb room d fits
 refused_of true n d room ok fits = rw (ok refl) (le-ltb room d fits)
 
-pub not_refused : (a : Alphabet) (t : List ℕ) (room : ℕ) → (IsMisaligned a t → ⊥) → decoded_len a t ≤ room
+not_refused : (a : Alphabet) (t : List ℕ) (room : ℕ) → (IsMisaligned a t → ⊥) → decoded_len a t ≤ room
     → is_refused a t room ≡ false
 not_refused a t room ok fits = refused_of a.padded (length t) (decoded_len a t) room (aligned_from a t ok) fits
 
 abbrev four_unless : Bool → ℕ
 four_unless b = cond b 0 4
 
-pub comparisons : (a : Alphabet) (t s : List ℕ) (count room : ℕ) → count ≡ padding_len a t
-    → s ≡ take (length t - count) t → (IsMisaligned a t → ⊥) → decoded_len a t ≤ room
-    → comparison_count a t room ≡ four_unless (length s == 0)
-comparisons a t s count room e es ok fits =
+pub comparisons : (a : Alphabet) (t : List ℕ) (count n room : ℕ) → count ≡ padding_len a t
+    → n ≡ byte_count (length (take (length t - count) t)) → n ≤ room → (IsMisaligned a t → ⊥)
+    → comparison_count a t room ≡ four_unless (length (take (length t - count) t) == 0)
+comparisons a t count n room e en within ok =
+    let s : List ℕ = take (length t - count) t in
     let len : length s ≡ length t - padding_len a t =
-    ap length es ∙ length-take-le (length t - count) t (omega arith) ∙ rw e refl in
+    length-take-le (length t - count) t (omega arith) ∙ rw e refl in
+    let fits : decoded_len a t ≤ room = subst (λ (m : ℕ). m ≤ room) (en ∙ ap byte_count len) within in
     let same : (length t == 0) ≡ (length s == 0) = elim (cases_eq (length s) 0) [
       | inl none ↦ eq-eqb (length t) 0 (empty_text a t ok (omega arith)) ∙ sym (eq-eqb (length s) 0 none)
       | inr some ↦ ne_eqb (length t) 0 (λ none. some (omega arith)) ∙ sym (ne_eqb (length s) 0 some)
@@ -117,7 +121,7 @@ compared_is r a t dst s count n passed e es ok en room (values, reads) tell some
     sym (reencoded-at a t (take n dst) (length s) len ne (length-take-le n dst room ∙ en)) in
     tell ne odd ∙ rw (blocks, own) refl
 
-pub found : (r : ℕ → ℕ → Bool) (a : Alphabet) (t dst s : List ℕ) (count n : ℕ) (passed : Bool) → is_alphabet a ≡ true
+found : (r : ℕ → ℕ → Bool) (a : Alphabet) (t dst s : List ℕ) (count n : ℕ) (passed : Bool) → is_alphabet a ≡ true
     → count ≡ padding_len a t → s ≡ take (length t - count) t → (IsMisaligned a t → ⊥)
     → n ≡ byte_count (length s) → n ≤ length dst → (values : List ℕ) × Reads a s values (take n dst)
     → Compares r a s (take n dst) passed → passed ≡ true
@@ -132,7 +136,7 @@ found r a t dst s count n passed lawful e es ok en room reads tell yes_passed =
       λ some. sym (compared_is r a t dst s count n passed e es ok en room reads tell some) ∙ yes_passed,
     )
 
-pub refused : (r : ℕ → ℕ → Bool) (a : Alphabet) (t dst s : List ℕ) (count n : ℕ) (read passed : Bool)
+refused : (r : ℕ → ℕ → Bool) (a : Alphabet) (t dst s : List ℕ) (count n : ℕ) (read passed : Bool)
     → is_alphabet a ≡ true → count ≡ padding_len a t → s ≡ take (length t - count) t → (IsMisaligned a t → ⊥)
     → n ≡ byte_count (length s) → n ≤ length dst → (read ≡ true → (values : List ℕ) × Reads a s values (take n dst))
     → (length s % 4 ≢ 1 → AreCharacters a s → read ≡ true)
@@ -157,6 +161,49 @@ refused r a t dst s count n true false lawful e es ok en room reads accepted tel
           ∙ rw (← same) (pass some))
     ]
 
+-- ---- by a table of which a part of the calls tell, as it stood at each
+
+table_reads : (shape : Shape) (cs read_by s dst : List ℕ) (n : ℕ) → read_by ≡ cs → n ≡ byte_count (length s)
+    → (values : List ℕ) × Reads (shaped read_by shape) s values (take (byte_count (length s)) dst)
+    → (values : List ℕ) × Reads (shaped cs shape) s values (take n dst)
+table_reads shape cs read_by s dst n er en reads =
+    subst (λ (m : ℕ). (values : List ℕ) × Reads (shaped cs shape) s values (take m dst)) (sym en)
+    (subst (λ (l : List ℕ). (values : List ℕ)
+    × Reads (shaped l shape) s values (take (byte_count (length s)) dst)) er reads)
+
+pub table_found : (r : ℕ → ℕ → Bool) (shape : Shape) (cs read_by compared_by t dst : List ℕ) (count n fault : ℕ)
+    (passed : Bool)
+    → (let a = shaped cs shape in let s = take (length t - count) t in is_alphabet a ≡ true → read_by ≡ cs
+    → compared_by ≡ read_by → count ≡ padding_len a t → (IsMisaligned a t → ⊥) → n ≡ byte_count (length s)
+    → n ≤ length dst
+    → (fault ≡ 0 → (values : List ℕ) × Reads (shaped read_by shape) s values (take (byte_count (length s)) dst))
+    → Compares r (shaped compared_by shape) s (take n dst) passed → ((fault == 0) && passed) ≡ true
+    → (n ≡ decoded_len a t) × IsLenient a t (take n dst) × Passes r a t (take n dst))
+table_found r shape cs read_by compared_by t dst count n fault passed lawful er ec e ok en room reads tell both =
+    let s : List ℕ = take (length t - count) t in
+    let parts = and_parts _ _ both in
+    found r (shaped cs shape) t dst s count n passed lawful e refl ok en room
+    (table_reads shape cs read_by s dst n er en (reads (eqb-true _ _ parts.0)))
+    (subst (λ (l : List ℕ). Compares r (shaped l shape) s (take n dst) passed) (ec ∙ er) tell) parts.1
+
+pub table_refused : (r : ℕ → ℕ → Bool) (shape : Shape) (cs read_by compared_by t dst : List ℕ) (count n fault : ℕ)
+    (passed : Bool)
+    → (let a = shaped cs shape in let s = take (length t - count) t in is_alphabet a ≡ true → read_by ≡ cs
+    → compared_by ≡ read_by → count ≡ padding_len a t → (IsMisaligned a t → ⊥) → n ≡ byte_count (length s)
+    → n ≤ length dst
+    → (fault ≡ 0 → (values : List ℕ) × Reads (shaped read_by shape) s values (take (byte_count (length s)) dst))
+    → (length s % 4 ≢ 1 → AreCharacters (shaped read_by shape) s → fault ≡ 0)
+    → Compares r (shaped compared_by shape) s (take n dst) passed → (length s ≡ 0 → passed ≡ true)
+    → ((fault == 0) && passed) ≡ false → (b : List ℕ) → IsLenient a t b → Passes r a t b → ⊥)
+table_refused r shape cs read_by compared_by t dst count n fault passed lawful er ec e ok en room reads accepted tell
+    empty none =
+    let s : List ℕ = take (length t - count) t in
+    refused r (shaped cs shape) t dst s count n (fault == 0) passed lawful e refl ok en room
+    (λ zero. table_reads shape cs read_by s dst n er en (reads (eqb-true _ _ zero)))
+    (λ odd all. eq-eqb _ _
+    (accepted odd (subst (λ (l : List ℕ). AreCharacters (shaped l shape) s) (sym er) all)))
+    (subst (λ (l : List ℕ). Compares r (shaped l shape) s (take n dst) passed) (ec ∙ er) tell) empty none
+
 -- ---- where the test is equality
 
 pointwise-same : (r : ℕ → ℕ → Bool) (xs ys : List ℕ) → ((x y : ℕ) → r x y ≡ (x == y))
@@ -178,7 +225,7 @@ unfilled : (a : Alphabet) (xs ys : List ℕ) → length xs ≡ length ys → fil
 unfilled a xs ys len e =
     sym (front_of a xs (length xs) refl) ∙ ap (λ (x : List ℕ). take (length xs) x) e ∙ front_of a ys (length xs) len
 
-pub encoding_found : (r : ℕ → ℕ → Bool) (a : Alphabet) (t b : List ℕ) → is_alphabet a ≡ true → EachBelow 256 b
+encoding_found : (r : ℕ → ℕ → Bool) (a : Alphabet) (t b : List ℕ) → is_alphabet a ≡ true → EachBelow 256 b
     → (IsMisaligned a t → ⊥) → length b ≡ decoded_len a t
     → ((x y : ℕ) → r x y ≡ (x == y)) → IsLenient a t b → Passes r a t b → t ≡ encoding a b
 unfolding Passes
@@ -231,7 +278,7 @@ encoded_count a t b lawful below is =
 aligned_text : (a : Alphabet) (t b : List ℕ) → t ≡ encoding a b → IsMisaligned a t → ⊥
 aligned_text a t b is wrong = wrong.1 (ap (λ (x : List ℕ). length x % 4) is ∙ length-encoding_padded a b wrong.0)
 
-pub encoding_passes : (r : ℕ → ℕ → Bool) (a : Alphabet) (t b : List ℕ) → is_alphabet a ≡ true → EachBelow 256 b
+encoding_passes : (r : ℕ → ℕ → Bool) (a : Alphabet) (t b : List ℕ) → is_alphabet a ≡ true → EachBelow 256 b
     → ((x y : ℕ) → r x y ≡ (x == y)) → t ≡ encoding a b → IsLenient a t b × Passes r a t b
 unfolding Passes
 encoding_passes r a t b lawful below equal is =
@@ -249,5 +296,17 @@ encoding_passes r a t b lawful below equal is =
           ∙ rw (alike some) (pointwise-refl (reencoded a t b)),
     )
 
-abbrev looks_unless : ℕ → Bool → ℕ
-looks_unless n b = cond b 0 (4 * (n / 4) + 4)
+-- ---- what is found is the bytes, and where nothing is found there are none
+
+pub found_encoding : (r : ℕ → ℕ → Bool) (a : Alphabet) (t dst : List ℕ) (n : ℕ) → is_alphabet a ≡ true
+    → EachBelow 256 dst → n ≤ length dst → (IsMisaligned a t → ⊥) → ((x y : ℕ) → r x y ≡ (x == y))
+    → (n ≡ decoded_len a t) × IsLenient a t (take n dst) × Passes r a t (take n dst) → t ≡ encoding a (take n dst)
+found_encoding r a t dst n lawful below room ok equal done =
+    encoding_found r a t (take n dst) lawful (below-take 256 n dst (omega arith) below) ok
+    (length-take-le n dst room ∙ done.0) equal done.1 done.2
+
+pub found_none : (r : ℕ → ℕ → Bool) (a : Alphabet) (t : List ℕ) → is_alphabet a ≡ true
+    → ((x y : ℕ) → r x y ≡ (x == y)) → ((b : List ℕ) → IsLenient a t b → Passes r a t b → ⊥) → IsNoEncoding a t
+found_none r a t lawful equal none = λ b below is.
+    let pass = encoding_passes r a t b lawful below equal (sym is) in
+    none b pass.0 pass.1

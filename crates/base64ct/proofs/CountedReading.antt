@@ -6,6 +6,7 @@ use Rattle.std.specs.Prelude.{◌==◌, nat_eq, not, if◌then◌else◌}
 use Rattle.std.specs.Cmp.Lexicographic.{pointwise}
 use Rattle.std.proofs.lemmas.Bool.{cases_eq, ne_eqb}
 use Rattle.std.proofs.lemmas.List.{append-nil, length-map, length-take-le, length-drop, get_or-drop}
+use Rattle.std.proofs.Math.Bool.{and-false}
 use borrow.Rule.Slice.PartMut.{put_mid}
 use Rattle.base64ct.specs.Encoding.{Alphabet, is_alphabet, character, value_of, unpadded_encoding, whole_bytes}
 use Rattle.base64ct.specs.Encoding.{byte_count, EachBelow, AreCharacters, Reads}
@@ -121,10 +122,6 @@ last_answer r a last bytes block whole again z below some few odd lb ez eb ew la
 
 -- ---- both kinds of fault as one number
 
-and_false : (b : Bool) → (b && false) ≡ false
-and_false true = refl
-and_false false = refl
-
 pub both_at_once : (fault differs : ℕ) (passed : Bool) → differs ≡ (if not passed then 1 else 0)
     → nat_eq (bit_or fault differs) 0 ≡ ((fault == 0) && passed)
 both_at_once fault differs true is = elim (cases_eq fault 0) [
@@ -134,4 +131,4 @@ both_at_once fault differs true is = elim (cases_eq fault 0) [
 ]
 both_at_once fault differs false is =
     ne_eqb (bit_or fault differs) 0 (λ e. absurd (omega (arith, is, or_zero_r fault differs e)))
-    ∙ sym (and_false (fault == 0))
+    ∙ sym (and-false (fault == 0))

@@ -5,6 +5,7 @@ use Rattle.std.specs.Prelude.{◌&&◌, nat_eq, nat_lt, Option, Some, None, if�
 use Rattle.std.specs.Cmp.Lexicographic.{pointwise}
 use Rattle.std.proofs.lemmas.Bool.{and_parts}
 use Rattle.std.proofs.lemmas.Bool.Decides.{nat_tests}
+use Rattle.std.proofs.lemmas.Option.{same_Some, none-some}
 use Rattle.base64ct.specs.Encoding.{Alphabet, is_alphabet, EachBelow, encoding, whole_bytes, decoded_len, byte_count}
 use Rattle.base64ct.specs.Answers.{IsNoEncoding}
 use Rattle.base64ct.specs.Decoding.{decoding, if_encodes, are_bytes, values_in}
@@ -37,19 +38,13 @@ true_below (x ∷ b) h =
     let tails = true_below b (λ i. h (suc i)) in
     grind (arith, nat_tests)
 
-some_same : (b c : List ℕ) → Some b ≡ Some c → b ≡ c
-some_same b c h = cc
-
-none_some : (b : List ℕ) → None ≡ Some b → ⊥
-none_some b h = cc
-
 by_test : (a : Alphabet) (t b c : List ℕ) (r : Bool) → (are_bytes b && pointwise nat_eq (encoding a b) t) ≡ r
     → (if r then Some b else None) ≡ Some c → EachBelow 256 c × (t ≡ encoding a c)
 by_test a t b c true is h =
-    let same = some_same b c h in
+    let same = same_Some b c h in
     let parts = and_parts (are_bytes b) (pointwise nat_eq (encoding a b) t) is in
     rw (← same) (below_true b parts.0, sym (same_true (encoding a b) t parts.1))
-by_test a t b c false is h = absurd (none_some c h)
+by_test a t b c false is h = absurd (none-some c h)
 
 -- what is found is bytes, and the text is their encoding
 pub decoding-Some : (a : Alphabet) (t b : List ℕ) → decoding a t ≡ Some b → EachBelow 256 b × (t ≡ encoding a b)
@@ -82,7 +77,7 @@ decoding-None a t none = by_option a t (decoding a t) refl none
 -- nothing found, no encoding
 pub undecodable : (a : Alphabet) (t : List ℕ) → is_alphabet a ≡ true → decoding a t ≡ None
     → IsNoEncoding a t
-undecodable a t lawful none b below same = none_some b (sym none ∙ decoding_is a t b lawful below (sym same))
+undecodable a t lawful none b below same = none-some b (sym none ∙ decoding_is a t b lawful below (sym same))
 
 -- the length of an unpadded text tells the number of its bytes
 pub length-decodable : (a : Alphabet) (t b : List ℕ) → a.padded ≡ false → decoding a t ≡ Some b
@@ -104,8 +99,3 @@ length-decoding a t b plain is =
     let len = length-decodable a t b plain is in
     let size_is = decoded_len-unpadded a t plain in
     omega (arith, len, size_is)
-
--- two lists of bytes with one encoding are equal
-pub encoding_once : (a : Alphabet) (b c : List ℕ) → is_alphabet a ≡ true → EachBelow 256 b → EachBelow 256 c
-    → encoding a b ≡ encoding a c → b ≡ c
-encoding_once a b c lawful hb hc e = once a b c lawful hb hc e

@@ -7,10 +7,10 @@ use Rattle.std.proofs.lemmas.Bool.{cases_lt, lt-ltb, le-ltb}
 use Rattle.std.proofs.Math.Nat.{lt-mul-div-succ, mul-div-le, mul-le-mul_left, add-div_right, div-eq_of_lt}
 use Rattle.std.proofs.Math.Seq.{take-append-add}
 use Rattle.std.specs.Prelude.{IsAscii}
-use Rattle.base64ct.proofs.Ascii.{ascii-append}
 use Rattle.base64ct.specs.declared.line_ending.LineEnding.TheVariants.{CR, LF, CRLF}
 use Rattle.std.specs.List.{join_by}
 use Rattle.std.specs.Simd.{first_chunks}
+use Rattle.std.proofs.lemmas.Str.{IsAscii-append}
 use Rattle.base64ct.specs.Encoding.{Alphabet, is_alphabet, unpadded_encoding, encoding, EachBelow}
 use Rattle.base64ct.proofs.Sextets.{whole_bytes-nil}
 use Rattle.base64ct.specs.Encoders.{unwrap_from}
@@ -154,7 +154,7 @@ joined_unpadded a b wait input below whole =
     (unpadded-append a b (whole_blocks (wait ++ input)) below whole)
 
 -- the blocks fit exactly where their text does
-pub fit_exactly : (a : Alphabet) (w : ℕ) (ending : Option LineEnding) (out wait input : List ℕ) (p room n available : ℕ)
+fit_exactly : (a : Alphabet) (w : ℕ) (ending : Option LineEnding) (out wait input : List ℕ) (p room n available : ℕ)
     (b : List ℕ) → 0 < w → EachBelow 256 wait → EachBelow 256 input
     → n ≡ 4 * ((length wait + length input) / 3) → available ≡ length out - p
     → Stands a w (ending_of ending) out p room b
@@ -174,7 +174,7 @@ fit_exactly a w ending out wait input p room n available b pos bw bi en ea s =
     let within = s.within in
     (λ h. omega (arith, text, lines, h), λ h. omega (arith, text, lines, h))
 
-pub room_for : (a : Alphabet) (w : ℕ) (ending : Option LineEnding) (out wait input : List ℕ) (p room n available : ℕ)
+room_for : (a : Alphabet) (w : ℕ) (ending : Option LineEnding) (out wait input : List ℕ) (p room n available : ℕ)
     (b : List ℕ) → 0 < w → EachBelow 256 wait → EachBelow 256 input
     → n ≡ 4 * ((length wait + length input) / 3) → available ≡ length out - p
     → Stands a w (ending_of ending) out p room b
@@ -188,7 +188,7 @@ room_for a w ending out wait input p room n available b pos bw bi en ea s h =
     omega (arith, text, (fit_exactly a w ending out wait input p room n available b pos bw bi en ea s).0 h)
 
 -- after the blocks are written
-pub more_stand : (a : Alphabet) (w : ℕ) (e out new wait input : List ℕ) (p q room left : ℕ) (b : List ℕ)
+more_stand : (a : Alphabet) (w : ℕ) (e out new wait input : List ℕ) (p q room left : ℕ) (b : List ℕ)
     → is_alphabet a ≡ true → 0 < w → EachBelow 256 wait → EachBelow 256 input → Stands a w e out p room b
     → Wrote w e out new p q room left (unpadded_encoding a (whole_blocks (wait ++ input)))
     → Stands a w e new q left (bytes_in a w (length e) (take q new))
@@ -231,11 +231,6 @@ short_encoding a wait below few = by_padding a.padded (length-encoding a wait be
     by_padding true e = omega arith
     by_padding false e = omega arith
 
--- the whole text is that of the blocks and the encoding of the bytes that wait
-whole_text : (a : Alphabet) (b wait : List ℕ) → EachBelow 256 b → length b % 3 ≡ 0
-    → encoding a (b ++ wait) ≡ unpadded_encoding a b ++ encoding a wait
-whole_text a b wait below whole = encoding-append a b wait below whole
-
 pub close_exactly : (a : Alphabet) (w : ℕ) (ending : Option LineEnding) (out wait : List ℕ) (p room n available : ℕ)
     (b : List ℕ) → 0 < w → n ≡ length (encoding a wait) → available ≡ length out - p
     → Stands a w (ending_of ending) out p room b
@@ -243,7 +238,7 @@ pub close_exactly : (a : Alphabet) (w : ℕ) (ending : Option LineEnding) (out w
     ↔ (length (in_lines (format_of w ending) (encoding a (b ++ wait))) ≤ length out)
 close_exactly a w ending out wait p room n available b pos en ea s =
     let lines = length-wrap w (ending_of ending) room (encoding a wait) n pos en in
-    let text = ap (λ (t : List ℕ). length (in_lines (format_of w ending) t)) (whole_text a b wait s.below s.whole)
+    let text = ap (λ (t : List ℕ). length (in_lines (format_of w ending) t)) (encoding-append a b wait s.below s.whole)
     ∙ behind a w ending out p room b (encoding a wait) pos s in
     let within = s.within in
     (λ h. omega (arith, text, lines, h), λ h. omega (arith, text, lines, h))
@@ -257,7 +252,7 @@ closed_text a w ending out new wait p q room left b pos s f =
     f.put ∙ rw (
       s.front,
       s.at,
-      whole_text a b wait s.below s.whole,
+      encoding-append a b wait s.below s.whole,
       lines_are w ending (unpadded_encoding a b ++ encoding a wait) pos,
     )
     (sym (wrap-append w e w (unpadded_encoding a b) (encoding a wait)))
@@ -268,7 +263,7 @@ wrap-ascii : (w : ℕ) (e : List ℕ) (room : ℕ) (t : List ℕ) → IsAscii e 
 unfolding wrap_from
 wrap-ascii w e room [] he ht = λ i. omega arith
 wrap-ascii w e zero (c ∷ cs) he ht =
-    ascii-append e (c ∷ wrap_from w e (w - 1) cs) he
+    IsAscii-append e (c ∷ wrap_from w e (w - 1) cs) he
     (elim [ zero ↦ ht 0 | suc i ↦ wrap-ascii w e (w - 1) cs he (λ j. ht (suc j)) i ])
 wrap-ascii w e (suc room) (c ∷ cs) he ht = elim [ zero ↦ ht 0 | suc i ↦ wrap-ascii w e room cs he (λ j. ht (suc j)) i ]
 
@@ -282,3 +277,36 @@ pub lines-ascii : (w : ℕ) (ending : Option LineEnding) (t : List ℕ) → 0 < 
     → IsAscii (in_lines (format_of w ending) t)
 lines-ascii w ending t pos h =
     rw (lines_are w ending t pos) (wrap-ascii w (ending_of ending) w t (ending-ascii ending) h)
+
+-- ---- an encoder's fields, where the bytes that wait stand in a longer list, and the ending is written out
+
+module _ {a : Alphabet} {w : ℕ} {out : List ℕ} {p room : ℕ} {b : List ℕ} where
+  pub fields_fit : (ending : Option LineEnding) → Stands a w (ending_of ending) out p room b
+      → (written waiting input : List ℕ) (count : ℕ) → written ≡ ending_of ending → EachBelow 256 (take count waiting)
+      → count ≤ length waiting → 0 < w → EachBelow 256 input → (let n = 4 * ((count + length input) / 3) in
+      (n + length written * endings w room n ≤ length out - p)
+      ↔ (length (in_lines (format_of w ending)
+      (unpadded_encoding a (whole_blocks ((b ++ take count waiting) ++ input)))) ≤ length out))
+  fields_fit ending s written waiting input count same bw le pos bi =
+      rw same (fit_exactly a w ending out (take count waiting) input p room (4 * ((count + length input) / 3))
+      (length out - p) b pos bw bi (rw (length-take-le count waiting le) refl) refl s)
+
+  pub fields_room : (ending : Option LineEnding) → Stands a w (ending_of ending) out p room b
+      → (written waiting input : List ℕ) (count : ℕ) → written ≡ ending_of ending → EachBelow 256 (take count waiting)
+      → count ≤ length waiting → 0 < w → EachBelow 256 input → (let n = 4 * ((count + length input) / 3) in
+      n + length written * endings w room n ≤ length out - p
+      → p + length (wrap_from w written room (unpadded_encoding a (whole_blocks (take count waiting ++ input))))
+      ≤ length out)
+  fields_room ending s written waiting input count same bw le pos bi h =
+      rw same (room_for a w ending out (take count waiting) input p room (4 * ((count + length input) / 3))
+      (length out - p) b pos bw bi (rw (length-take-le count waiting le) refl) refl s (rw same at h))
+
+  pub fields_stand : (ending : Option LineEnding) → Stands a w (ending_of ending) out p room b
+      → (written waiting input : List ℕ) (count : ℕ) → written ≡ ending_of ending → EachBelow 256 (take count waiting)
+      → 0 < w → EachBelow 256 input → is_alphabet a ≡ true → {new : List ℕ} {q left : ℕ}
+      → Wrote w written out new p q room left (unpadded_encoding a (whole_blocks (take count waiting ++ input)))
+      → (let now = bytes_in a w (length (ending_of ending)) (take q new) in
+      Stands a w (ending_of ending) new q left now × (now ≡ b ++ whole_blocks (take count waiting ++ input)))
+  fields_stand ending s written waiting input count same bw pos bi lawful {new} {q} {left} wrote =
+      more_stand a w (ending_of ending) out new (take count waiting) input p q room left b lawful pos bw bi s
+      (rw same at wrote)

@@ -11,6 +11,7 @@ use borrow.Rule.Slice.PartMut.{put_mid}
 use Rattle.base64ct.specs.Encoding.{Alphabet, is_alphabet, whole_bytes, eights, bits, low_bits, number, AreCharacters}
 use Rattle.std.specs.List.{position_or_len}
 use Rattle.std.specs.Prelude.{◌==◌, ◌⊎◌}
+use Rattle.std.proofs.lemmas.Option.{none-some, same_Some}
 use Rattle.base64ct.specs.Encoding.{padding_len}
 use Rattle.base64ct.specs.Blocks.{IsEncoding}
 use Rattle.base64ct.specs.Blocks.{block_bytes}
@@ -23,7 +24,6 @@ use Rattle.base64ct.specs.Wrapping.{characters_from, before}
 use Rattle.base64ct.proofs.Layouts.{line_taken}
 use Rattle.base64ct.proofs.Taken.{before-before, before-nil}
 use Rattle.base64ct.proofs.Firsts.{decoded_more, decoded_last, decoded_nil, last_is, last_more, text_nil, count_four}
-use Rattle.base64ct.proofs.Firsts.{None≢Some, Some-once}
 
 bytes_four : (l : Bool) (vs : List ℕ) → length vs ≡ 4 → length (whole_bytes l vs) ≡ 3
 unfolding whole_bytes eights bits low_bits number
@@ -201,6 +201,23 @@ filling_moved a w body t out kept from done at room start space same within f = 
   aligned = f.aligned;
 }
 
+-- where a block of at most three bytes begins, and its end is not reached, fewer than three are read of it
+three_not : (count some q p : ℕ) → q % 3 ≢ 0 → p % 3 ≡ 0 → count ≤ 3 → some ≤ count → q ≡ p + some → some < 3
+three_not count some q p ne thirds few le is =
+    elim (cases_lt some 3) [ inl lt ↦ lt | inr ge ↦ absurd (ne (omega arith)) ]
+
+-- the bytes of the first block are the first three
+first_three : (a : Alphabet) (bytes s d : List ℕ) (count : ℕ) → d ≡ take count bytes ++ decoded a (drop 4 s)
+    → length (take count bytes) ≡ count → count ≤ 3 → (4 < length s → count ≡ 3) → take 3 d ≡ take count bytes
+first_three a bytes s d count sum lb few whole = elim (cases_lt 4 (length s)) [
+  | inl long ↦ ap (λ (l : List ℕ). take 3 l) sum
+      ∙ take_at (take count bytes) (decoded a (drop 4 s)) 3 (omega (arith, whole long))
+  | inr end ↦
+      let none : drop 4 s ≡ [] = drop_all 4 s end in
+      let all : d ≡ take count bytes = sum ∙ rw (none, decoded_nil a) (append-nil (take count bytes)) in
+      ap (λ (l : List ℕ). take 3 l) all ∙ take_all 3 (take count bytes) (omega arith)
+]
+
 pub filling_more : (a : Alphabet) (w : ℕ) (body t out kept bytes ys : List ℕ)
     (from done at room len next behind some k : ℕ) → done < length out → from + length out ≤ length (decoded a t)
     → Filling a w body t out kept from done at room
@@ -248,9 +265,9 @@ filling_more a w body t out kept bytes ys from done at room len next behind some
         place = rw (next_block, four, ← drop-drop 4 (4 * (p / 3)) t) first.next;
         keeps = λ ne.
             let same : (from + (done + some)) / 3 ≡ p / 3 =
-            omega (arith, few, three_not some (from + (done + some)) p ne thirds few le1 (omega arith)) in
+            omega (arith, few, three_not len some (from + (done + some)) p ne thirds few le1 (omega arith)) in
             let three : 3 * (p / 3) ≡ p = omega arith in (
-              rw (same, three) (len, few, sym (taken a bytes s (drop p whole) len sum lb few first.whole)),
+              rw (same, three) (len, few, sym (first_three a bytes s (drop p whole) len sum lb few first.whole)),
               λ long. rw same (first.good (omega (arith, long, same, ls))),
             );
         three = first.three;
@@ -263,27 +280,13 @@ filling_more a w body t out kept bytes ys from done at room len next behind some
             absurd (omega (arith, ap length all, length-drop p whole, short (omega arith)))
       ];
     }
-  where
-    three_not : (some q p : ℕ) → q % 3 ≢ 0 → p % 3 ≡ 0 → len ≤ 3 → some ≤ len → (q ≡ p + some) → some < 3
-    three_not some q p ne thirds few le is = elim (cases_lt some 3) [ inl lt ↦ lt | inr ge ↦ absurd (ne (omega arith)) ]
-
-    taken : (a : Alphabet) (bytes s d : List ℕ) (len : ℕ) → d ≡ take len bytes ++ decoded a (drop 4 s)
-        → length (take len bytes) ≡ len → len ≤ 3 → (4 < length s → len ≡ 3) → take 3 d ≡ take len bytes
-    taken a bytes s d len sum lb few whole = elim (cases_lt 4 (length s)) [
-      | inl long ↦ ap (λ (l : List ℕ). take 3 l) sum
-          ∙ take_at (take len bytes) (decoded a (drop 4 s)) 3 (omega (arith, whole long))
-      | inr end ↦
-          let none : drop 4 s ≡ [] = drop_all 4 s end in
-          let all : d ≡ take len bytes = sum ∙ rw (none, decoded_nil a) (append-nil (take len bytes)) in
-          ap (λ (l : List ℕ). take 3 l) all ∙ take_all 3 (take len bytes) (omega arith)
-    ]
 
 -- ---- the end
 
-pub filled : (a : Alphabet) (w : ℕ) (body t out kept : List ℕ) (from done n at room : ℕ) → done ≡ n → length out ≡ n
-    → Filling a w body t out kept from done at room
+pub filled : {a : Alphabet} {w : ℕ} {body t out kept : List ℕ} {from done at room : ℕ}
+    → Filling a w body t out kept from done at room → (n : ℕ) → done ≡ n → length out ≡ n
     → AskedAreGood a t from n × (out ≡ take n (drop from (decoded a t))) × Standing a w body t kept at room (from + n)
-filled a w body t out kept from done n at room is len f = (
+filled {a} {w} {body} {t} {out} {kept} {from} {done} {at} {room} f n is len = (
   subst (λ (k : ℕ). AskedAreGood a t from k) is f.good,
   sym (take_all n out (omega arith)) ∙ rw is at f.bytes,
   subst (λ (k : ℕ). Standing a w body t kept at room (from + k)) is f.stands,
@@ -318,15 +321,14 @@ pub record Scanned (w : ℕ) (body : List ℕ) (at room k : ℕ) : Type 0 where
 pub scanned_none : (w : ℕ) (body : List ℕ) → Scanned w body 0 w 0
 scanned_none w body = record { front = []; text = sym (before-nil (characters_from w w body)); count = refl }
 
-pub scanned_moved : (w : ℕ) (body : List ℕ) (at room start space k : ℕ)
-    → characters_from w space (drop start body) ≡ characters_from w room (drop at body) → Scanned w body at room k
-    → Scanned w body start space k
-scanned_moved w body at room start space k same s =
+pub scanned_moved : {w : ℕ} {body : List ℕ} {at room k : ℕ} → Scanned w body at room k → (start space : ℕ)
+    → characters_from w space (drop start body) ≡ characters_from w room (drop at body) → Scanned w body start space k
+scanned_moved s start space same =
     record { front = s.front; text = s.text ∙ ap (λ o. before s.front o) (sym same); count = s.count }
 
-pub scanned_blocks : (w : ℕ) (body : List ℕ) (at room k n : ℕ) → 4 * n ≤ room → at + 4 * n ≤ length body
-    → Scanned w body at room k → Scanned w body (at + 4 * n) (room - 4 * n) (k + n)
-scanned_blocks w body at room k n fits within s =
+pub scanned_blocks : {w : ℕ} {body : List ℕ} {at room k : ℕ} → Scanned w body at room k → (n : ℕ) → 4 * n ≤ room
+    → at + 4 * n ≤ length body → Scanned w body (at + 4 * n) (room - 4 * n) (k + n)
+scanned_blocks {w} {body} {at} {room} {k} s n fits within =
     let line : List ℕ = take (4 * n) (drop at body) in
     let ll : length line ≡ 4 * n = length-take-le (4 * n) (drop at body) (omega (arith, length-drop at body)) in
     let parts : drop at body ≡ line ++ drop (at + 4 * n) body =
@@ -343,10 +345,11 @@ scanned_blocks w body at room k n fits within s =
       count = omega (arith, length-append s.front line, s.count, ll);
     }
 
-pub scanned_more : (w : ℕ) (body block : List ℕ) (at room k next left n : ℕ) → Scanned w body at room k
+pub scanned_more : {w : ℕ} {body : List ℕ} {at room k : ℕ} → Scanned w body at room k → (block : List ℕ)
+    (next left n : ℕ)
     → characters_from w room (drop at body) ≡ before (take n block) (characters_from w left (drop next body))
     → length block ≡ 4 → n ≤ 4 → (n < 4 → next ≡ length body) → next < length body → Scanned w body next left (k + 1)
-scanned_more w body block at room k next left n s is four few short more =
+scanned_more {w} {body} s block next left n is four few short more =
     let all : length (take n block) ≡ 4 =
     omega (arith, length-take-le n block (omega arith), count_four n next (length body) few short more) in
     record {
@@ -355,9 +358,9 @@ scanned_more w body block at room k next left n s is four few short more =
       count = omega (arith, length-append s.front (take n block), s.count);
     }
 
-pub scanned_bad : (w : ℕ) (body : List ℕ) (at room k : ℕ) (t : List ℕ) → Scanned w body at room k
+pub scanned_bad : {w : ℕ} {body : List ℕ} {at room k : ℕ} → Scanned w body at room k → (t : List ℕ)
     → characters_from w room (drop at body) ≡ None → characters_from w w body ≡ Some t → ⊥
-scanned_bad w body at room k t s none is = None≢Some t (sym (s.text ∙ rw none refl) ∙ is)
+scanned_bad s t none is = none-some t (sym (s.text ∙ rw none refl) ∙ is)
 
 scanned_end : (w : ℕ) (body block : List ℕ) (at room k next left : ℕ) → Scanned w body at room k
     → characters_from w room (drop at body) ≡ before block (characters_from w left (drop next body))
@@ -372,28 +375,28 @@ scanned_end w body block at room k next left s is end =
       omega (arith, length-append s.front block, s.count),
     )
 
-pub measured_bad : (a : Alphabet) (w : ℕ) (body block : List ℕ) (at room k next left : ℕ) (t : List ℕ)
-    → Scanned w body at room k
+pub measured_bad : (a : Alphabet) {w : ℕ} {body : List ℕ} {at room k : ℕ} → Scanned w body at room k
+    → (block : List ℕ) (next left : ℕ) (t : List ℕ)
     → characters_from w room (drop at body) ≡ before block (characters_from w left (drop next body))
     → next ≡ length body
     → 0 < length block → length block ≤ 4 → (IsEncoding a block → ⊥) → characters_from w w body ≡ Some t
     → IsEncoding a (last_block t) → ⊥
-measured_bad a w body block at room k next left t s is end some few bad text spelled =
+measured_bad a {w} {body} {at} {room} {k} s block next left t is end some few bad text spelled =
     let e = scanned_end w body block at room k next left s is end in
-    let same : t ≡ e.0 = Some-once t e.0 (sym text ∙ e.1) in
+    let same : t ≡ e.0 = same_Some t e.0 (sym text ∙ e.1) in
     let last : last_block e.0 ≡ block =
     sym (last_at e.0 k (omega (arith, e.3))) ∙ ap (λ (l : List ℕ). last_block l) e.2 ∙ last_is block few in
     bad (subst (IsEncoding a) (ap (λ (l : List ℕ). last_block l) same ∙ last) spelled)
 
-pub measured : (a : Alphabet) (w : ℕ) (body block bytes : List ℕ) (at room k next left n : ℕ) → is_alphabet a ≡ true
-    → Scanned w body at room k
+pub measured : (a : Alphabet) {w : ℕ} {body : List ℕ} {at room k : ℕ} → Scanned w body at room k
+    → (block bytes : List ℕ) (next left n : ℕ) → is_alphabet a ≡ true
     → characters_from w room (drop at body) ≡ before block (characters_from w left (drop next body))
     → next ≡ length body
     → 0 < length block → length block ≤ 4 → length bytes ≡ 3 → n ≤ 3 → EachBelow 256 bytes
     → block ≡ encoding a (take n bytes)
     → (t : List ℕ) × (characters_from w w body ≡ Some t) × IsEncoding a (last_block t) × (0 < length t)
     × (3 * k + n ≡ length (decoded a t))
-measured a w body block bytes at room k next left n lawful s is end some few three small below spelled =
+measured a {w} {body} {at} {room} {k} s block bytes next left n lawful is end some few three small below spelled =
     let e = scanned_end w body block at room k next left s is end in
     let last : last_block e.0 ≡ block =
     sym (last_at e.0 k (omega (arith, e.3))) ∙ ap (λ (l : List ℕ). last_block l) e.2 ∙ last_is block few in

@@ -5,6 +5,7 @@ use Rattle.std.proofs.Common.{slice_index, Option, Some, None}
 use Rattle.std.proofs.lemmas.List.{append-nil, length-append, take_at, drop_at, length-take-le, length-drop}
 use Rattle.std.proofs.lemmas.List.{nil_from_length, take_all, drop_all, drop-drop}
 use Rattle.std.proofs.lemmas.Bool.{cases_Bool, cases_lt}
+use Rattle.std.proofs.lemmas.Option.{same_Some, none-some}
 use Rattle.base64ct.specs.Encoding.{Alphabet, is_alphabet, unpadded_encoding, encoding, EachBelow, AreCharacters}
 use Rattle.base64ct.specs.Blocks.{blocks, IsEncoding}
 use Rattle.base64ct.proofs.Unpadded.{bytes-unpadded}
@@ -15,16 +16,10 @@ use Rattle.base64ct.specs.Blocks.{block_bytes}
 use Rattle.base64ct.specs.Blocks.{four_bytes, bytes_of_blocks, decoded, last_block}
 use Rattle.base64ct.specs.Decoders.{Ahead, FirstRead}
 
-pub Some-once : (x y : List ℕ) → Some x ≡ Some y → x ≡ y
-Some-once x y e = ap (λ (o : Option (List ℕ)). elim o as (λ _. List ℕ) [ None ↦ [] | Some t ↦ t ]) e
-
-pub None≢Some : (y : List ℕ) → None ≡ Some y → ⊥
-None≢Some y e = subst (λ (o : Option (List ℕ)). elim o as (λ _. Type 0) [ None ↦ Unit {0} | Some t ↦ ⊥ ]) e tt
-
 pub before_some : (xs s : List ℕ) (o : Option (List ℕ)) → before xs o ≡ Some s
     → (t : List ℕ) × (o ≡ Some t) × (s ≡ xs ++ t)
-before_some xs s None e = absurd (None≢Some s e)
-before_some xs s (Some t) e = (t, refl, sym (Some-once (xs ++ t) s e))
+before_some xs s None e = absurd (none-some s e)
+before_some xs s (Some t) e = (t, refl, sym (same_Some (xs ++ t) s e))
 
 pub text_nil : (w room : ℕ) → characters_from w room [] ≡ Some []
 unfolding characters_from
@@ -38,19 +33,19 @@ pub some_text : (w room : ℕ) (body s : List ℕ) → characters_from w room bo
 unfolding characters_from
 some_text w room [] s e some = absurd (omega arith)
 some_text w (suc room) (c ∷ rest) s e some = some_before c s _ e
-some_text w zero (c ∷ []) s e some = absurd (None≢Some s e)
+some_text w zero (c ∷ []) s e some = absurd (none-some s e)
 some_text w zero (c ∷ d ∷ []) s e some = elim (cases_Bool ((c == 13) && (d == 10))) [
-  | inl both ↦ absurd (None≢Some s (rw both at e))
+  | inl both ↦ absurd (none-some s (rw both at e))
   | inr other ↦ elim (cases_Bool ((c == 13) || (c == 10))) [
     | inl one ↦ some_before d s (Some []) (rw (other, one) at e)
-    | inr none ↦ absurd (None≢Some s (rw (other, none) at e))
+    | inr none ↦ absurd (none-some s (rw (other, none) at e))
   ]
 ]
 some_text w zero (c ∷ d ∷ f ∷ rest) s e some = elim (cases_Bool ((c == 13) && (d == 10))) [
   | inl both ↦ some_before f s (characters_from w (w - 1) rest) (rw both at e)
   | inr other ↦ elim (cases_Bool ((c == 13) || (c == 10))) [
     | inl one ↦ some_before d s (characters_from w (w - 1) (f ∷ rest)) (rw (other, one) at e)
-    | inr none ↦ absurd (None≢Some s (rw (other, none) at e))
+    | inr none ↦ absurd (none-some s (rw (other, none) at e))
   ]
 ]
 
@@ -80,7 +75,7 @@ first_last w body block s at room next left r is four end =
     let none : drop next body ≡ [] = drop_all next body (omega arith) in
     let text : characters_from w left (drop next body) ≡ Some [] = rw none (text_nil w left) in
     let sum : s ≡ block = sym
-    (Some-once block s (ap (λ (l : List ℕ). Some l) (sym (append-nil block)) ∙ rw text at (sym is ∙ r.0))) in
+    (same_Some block s (ap (λ (l : List ℕ). Some l) (sym (append-nil block)) ∙ rw text at (sym is ∙ r.0))) in
     let len : length s ≤ 4 = omega (arith, ap length sum) in
     (sum, len, (text ∙ ap (λ (l : List ℕ). Some l) (sym (drop_all 4 s len)), omega arith))
 

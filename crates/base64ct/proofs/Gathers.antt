@@ -4,18 +4,21 @@ use Rattle.std.proofs.Common.{take, drop, refl, sym, ap, ◌∙◌, subst, arith
 use Rattle.std.proofs.lemmas.List.{append_assoc, length-append, take_at, drop_at, take-append-drop, length-take-le}
 use Rattle.std.proofs.lemmas.List.{length-drop, drop-drop, drop_all, take_all}
 use Rattle.std.proofs.lemmas.Slice.{take-put_mid}
-use Rattle.std.proofs.lemmas.Bool.{cases_lt}
+use Rattle.std.proofs.lemmas.Bool.{cases_lt, true≢false}
+use Rattle.std.proofs.lemmas.Option.{same_Some, none-some}
 use borrow.Rule.Slice.PartMut.{put_mid}
 use Rattle.base64ct.specs.Encoding.{Alphabet, is_alphabet, unpadded_encoding, EachBelow, AreCharacters}
+use Rattle.base64ct.specs.Encoding.{byte_count}
 use Rattle.base64ct.specs.Blocks.{decoded, AskedAreGood}
 use Rattle.base64ct.specs.Wrapping.{characters_from, before}
 use Rattle.base64ct.specs.Decoders.{Standing}
 use Rattle.base64ct.proofs.Encodings.{below-take, below-drop}
 use Rattle.base64ct.proofs.Unpadded.{unpadded-append, length-unpadded}
 use Rattle.base64ct.proofs.Wrapping.{unpadded_apart, length-put_mid}
+use Rattle.base64ct.proofs.Written.{length_front}
 use Rattle.base64ct.proofs.Layouts.{line_taken}
 use Rattle.base64ct.proofs.Taken.{before-before}
-use Rattle.base64ct.proofs.Firsts.{before_some, text_nil, None≢Some, Some-once}
+use Rattle.base64ct.proofs.Firsts.{before_some, text_nil}
 use Rattle.base64ct.proofs.Fills.{standing_first, decoded_at}
 use Rattle.base64ct.proofs.Strides.{read_at_once, bytes_at_once}
 
@@ -70,12 +73,12 @@ gathered_all w body buffer at room place left start space count s text same with
           let no_room : space ≡ 0 = full lt in
           let nothing : characters_from w left (drop place body) ≡ None =
           sym same ∙ ap (λ (r : ℕ). characters_from w r (drop start body)) no_room ∙ none no_room lt in
-          absurd (None≢Some s (sym (text ∙ ap (λ o. before (take count buffer) o) nothing) ∙ is))
+          absurd (none-some s (sym (text ∙ ap (λ o. before (take count buffer) o) nothing) ∙ is))
       | inr ge ↦
           let behind : characters_from w left (drop place body) ≡ Some [] =
           sym same ∙ ap (λ (l : List ℕ). characters_from w space l) (drop_all start body ge) ∙ text_nil w space in
           let all : take count buffer ++ [] ≡ s =
-          Some-once (take count buffer ++ []) s (sym (text ∙ ap (λ o. before (take count buffer) o) behind) ∙ is) in
+          same_Some (take count buffer ++ []) s (sym (text ∙ ap (λ o. before (take count buffer) o) behind) ∙ is) in
           let few_are = length-take-le count buffer (omega arith) in
           omega (arith, few, ap length all, length-append (take count buffer) [], few_are)
     ]
@@ -105,6 +108,15 @@ blocks_more a w body out ys chars at room place left next last done m count text
     ∙ ap (λ (l : List ℕ). before l (characters_from w last (drop next body))) (sym sum)
 
 -- the text behind the bytes that are read, where it begins with the characters of some bytes
+-- the bytes of whole blocks are those of their characters
+pub bytes_read : (a : Alphabet) (src chars ys : List ℕ) (count : ℕ) → src ≡ chars → length chars ≡ count / 3 * 4
+    → count % 3 ≡ 0 → length ys ≡ count → unpadded_encoding a (take (byte_count (length src)) ys) ≡ src
+    → unpadded_encoding a ys ≡ chars
+bytes_read a src chars ys count is lc whole ly read =
+    let all : take (byte_count (length src)) ys ≡ ys =
+    take_all (byte_count (length src)) ys (omega (arith, ap length is)) in
+    ap (λ (l : List ℕ). unpadded_encoding a l) (sym all) ∙ read ∙ is
+
 text_behind : (a : Alphabet) (w : ℕ) (body out : List ℕ) (at room place left done : ℕ) (s : List ℕ)
     → characters_from w room (drop at body)
     ≡ before (unpadded_encoding a (take done out)) (characters_from w left (drop place body))
@@ -187,9 +199,6 @@ blocks_bad a w body out bytes s chars at room place left next last done count r 
     let same : unpadded_encoding a read ≡ chars = sym (take_at (unpadded_encoding a read) (rest ++ s) (length chars) lr)
     ∙ ap (λ (l : List ℕ). take (length chars) l) (sym one ∙ two) ∙ take_at chars later.0 (length chars) refl in
     true≢false (sym (accepted read br same) ∙ bad)
-  where
-    true≢false : true ≡ false → ⊥
-    true≢false e = cc
 
 -- ---- a buffer that is filled
 
@@ -293,6 +302,22 @@ as_filled a w body t kept out read n at room len f =
     let g = subst (λ (k : ℕ). AskedAreGood a t read k × (out ≡ take k (drop read (decoded a t)))
     × Standing a w body t kept at room (read + k)) (sym len) f in
     record { good = g.0; bytes = g.1; stands = g.2 }
+
+-- the front of a buffer is filled
+pub front_filled : (a : Alphabet) (w : ℕ) (body t kept out xs : List ℕ) (read n at room : ℕ) → n ≤ length out
+    → length xs ≡ length (take n out)
+    → (let m = length (take n out) in AskedAreGood a t read m × (xs ≡ take m (drop read (decoded a t)))
+    × Standing a w body t kept at room (read + m))
+    → (length xs ≡ n) × (length (xs ++ drop n out) ≡ length out) × Filled a w body t kept xs read at room
+    × Standing a w body t kept at room (read + n)
+front_filled a w body t kept out xs read n at room le lx f =
+    let size : length xs ≡ n = lx ∙ length-take-le n out le in
+    let front = as_filled a w body t kept xs read _ at room lx f in (
+      size,
+      length_front n xs out size le,
+      front,
+      subst (λ (m : ℕ). Standing a w body t kept at room (read + m)) size front.stands,
+    )
 
 pub of_filled : (a : Alphabet) (w : ℕ) (body t kept out new : List ℕ) (read n at room : ℕ) → new ≡ out → length new ≡ n
     → Filled a w body t kept out read at room → AskedAreGood a t read n × (new ≡ take n (drop read (decoded a t)))

@@ -4,15 +4,11 @@ use Rattle.std.proofs.Common.{ap, ◌∙◌, subst, arith}
 use Rattle.std.specs.Int.Bits.{bit_xor, xor_self, xor_zero_l, xor_zero_r, xor_assoc}
 use Rattle.std.proofs.lemmas.Nat.{le_or_l, le_or_r}
 use Rattle.std.proofs.lemmas.List.{get_or_append_left}
+use Rattle.subtle.proofs.SignBits.{xor_equal}
 use Rattle.base64ct.specs.Encoding.{Alphabet, is_alphabet, character, unpadded_encoding, EachBelow, AreCharacters}
 use Rattle.base64ct.proofs.Encodings.{below-one, below-two, below-three}
 use Rattle.base64ct.proofs.Unpadded.{length-unpadded, unpadded-fill_one, unpadded-fill_two, unpadded_once}
 use Rattle.base64ct.proofs.Unpadded.{are_characters-unpadded}
-
-xor_equal : (a b : ℕ) → bit_xor a b ≡ 0 → a ≡ b
-xor_equal a b e =
-    let whole : bit_xor (bit_xor a b) b ≡ a = rw (xor_assoc a b b, xor_self b) (xor_zero_r a) in
-    sym whole ∙ rw e (xor_zero_l b)
 
 pub or_zero_l : (a b : ℕ) → bit_or a b ≡ 0 → a ≡ 0
 or_zero_l a b e = let h = le_or_l a b in omega arith

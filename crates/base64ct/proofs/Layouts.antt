@@ -4,14 +4,15 @@ use Rattle.std.proofs.Common.{◌++◌, length, map, replicate, refl, sym, ap, �
 use Rattle.std.proofs.Common.{Option, Some, None}
 use Rattle.std.specs.Prelude.{◌⊎◌, not, ⊤}
 use Rattle.std.specs.List.{join_by, list_all}
-use Rattle.std.proofs.lemmas.Bool.{cases_Bool, eqb-true, and_parts}
+use Rattle.std.proofs.lemmas.Bool.{cases_Bool, eqb-true, and_parts, not-true}
 use Rattle.std.proofs.lemmas.List.{append_assoc, append-nil, length-append}
+use Rattle.std.proofs.lemmas.Option.{same_Some, none-some}
 use Rattle.base64ct.specs.Encoding.{Alphabet, holds_no_ending, character, encoding, padding, groups, equals_sign}
 use Rattle.base64ct.specs.Wrapping.{IsEnding, AreLines, Wrapped, MayEnd, StandsInLines, without_end, before}
 use Rattle.base64ct.specs.Wrapping.{characters_from, layout}
 use Rattle.base64ct.proofs.Padding.{encoding-is}
 use Rattle.base64ct.proofs.Taken.{before-before, before-nil, ending_one, ending_two}
-use Rattle.base64ct.proofs.Firsts.{before_some, one_line, Some-once, None≢Some, text_nil}
+use Rattle.base64ct.proofs.Firsts.{before_some, one_line, text_nil}
 
 -- no byte is CR or LF
 abbrev pub NoEnds : List ℕ → Type 0
@@ -31,10 +32,6 @@ no_ends-right [] ys h = h
 no_ends-right (x ∷ xs) ys h = no_ends-right xs ys h.2
 
 -- ---- an encoding has none
-
-not-true : (b : Bool) → not b ≡ true → b ≡ false
-not-true true e = sym e
-not-true false e = refl
 
 no_end : (cs : List ℕ) (v : ℕ) → list_all (λ c. not (c == 13) && not (c == 10)) cs ≡ true
     → ((slice_index cs v == 13) ≡ false) × ((slice_index cs v == 10) ≡ false)
@@ -229,7 +226,7 @@ pub laid_lines : (w room : ℕ) (pre body t tail : List ℕ) → 0 < w → lengt
     → Wrapped ((pre ++ body) ++ tail) w (pre ++ t)
 unfolding characters_from
 laid_lines w room pre [] t tail pos full some laid ends =
-    let none : t ≡ [] = sym (Some-once [] t (sym (text_nil w room) ∙ laid)) in
+    let none : t ≡ [] = sym (same_Some [] t (sym (text_nil w room) ∙ laid)) in
     let more : 0 < length pre = omega (arith, some, length-append pre []) in
     same_wrapped w ((pre ++ []) ++ tail) (pre ++ tail) (pre ++ t) pre (ap (λ (l : List ℕ). l ++ tail) (append-nil pre))
     (ap (λ (l : List ℕ). pre ++ l) none ∙ append-nil pre)
@@ -243,19 +240,19 @@ laid_lines w (suc room) pre (c ∷ rest) t tail pos full some laid ends =
     ((pre ++ c ∷ []) ++ parts.0)
     (ap (λ (l : List ℕ). l ++ tail) (sym (append_assoc pre (c ∷ []) rest)))
     (ap (λ (l : List ℕ). pre ++ l) parts.2 ∙ sym (append_assoc pre (c ∷ []) parts.0)) next
-laid_lines w zero pre (c ∷ []) t tail pos full some laid ends = absurd (None≢Some t laid)
+laid_lines w zero pre (c ∷ []) t tail pos full some laid ends = absurd (none-some t laid)
 laid_lines w zero pre (c ∷ d ∷ []) t tail pos full some laid ends = elim (cases_Bool ((c == 13) && (d == 10))) [
-  | inl both ↦ absurd (None≢Some t (rw both at laid))
+  | inl both ↦ absurd (none-some t (rw both at laid))
   | inr other ↦ elim (cases_Bool ((c == 13) || (c == 10))) [
     | inl one ↦
         let parts = before_some (d ∷ []) t (Some []) (rw (other, one) at laid) in
-        let none : parts.0 ≡ [] = sym (Some-once [] parts.0 parts.1) in
+        let none : parts.0 ≡ [] = sym (same_Some [] parts.0 parts.1) in
         let next = last_line w (d ∷ []) (d ∷ tail) (omega arith) (omega arith) (may_end (d ∷ []) tail ends) in
         same_wrapped w ((pre ++ c ∷ d ∷ []) ++ tail) (pre ++ (c ∷ []) ++ d ∷ tail) (pre ++ t) (pre ++ d ∷ [])
         (append_assoc pre (c ∷ d ∷ []) tail ∙ sym (append_assoc pre (c ∷ []) (d ∷ tail)))
         (ap (λ (l : List ℕ). pre ++ l) (parts.2 ∙ ap (λ (l : List ℕ). d ∷ l) none))
         (one_more w pre (c ∷ []) (d ∷ tail) (d ∷ []) (omega (arith, full)) (one_ending c one) next)
-    | inr none ↦ absurd (None≢Some t (rw (other, none) at laid))
+    | inr none ↦ absurd (none-some t (rw (other, none) at laid))
   ]
 ]
 laid_lines w zero pre (c ∷ d ∷ f ∷ rest) t tail pos full some laid ends = elim (cases_Bool ((c == 13) && (d == 10))) [
@@ -278,7 +275,7 @@ laid_lines w zero pre (c ∷ d ∷ f ∷ rest) t tail pos full some laid ends = 
         (ap (λ (l : List ℕ). pre ++ l) parts.2)
         (one_more w pre (c ∷ []) (d ∷ ((f ∷ rest) ++ tail)) (d ∷ parts.0) (omega (arith, full)) (one_ending c one)
         next)
-    | inr none ↦ absurd (None≢Some t (rw (other, none) at laid))
+    | inr none ↦ absurd (none-some t (rw (other, none) at laid))
   ]
 ]
 
@@ -295,7 +292,7 @@ laid_wrapped w text t pos some laid =
     ]
   where
     nonempty : (body : List ℕ) → characters_from w w body ≡ Some t → 0 < length body
-    nonempty [] e = let none : [] ≡ t = Some-once [] t (sym (text_nil w w) ∙ e) in
+    nonempty [] e = let none : [] ≡ t = same_Some [] t (sym (text_nil w w) ∙ e) in
         absurd (omega (arith, ap length none, some))
     nonempty (c ∷ body) e = omega arith
 
@@ -311,7 +308,7 @@ lines_are_laid text t (Some w) wide h (lines, a, sum) =
 pub laid_stands : (text t : List ℕ) (width : Option ℕ) → ((w : ℕ) → width ≡ Some w → 0 < w) → 0 < length t
     → layout text width ≡ Some t → StandsInLines text width t
 laid_stands text t None wide some laid =
-    (some, subst (MayEnd text) (Some-once (without_end text) t laid) (end_parts text))
+    (some, subst (MayEnd text) (same_Some (without_end text) t laid) (end_parts text))
 laid_stands text t (Some w) wide some laid = laid_wrapped w text t (wide w refl) some laid
 
 -- a text in lines of an encoding begins with no ending

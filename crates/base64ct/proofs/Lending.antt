@@ -25,7 +25,7 @@ use denote.FollowSlice.{finally-res}
 use denote.Builtin.{u8, usize}
 use denote.Plain.{uint_row_laws}
 use denote.Copied.{uint_Copied}
-use denote.Param.Laws.{Laws, of_field, field_told}
+use denote.Param.Laws.{Laws, Told, of_field, field_told}
 use denote.Param.Shared.{copy_shared}
 use denote.Struct.Field.{u8-field, usize-field, shr_slice_field}
 use denote.Struct.Laws.{u8-laws, u8-copy, usize-laws, usize-copy, shr_slice_laws, shr_slice_copy}
@@ -35,11 +35,11 @@ use denote.Text.{Str, str-field, str-laws, str-copy}
 use Rattle.std.specs.contracts.result.Result as Result-type
 use Rattle.std.proofs.result.Result.TheLaws.{the_row_laws as result_laws, lowers as result_lowers}
 use Rattle.base64ct.specs.contracts.errors.Error as Error-type
-use Rattle.base64ct.proofs.errors.Error.TheLaws.{the_row_laws as error_laws, the_told as error_told}
+use Rattle.base64ct.proofs.errors.Error.TheLaws.{the_row_laws as error_laws}
 use Rattle.base64ct.specs.contracts.errors.DecodeVecError as Vec-error-type
 use Rattle.base64ct.proofs.errors.DecodeVecError.TheLaws.{the_row_laws as vec_error_laws}
 use Rattle.base64ct.specs.contracts.errors.InvalidLengthError as Length-type
-use Rattle.base64ct.proofs.errors.InvalidLengthError.TheLaws.{the_row_laws as length_laws, the_told as length_told}
+use Rattle.base64ct.proofs.errors.InvalidLengthError.TheLaws.{the_row_laws as length_laws}
 use borrow.Table.Owned as bare
 use borrow.Table.Elements.{length-take-le}
 use borrow.Rule.Slice.Handed.{sl_Share}
@@ -124,29 +124,18 @@ TextAnswer a = Result-type.the_row (Str a.mir a.lft) Length-type.the_row
 abbrev pub text_answer_laws : (a : NamedLft) → Laws (TextAnswer a)
 text_answer_laws a = result_laws (Str a.mir a.lft) Length-type.the_row (text_laws a) length_laws
 
--- and so have `Result<usize, Error>` and `Result<usize, InvalidLengthError>`, with the machine value of each
+-- and so has `Result<usize, F>`, with its machine value
 abbrev pub count_laws : Laws usize
 count_laws = of_field usize-field usize-laws refl (copy_shared usize-field usize-copy)
 
-abbrev pub Outcome : RattleType
-Outcome = Result-type.the_row usize Error-type.the_row
+abbrev pub Outcome : RattleType → RattleType
+Outcome F = Result-type.the_row usize F
 
-abbrev pub outcome_laws : Laws Outcome
-outcome_laws = result_laws usize Error-type.the_row count_laws error_laws
+abbrev pub outcome_laws : (F : RattleType) → Laws F → Laws (Outcome F)
+outcome_laws F laws = result_laws usize F count_laws laws
 
-abbrev pub outcome_lowers : Lowered Outcome
-outcome_lowers = result_lowers usize Error-type.the_row count_laws error_laws (field_told usize-field usize-laws)
-    error_told
-
-abbrev pub TextOutcome : RattleType
-TextOutcome = Result-type.the_row usize Length-type.the_row
-
-abbrev pub text_outcome_laws : Laws TextOutcome
-text_outcome_laws = result_laws usize Length-type.the_row count_laws length_laws
-
-abbrev pub text_outcome_lowers : Lowered TextOutcome
-text_outcome_lowers = result_lowers usize Length-type.the_row count_laws length_laws (field_told usize-field usize-laws)
-    length_told
+abbrev pub outcome_lowers : (F : RattleType) → Laws F → Told F → Lowered (Outcome F)
+outcome_lowers F laws fails = result_lowers usize F count_laws laws (field_told usize-field usize-laws) fails
 
 -- and so has `Result<&[u8], DecodeVecError>`
 abbrev pub VecAnswer : NamedLft → RattleType

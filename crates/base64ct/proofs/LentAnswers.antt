@@ -1,5 +1,5 @@
 -- What the calls that lend a buffer say, from what was done to it and what is answered.
-use Rattle.std.proofs.Common.{◌≡◌, ℕ, ◌<◌, ◌≤◌, List, length, take, drop, Result, Ok, Err, refl, sym, ap, ◌∙◌}
+use Rattle.std.proofs.Common.{◌≡◌, ℕ, ◌<◌, ◌≤◌, List, length, take, drop, Result, Ok, Err, sym, ap, ◌∙◌}
 use Rattle.std.proofs.Common.{subst}
 use Rattle.std.specs.Prelude.{Some, None, MatchResult, IfOk, OnErr, IsErr, ◌↔◌, ◌⊎◌, ◌++◌}
 use Rattle.std.specs.Str.{IsUtf8}
@@ -47,10 +47,10 @@ abbrev pub DecodeSays : Alphabet → Result (Bor (List ℕ)) Error → (src old 
 DecodeSays a t src old =
     SaysMisaligned a t src × SaysNoRoom a t src old × SaysAnswer a t src old × SaysDecoded a t src old
 
-no_answer : {T : Type 0} (n : ℕ) (e : Error) → Ok n ≡ Err e → T
-no_answer n e h = absurd (wrong h)
+pub no_answer : {V T : Type 0} (v : V) (e : Error) → Ok v ≡ Err e → T
+no_answer v e h = absurd (wrong h)
   where
-    wrong : Ok n ≡ Err e → ⊥
+    wrong : Ok v ≡ Err e → ⊥
     wrong h = cc
 
 -- the bytes themselves
@@ -75,23 +75,20 @@ decoded_bytes a b src old now new is told e =
     )
 
 -- a refusal of one result is that of the other
-refusal : Error → Result ℕ Error
-refusal x = Err x
+unfoldable pub refusal : (V : Type 0) → Error → Result V Error
+refusal V x = Err x
 
-same_error : (x y : Error) → refusal x ≡ refusal y → x ≡ y
+same_error : {V : Type 0} (x y : Error) → refusal V x ≡ refusal V y → x ≡ y
 unfolding refusal
 same_error x y h = cc
 
-lent_refusal : Error → Result (Bor (List ℕ)) Error
-lent_refusal x = Err x
-
-again : (x y : Error) → refusal x ≡ refusal y → lent_refusal x ≡ lent_refusal y
-again x y h = rw (same_error x y h) refl
+pub again : {V W : Type 0} (x y : Error) → refusal V x ≡ refusal V y → refusal W x ≡ refusal W y
+again {W = W} x y h = ap (refusal W) (same_error x y h)
 
 -- a refusal
 decoded_not : (a : Alphabet) (x : Error) (src old now new : List ℕ) → Decodes a src old now (Err x) → new ≡ now
     → DecodeEnds a (Err x) src old new × DecodeSays a (Err x) src old
-unfolding Decodes refusal lent_refusal
+unfolding Decodes refusal
 decoded_not a x src old now new told e = (
   (
     ap (λ (x : List ℕ). drop (decoded_len a src) x) e ∙ told.4,

@@ -20,8 +20,10 @@ pub mod Ascii
 pub mod Spread
 pub mod Lending
 pub mod LentAnswers
+pub mod LentSteps
 pub mod PartAnswers
 pub mod Wrapping
+pub mod Written
 pub mod Held
 pub mod Encoders
 pub mod Taken
@@ -35,5 +37,6 @@ pub mod Layouts
 pub mod Wholes
 pub mod Runs
 pub mod Strides
+pub mod Turns
 pub mod Gathers
 pub mod LineWrites

@@ -1,15 +1,17 @@
 -- What a part that is lent says, from what was done and what is answered.
-use Rattle.std.proofs.Common.{◌≡◌, ℕ, ◌<◌, ◌≤◌, List, length, Result, Ok, Err, refl, sym, ◌∙◌, subst, arith}
-use Rattle.std.specs.Prelude.{MatchResult, IfOk}
+use Rattle.std.proofs.Common.{◌≡◌, ℕ, ◌<◌, ◌≤◌, List, length, Result, Ok, Err, sym, ◌∙◌, subst, arith}
+use Rattle.std.specs.Prelude.{MatchResult, IfOk, OnErr, ◌++◌}
 use Rattle.std.proofs.lemmas.List.{take_all}
 use denote.Ref.{Bor}
 use Rattle.base64ct.specs.Encoding.{Alphabet}
 use Rattle.base64ct.specs.Blocks.{AskedAreGood}
 use Rattle.base64ct.specs.Decoders.{Decoded, left, IsDecoded}
 use Rattle.base64ct.specs.Runs.{IsPart, part_of}
-use Rattle.base64ct.proofs.LentAnswers.{HandsBack}
+use Rattle.base64ct.proofs.LentAnswers.{HandsBack, no_answer, refusal, again}
 use Rattle.base64ct.specs.declared.errors.Error.{Error}
 use Rattle.base64ct.specs.declared.errors.Error.TheVariants.{InvalidEncoding, InvalidLength}
+use Rattle.base64ct.specs.declared.errors.DecodeVecError.{DecodeVecError}
+use Rattle.base64ct.specs.declared.errors.DecodeVecError.TheVariants.{InvalidEncoding as BadRest}
 
 abbrev pub PartEnds : Result (Bor (List ℕ)) Error → List ℕ → Type 0
 PartEnds t new = IfOk t (λ b. new ≡ b.now)
@@ -25,24 +27,13 @@ SaysPart a old out t new =
 abbrev pub PartSays : Alphabet → Decoded → List ℕ → Result (Bor (List ℕ)) Error → Decoded → Type 0
 PartSays a old out t new = SaysTooLong a old out t new × SaysPart a old out t new
 
-no_answer : {T : Type 0} (b : List ℕ) (e : Error) → Ok b ≡ Err e → T
-no_answer b e h = absurd (wrong h)
-  where
-    wrong : Ok b ≡ Err e → ⊥
-    wrong h = cc
+-- of all that is left
+abbrev pub RestEnds : Result (Bor (List ℕ)) DecodeVecError → (old new : List ℕ) → Type 0
+RestEnds t old new = IfOk t (λ b. new ≡ old ++ b.now) × OnErr t (new ≡ old)
 
-refusal : Error → Result (List ℕ) Error
-refusal x = Err x
-
-same_error : (x y : Error) → refusal x ≡ refusal y → x ≡ y
-unfolding refusal
-same_error x y h = cc
-
-lent_refusal : Error → Result (Bor (List ℕ)) Error
-lent_refusal x = Err x
-
-again : (x y : Error) → refusal x ≡ refusal y → lent_refusal x ≡ lent_refusal y
-again x y h = rw (same_error x y h) refl
+abbrev pub SaysRest : Alphabet → Decoded → Result (Bor (List ℕ)) DecodeVecError → Decoded → Type 0
+SaysRest a old t new = MatchResult t (λ b. IsDecoded a old new (length (left a old)) b.now)
+    (λ e. (e ≡ BadRest → AskedAreGood a old.text old.read (length (left a old)) → ⊥) × (new ≡ old))
 
 part_given : (a : Alphabet) (b : Bor (List ℕ)) (old new : Decoded) (out now last : List ℕ) → b.now ≡ now
     → IsPart a old (length out) (Ok now) new → last ≡ now → PartEnds (Ok b) last × PartSays a old out (Ok b) new
@@ -56,7 +47,7 @@ part_given a b old new out now last same told e = (
 
 part_refused : (a : Alphabet) (x : Error) (old new : Decoded) (out last : List ℕ)
     → IsPart a old (length out) (Err x) new → PartEnds (Err x) last × PartSays a old out (Err x) new
-unfolding refusal lent_refusal
+unfolding refusal
 part_refused a x old new out last told =
     (tt, ((λ short. (again x InvalidLength (told.0 short).0, (told.0 short).1)), (λ fits. told.1 fits)))
 

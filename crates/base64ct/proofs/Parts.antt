@@ -1,6 +1,7 @@
 -- What a decoder gives in parts.
 use Rattle.std.proofs.Common.{◌≡◌, ℕ, ◌+◌, ◌-◌, ◌<◌, ◌≤◌, List, [], ◌++◌, length, take, drop, min, refl, sym, ap, ◌∙◌}
-use Rattle.std.proofs.Common.{subst, arith}
+use Rattle.std.proofs.Common.{subst, arith, replicate}
+use Rattle.std.proofs.lemmas.List.{length-replicate}
 use Rattle.std.proofs.lemmas.List.{length-append, take_at, drop_at, take-append-drop, length-take-le, length-drop}
 use Rattle.std.proofs.lemmas.List.{take_all, drop_all, drop-drop}
 use Rattle.std.proofs.lemmas.Slice.{take-put_mid}
@@ -9,6 +10,7 @@ use Rattle.base64ct.specs.Encoding.{Alphabet}
 use Rattle.base64ct.specs.Blocks.{decoded}
 use Rattle.base64ct.specs.Decoders.{Decoded, left, IsDecoded}
 use Rattle.base64ct.proofs.Wrapping.{length-put_mid}
+use Rattle.base64ct.proofs.Written.{length_back}
 
 pub left_after : (a : Alphabet) (old new : Decoded) (n : ℕ) (bytes : List ℕ) → IsDecoded a old new n bytes
     → left a new ≡ drop n (left a old)
@@ -93,6 +95,12 @@ rest_given a old new buf x out zeros start len n items es is el lz en d =
     )
 
 -- what was filled up is cut back
+-- behind the start of a vector that was lengthened by zeros stand as many
+pub lengthened : (buf x : List ℕ) (start k : ℕ) → start ≡ length buf → x ≡ buf ++ replicate k 0
+    → length (take (length x - start) (drop start x)) ≡ k
+lengthened buf x start k es is = length_back x start
+    ∙ omega (arith, ap length is, length-append buf (replicate k 0), length-replicate {A = ℕ} k 0)
+
 pub cut_back : (buf x out zeros : List ℕ) (start len : ℕ) (items : List ℕ) → start ≡ length buf → x ≡ buf ++ zeros
     → len ≡ length x → length out ≡ length zeros
     → take start (take len (put_mid start (length x - start) x out

@@ -7,6 +7,8 @@ use Rattle.std.specs.Prelude.{MatchOption}
 use Rattle.std.proofs.lemmas.Nat.{and_mask, and_le_r, le_or_l, le_or_r, or_lt}
 use Rattle.base64ct.specs.Encoding.{Alphabet, is_alphabet, character, value_of, unpadded_encoding, groups, whole_bytes}
 use Rattle.base64ct.specs.Encoding.{EachBelow, AreCharacters}
+use Rattle.base64ct.specs.Tables.{shaped}
+use Rattle.base64ct.specs.declared.tables.Shape.{Shape}
 use Rattle.base64ct.proofs.Sextets.{groups-whole_bytes, whole_bytes-block}
 use Rattle.base64ct.proofs.Values.{value_of-Some}
 
@@ -105,6 +107,25 @@ unpadded_from_values a c d e f v w x y low_first bytes h hc hd he hf order same 
       ← character_of_value a h e x he small.2,
       ← character_of_value a h f y hf small.3,
     ) refl
+
+-- by a table that stays as it was from one character to the next
+pub four_by_table : (shape : Shape) (cs by_d by_e by_f : List ℕ) (c d e f v w x y : ℕ)
+    → (let a = shaped cs shape in is_alphabet a ≡ true → by_d ≡ cs → by_e ≡ by_d → by_f ≡ by_e → IsValueOf a c v
+    → IsValueOf (shaped by_d shape) d w → IsValueOf (shaped by_e shape) e x → IsValueOf (shaped by_f shape) f y
+    → ((bit_or (bit_or (bit_or v w) x) y / 64 ≡ 0) ↔ AreCharacters a (c ∷ d ∷ e ∷ f ∷ []))
+    × ((low_first : Bool) (bytes : List ℕ) → low_first ≡ shape.low_first
+    → bytes ≡ whole_bytes low_first (bit_and v 63 ∷ bit_and w 63 ∷ bit_and x 63 ∷ bit_and y 63 ∷ [])
+    → bit_or (bit_or (bit_or v w) x) y / 64 ≡ 0 → unpadded_encoding a bytes ≡ c ∷ d ∷ e ∷ f ∷ []))
+four_by_table shape cs by_d by_e by_f c d e f v w x y h ed ee ef hc hd he hf =
+    let a = shaped cs shape in
+    let value : (k n : ℕ) (l : List ℕ) → l ≡ cs → IsValueOf (shaped l shape) k n → IsValueOf a k n = λ k n l same is.
+    subst (λ (l : List ℕ). IsValueOf (shaped l shape) k n) same is in
+    let d_is = value d w by_d ed hd in
+    let e_is = value e x by_e (ee ∙ ed) he in
+    let f_is = value f y by_f (ef ∙ ee ∙ ed) hf in (
+      fault_from_values a c d e f v w x y h hc d_is e_is f_is,
+      λ low_first bytes. unpadded_from_values a c d e f v w x y low_first bytes h hc d_is e_is f_is,
+    )
 
 pub bytes_from_values : (v w x y : ℕ) (low_first : Bool) (bytes : List ℕ)
     → bytes ≡ whole_bytes low_first (bit_and v 63 ∷ bit_and w 63 ∷ bit_and x 63 ∷ bit_and y 63 ∷ [])

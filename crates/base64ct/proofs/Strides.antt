@@ -4,7 +4,7 @@ use Rattle.std.proofs.Common.{◌++◌, length, map, take, drop, refl, sym, ap, 
 use Rattle.std.proofs.lemmas.List.{append_assoc, length-append, take_at, drop_at, take-append-drop, take-take}
 use Rattle.std.proofs.lemmas.List.{length-take-le, length-drop, nil_from_length, drop-drop, drop-take}
 use Rattle.std.proofs.lemmas.Slice.{take-put_mid}
-use Rattle.std.proofs.lemmas.Bool.{cases_lt}
+use Rattle.std.proofs.lemmas.Bool.{cases_lt, true≢false}
 use borrow.Rule.Slice.PartMut.{put_mid}
 use Rattle.base64ct.specs.Encoding.{Alphabet, is_alphabet, character, whole_bytes, unpadded_encoding, EachBelow}
 use Rattle.base64ct.specs.Encoding.{AreCharacters}
@@ -206,6 +206,3 @@ blocks_refused a w body t out kept src from done place left k n r lawful lt len 
     (good (p + 3 * i) (omega arith) (omega arith) (omega (arith, same, size, ls))) in
     let bytes = bytes_at_once a k s lawful size all in
     true≢false (sym (accepted bytes.0 bytes.1 (bytes.2 ∙ behind.chars ∙ sym es)) ∙ bad)
-  where
-    true≢false : true ≡ false → ⊥
-    true≢false e = cc

@@ -45,13 +45,6 @@ value_found (d ∷ cs) c lt = elim (cases_Bool (d == c)) [
       rw next (value_found cs c below)
 ]
 
-pub value_within : (cs : List ℕ) (c : ℕ) → value_at cs c ≤ length cs
-value_within [] c = omega arith
-value_within (d ∷ cs) c = elim (cases_Bool (d == c)) [
-  | inl found ↦ rw found (omega arith)
-  | inr other ↦ rw other (omega (arith, value_within cs c))
-]
-
 -- ---- of an alphabet
 
 pub IsAlphabet-parts : (a : Alphabet) → is_alphabet a ≡ true

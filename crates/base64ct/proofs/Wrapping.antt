@@ -67,12 +67,6 @@ room-across w room n some h =
     let none : room_after w room room ≡ 0 = room-short w room room (omega arith) ∙ omega arith in
     room_after-add w room room n ∙ rw none (room-new_line w n some h)
 
-pub room-within : (w room n : ℕ) → room ≤ w → room_after w room n ≤ w
-unfolding room_after
-room-within w room zero h = h
-room-within w zero (suc n) h = room-within w (w - 1) n (omega arith)
-room-within w (suc room) (suc n) h = room-within w room n (omega arith)
-
 -- without an ending the lines are one
 pub wrap-no_ending : (w room : ℕ) (t : List ℕ) → wrap_from w [] room t ≡ t
 unfolding wrap_from

@@ -2,7 +2,7 @@
 use Rattle.std.proofs.Common.{◌≡◌, ℕ, suc, ◌+◌, ◌≤◌, Bool, true, false, List, [], ◌∷◌, inl, inr, length, slice_index}
 use Rattle.std.proofs.Common.{refl, sym, ap, subst, ◌∙◌, eqb-true, arith}
 use Rattle.std.specs.Prelude.{None, not, ◌==◌, ◌||◌, ◌&&◌}
-use Rattle.std.proofs.lemmas.Bool.{cases_Bool, cases_lt}
+use Rattle.std.proofs.lemmas.Bool.{cases_Bool, cases_lt, true≢false}
 use Rattle.std.proofs.lemmas.Bool.Decides.{nat_tests}
 use Rattle.pieces.specs.Pieces.{before_pieces, pieces_at}
 use Rattle.pieces.proofs.Cuts.{cut_in_front}
@@ -25,9 +25,6 @@ in_front b ((c ∷ piece) ∷ pieces) fits none =
 no_cut : (b : ℕ) → is_field_byte b ≡ true → (b == 36) ≡ false
 no_cut b fits = grind (arith, nat_tests, fits)
 
-true_false : true ≡ false → ⊥
-true_false h = cc
-
 rest_good : (b : ℕ) (text : List ℕ) (n : ℕ) → AreGood (b ∷ text) 0 (suc n) → AreGood text 0 n
 rest_good b text n good k from below =
     let next : suc k + 1 ≡ suc (k + 1) = omega arith in
@@ -44,16 +41,16 @@ head_fits b (c ∷ text) last good other =
   where
     first_holds : (t u v : Bool) → (t || (u && v)) ≡ true → u ≡ false → t ≡ true
     first_holds true u v h e = refl
-    first_holds false true v h e = absurd (true_false e)
-    first_holds false false v h e = absurd (true_false (sym h))
+    first_holds false true v h e = absurd (true≢false e)
+    first_holds false false v h e = absurd (true≢false (sym h))
 
 behind_cut : (b next : ℕ) → is_good b next ≡ true → is_field_byte b ≡ false → (b ≡ 36) × ((next == 36) ≡ false)
 behind_cut b next good other = by_tests (is_field_byte b) (b == 36) (next == 36) good other refl
   where
     by_tests : (t u v : Bool) → (t || (u && not v)) ≡ true → t ≡ false → (b == 36) ≡ u → (b ≡ 36) × (v ≡ false)
-    by_tests true u v h e is = absurd (true_false e)
-    by_tests false false v h e is = absurd (true_false (sym h))
-    by_tests false true true h e is = absurd (true_false (sym h))
+    by_tests true u v h e is = absurd (true≢false e)
+    by_tests false false v h e is = absurd (true≢false (sym h))
+    by_tests false true true h e is = absurd (true≢false (sym h))
     by_tests false true false h e is = (eqb-true _ _ is, refl)
 
 pushed : (b : ℕ) (text : List ℕ) → is_field_byte b ≡ true

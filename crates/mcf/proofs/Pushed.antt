@@ -16,6 +16,7 @@ use Rattle.mcf.specs.declared.base64.Base64.TheVariants.{B64, Bcrypt, Crypt, Pbk
 use Rattle.mcf.specs.declared.error.Error.{Error}
 use Rattle.mcf.specs.declared.error.Error.TheVariants.{OutOfMemory}
 use Rattle.mcf.proofs.Built.{fault_pushed}
+use Rattle.pieces.proofs.ByteTests.{passes_at}
 
 abbrev ok_unit : Result (Unit {0}) Error
 ok_unit = Ok tt
@@ -45,21 +46,15 @@ pushed_parts field before after (Ok done) valid good (inr lacks) = absurd (ok_er
 
 -- ---- encodings
 
-passes_at : (cs : List ℕ) (i : ℕ) → list_all is_field_byte cs ≡ true → i < length cs
-    → is_field_byte (slice_index cs i) ≡ true
-passes_at [] i h below = absurd (omega (arith, below))
-passes_at (c ∷ cs) zero h below = (and_parts (is_field_byte c) (list_all is_field_byte cs) h).0
-passes_at (c ∷ cs) (suc i) h below =
-    passes_at cs i (and_parts (is_field_byte c) (list_all is_field_byte cs) h).1 (omega (arith, below))
-
 values_pass : (a : Alphabet) (values : List ℕ) → list_all is_field_byte a.characters ≡ true → length a.characters ≡ 64
     → EachBelow 64 values
     → list_all is_field_byte (map (character a) values ++ []) ≡ true
 values_pass a [] h size below = refl
 values_pass a (v ∷ values) h size below =
-    rw (passes_at a.characters v h (omega (arith, size, below 0))) (values_pass a values h size (λ i. below (suc i)))
+    let first = passes_at is_field_byte a.characters v h (omega (arith, size, below 0)) in
+    rw first (values_pass a values h size (λ i. below (suc i)))
 
-good_field : (s : List ℕ) → 1 ≤ length s → list_all is_field_byte s ≡ true → field_fault s ≡ None
+pub good_field : (s : List ℕ) → 1 ≤ length s → list_all is_field_byte s ≡ true → field_fault s ≡ None
 good_field [] some h = absurd (omega (arith, some))
 good_field (b ∷ s) some h = rw h refl
 

@@ -2,6 +2,7 @@
 use Rattle.std.proofs.Common.{◌≡◌, ℕ, Bool, true, false, List, length, refl, sym, ap, ap₂, ◌∙◌, Option, Some, None}
 use Rattle.std.proofs.Common.{Result, Ok, Err}
 use Rattle.std.specs.Prelude.{◌&&◌, nat_lt, is_ok, if◌then◌else◌}
+use Rattle.std.proofs.lemmas.Option.{none-some}
 use Rattle.base64ct.proofs.DecodingLaws.{same_true}
 use Rattle.mcf.specs.Grammar.{mcf, Parts}
 use Rattle.mcf.specs.declared.error.Error as mcf_error
@@ -140,9 +141,6 @@ both_may_lack first accepted_a accepted_b needs_a needs_b tag_a tag_b password s
 
 -- ---- costly texts
 
-none_some : (s : Scheme) → None ≡ Some s → ⊥
-none_some s e = cc
-
 if_same : (t : Bool) → (if t then true else false) ≡ t
 if_same true = refl
 if_same false = refl
@@ -168,7 +166,7 @@ module _ (first : List ℕ) (accepted : Accepted) (tag : Tag) (password : List �
 
   not_first : (id : List ℕ) (s : Scheme) (t : Bool) → scheme_of id ≡ Some s → same_text id first ≡ t → false ≡ t
   not_first id s false is same = refl
-  not_first id s true is same = absurd (none_some s (sym other ∙ ap scheme_of (sym (same_true id first same)) ∙ is))
+  not_first id s true is same = absurd (none-some s (sym other ∙ ap scheme_of (sym (same_true id first same)) ∙ is))
 
   cost_of_parts : (o : Option Scheme) (p : Parts) → scheme_of p.id ≡ o
       → (is_ok (parts_answer accepted tag password o p) && parts_need C o p)

@@ -8,6 +8,7 @@ use Rattle.std.specs.Fmt.{decimal}
 use Rattle.std.proofs.lemmas.Bool.{and_parts, false≢true}
 use Rattle.std.proofs.lemmas.Bool.Decides.{nat_tests}
 use Rattle.std.proofs.lemmas.Fmt.{digits_decimal}
+use Rattle.pieces.proofs.ByteTests.{passes_at}
 use Rattle.base64ct.specs.Alphabets.{base64_unpadded}
 use Rattle.base64ct.specs.Encoding.{EachBelow, character, groups}
 use Rattle.base64ct.specs.Encoding as base64
@@ -43,11 +44,6 @@ pub decimal_digits : (n : ℕ) → n < 2 ^ 32 → list_all is_ascii_digit (decim
 decimal_digits n h = digits_decimal own n (omega (arith, h))
 
 -- ---- encodings
-
-passes_at : (p : ℕ → Bool) (cs : List ℕ) (i : ℕ) → list_all p cs ≡ true → i < length cs → p (slice_index cs i) ≡ true
-passes_at p [] i h below = absurd (omega (arith, below))
-passes_at p (c ∷ cs) zero h below = (and_parts (p c) (list_all p cs) h).0
-passes_at p (c ∷ cs) (suc i) h below = passes_at p cs i (and_parts (p c) (list_all p cs) h).1 (omega (arith, below))
 
 characters_pass : (p : ℕ → Bool) (values : List ℕ) → list_all p base64_unpadded.characters ≡ true → EachBelow 64 values
     → list_all p (map (character base64_unpadded) values) ≡ true

@@ -5,6 +5,7 @@ use Rattle.std.specs.Prelude.{Option, Some, None, is_some, nat_le, nat_lt, ◌==
 use Rattle.std.specs.Str.{IsUtf8}
 use Rattle.std.proofs.lemmas.Bool.Decides.{nat_tests}
 use Rattle.std.proofs.lemmas.Str.{IsUtf8-from_ascii}
+use Rattle.std.proofs.lemmas.Option.{same_Some}
 use Rattle.base64ct.specs.Alphabets.{base64_unpadded}
 use Rattle.base64ct.specs.Counts.{comparison_count}
 use Rattle.base64ct.specs.Encoding.{EachBelow, byte_count, decoded_len, longest_input}
@@ -76,15 +77,12 @@ pub salt_utf8 : (t : List ℕ) → salt_fault t ≡ None → IsUtf8 t
 salt_utf8 t h = let salt = salt_bytes t h in
     rw salt.text (IsUtf8-from_ascii _ (encoding_ascii base64_unpadded salt.bytes refl))
 
-some_same : (a b : List ℕ) → Some a ≡ Some b → a ≡ b
-some_same a b h = cc
-
 -- the bytes of the text of a salt are those of a salt
 pub salt_of_text : (t b : List ℕ) → salt_fault t ≡ None → decoding t ≡ Some b
     → (8 ≤ length b) × (length b ≤ 48) × (t ≡ encoding b)
 salt_of_text t b h is =
     let salt = salt_bytes t h in
-    let same : salt.bytes ≡ b = some_same salt.bytes b (sym salt.decoded ∙ is) in
+    let same : salt.bytes ≡ b = same_Some salt.bytes b (sym salt.decoded ∙ is) in
     (rw same at salt.least, rw same at salt.most, rw same at salt.text)
 
 -- bytes with enough room are encoded

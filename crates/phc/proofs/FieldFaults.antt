@@ -12,9 +12,10 @@ use Rattle.phc.specs.declared.error.Error.{Error}
 use Rattle.phc.specs.declared.error.Error.TheVariants.{Base64, OutputSize, ParamValueInvalid, ParamValueTooLong}
 use Rattle.phc.specs.declared.error.Error.TheVariants.{SaltTooLong, SaltTooShort}
 
--- two tests, and three
-two : (a b : Bool) (e f : Error) → first_fault (unless a e ∷ (unless b f ∷ [])) ≡ None → (a ≡ true) × (b ≡ true)
-two a b e f h =
+-- both_hold tests, and three
+pub both_hold : (a b : Bool) (e f : Error) → first_fault (unless a e ∷ (unless b f ∷ [])) ≡ None
+    → (a ≡ true) × (b ≡ true)
+both_hold a b e f h =
     let first = first_none (unless a e) (unless b f ∷ []) h in
     (unless_none a e first.0, unless_none b f (first_none (unless b f) [] first.1).0)
 
@@ -27,12 +28,12 @@ three : (a b c : Bool) (e f g : Error) → first_fault (unless a e ∷ (unless b
     → Three a b c
 three a b c e f g h =
     let head = first_none (unless a e) (unless b f ∷ (unless c g ∷ [])) h in
-    let tail = two b c f g head.1 in
+    let tail = both_hold b c f g head.1 in
     record { first = unless_none a e head.0; second = tail.0; third = tail.1 }
 
 pub decimal_found : (digits : List ℕ) → version_fault digits ≡ None → is_some (decimal_value digits) ≡ true
 decimal_found digits h =
-    (two (nat_le (length digits) 64) (is_some (decimal_value digits)) ParamValueTooLong ParamValueInvalid h).1
+    (both_hold (nat_le (length digits) 64) (is_some (decimal_value digits)) ParamValueTooLong ParamValueInvalid h).1
 
 pub record IsGoodSalt (t : List ℕ) : Type 0 where
   pub least : 11 ≤ length t

@@ -7,7 +7,7 @@ use Rattle.std.proofs.lemmas.Str.{IsUtf8-from_ascii}
 use Rattle.std.proofs.lemmas.Str.Ascii.{IsAscii-nil, IsAscii-cons}
 use Rattle.phc.specs.Grammar.{is_name, is_name_byte}
 
-name_byte_ascii : (b : ℕ) → is_name_byte b ≡ true → b < 128
+pub name_byte_ascii : (b : ℕ) → is_name_byte b ≡ true → b < 128
 name_byte_ascii b h = grind (arith, nat_tests)
 
 first_of_both : (x y : Bool) → (x && y) ≡ true → x ≡ true

@@ -5,10 +5,11 @@ use Rattle.std.specs.Prelude.{nat_le, nat_lt, is_some, Option, Some, None, Ok, E
 use Rattle.std.specs.List.{join_with_byte, list_all}
 use Rattle.std.specs.Option.{option_map}
 use Rattle.std.specs.Str.{IsAscii, IsUtf8}
-use Rattle.std.proofs.lemmas.Bool.{and_parts}
+use Rattle.std.proofs.lemmas.Bool.{and_parts, false≢true}
 use Rattle.std.proofs.lemmas.Bool.Decides.{nat_tests}
 use Rattle.std.proofs.lemmas.Str.{IsUtf8-from_ascii, IsAscii-append}
 use Rattle.std.proofs.lemmas.Str.Ascii.{IsAscii-nil, IsAscii-cons}
+use Rattle.std.proofs.lemmas.Option.{same_Some, none-some}
 use Rattle.pieces.specs.Pieces.{pieces_at}
 use Rattle.pieces.specs.Lists.{is_empty}
 use Rattle.pieces.proofs.Cuts.{cut_of, join_pieces}
@@ -22,9 +23,6 @@ use Rattle.phc.specs.declared.error.Error.TheVariants.{ParamsMaxExceeded}
 use Rattle.phc.proofs.PairTexts.{good_pair, pairs_valid, valid_pairs}
 use Rattle.pieces.proofs.FaultLaws.{first_none}
 use Rattle.phc.proofs.ValueBytes.{name_ascii, value_ascii, value_parts}
-
-false_true : false ≡ true → ⊥
-false_true x = cc
 
 -- ---- one pair
 
@@ -63,7 +61,7 @@ parts_ascii (part ∷ (next ∷ parts)) h =
 
 -- the pairs of a nonempty text without a fault have none
 pub pairs_good : (s : List ℕ) → text_fault s ≡ None → is_empty s ≡ false → pairs_fault (pieces_at 44 s) ≡ None
-pairs_good [] h some = absurd (false_true (sym some))
+pairs_good [] h some = absurd (false≢true (sym some))
 pairs_good (b ∷ s) h some =
     (first_none (unless (nat_le (length (b ∷ s)) 127) ParamsMaxExceeded) (map pair_fault (cut_pairs (b ∷ s))) h).1
 
@@ -123,9 +121,6 @@ grown s name value h n v short =
 
 -- ---- an addition
 
-some_same : (a b : List ℕ) → Some a ≡ Some b → a ≡ b
-some_same a b h = cc
-
 -- what is told by the longer text, where there is one
 pub fits : (s name value t : List ℕ)
     → Some t ≡ (if nat_lt 127 (length (appended s name value)) then None else Some (appended s name value))
@@ -135,7 +130,7 @@ fits s name value t h = by_test (nat_lt 127 (length (appended s name value))) re
     by_test : (long : Bool) → nat_lt 127 (length (appended s name value)) ≡ long
         → Some t ≡ (if long then None else Some (appended s name value))
         → (t ≡ appended s name value) × (nat_lt 127 (length (appended s name value)) ≡ false)
-    by_test false is e = (some_same t (appended s name value) e, is)
+    by_test false is e = (same_Some t (appended s name value) e, is)
     by_test true is e = absurd (some_text t e)
       where
         some_text : (x : List ℕ) → Some x ≡ None → ⊥
@@ -151,10 +146,7 @@ too_long s name value h = by_test (nat_lt 127 (length (appended s name value))) 
         → None ≡ (if long then None else Some (appended s name value))
         → nat_lt 127 (length (appended s name value)) ≡ true
     by_test true is e = is
-    by_test false is e = absurd (none_text (appended s name value) e)
-      where
-        none_text : (x : List ℕ) → None ≡ Some x → ⊥
-        none_text x y = cc
+    by_test false is e = absurd (none-some (appended s name value) e)
 
 pub at_most : (n : ℕ) → nat_lt 127 n ≡ false → n ≤ 127
 at_most n h = grind (arith, nat_tests, h)
@@ -176,4 +168,4 @@ refusal s name value h fresh long = rw (fresh, appended_text s name value h, lon
 pub absent : {A : Type 0} (text : A → List ℕ) (r : Option A) (g : Option (List ℕ)) → option_map text r ≡ g
     → is_some r ≡ false → is_some g ≡ false
 absent text None g is none = rw (← is) refl
-absent text (Some a) g is none = absurd (false_true (sym none))
+absent text (Some a) g is none = absurd (false≢true (sym none))

@@ -10,6 +10,7 @@ use Rattle.pieces.proofs.Cuts.{cut_joined, first_cut, one_piece}
 use Rattle.phc.specs.Grammar.{cut_pairs, has_value_bytes, is_name, is_name_byte, is_value_byte}
 use Rattle.pieces.specs.Faults.{first_fault, unless}
 use Rattle.pieces.proofs.FaultLaws.{first_none, or_none, some_none, unless_none}
+use Rattle.pieces.proofs.ListLaws.{nil_of_empty}
 use Rattle.phc.specs.Grammar.{behind_name_fault, name_fault, pair_fault, pair_of, text_fault, text_pairs, value_fault}
 use Rattle.phc.specs.Params.{Pairs, pair_text, pairs_text}
 use Rattle.phc.specs.Record.{is_pair}
@@ -118,10 +119,6 @@ pub record GoodPair (pieces : List (List ℕ)) : Type 0 where
   pub is_name : is_name name ≡ true
   pub is_value : value_fault value ≡ None
 
-none_left : (ps : List (List ℕ)) → is_empty ps ≡ true → ps ≡ []
-none_left [] e = refl
-none_left (p ∷ ps) e = cc
-
 pub good_pair : (pieces : List (List ℕ)) → pair_fault pieces ≡ None → GoodPair pieces
 good_pair [] h = absurd (some_none ParamNameInvalid h)
 good_pair (name ∷ []) h =
@@ -133,7 +130,7 @@ good_pair (name ∷ (value ∷ more)) h =
       name = name;
       value = value;
       are = ap (λ (ps : List (List ℕ)). name ∷ value ∷ ps)
-          (none_left more (unless_none (is_empty more) ParamValueInvalid behind.1));
+          (nil_of_empty more (unless_none (is_empty more) ParamValueInvalid behind.1));
       is_name = unless_none (is_name name) ParamNameInvalid parts.0;
       is_value = behind.0;
     }

@@ -23,6 +23,7 @@ use Rattle.phc.specs.Grammar.{hash_fault, is_name, is_name_byte, is_value_byte, 
 use Rattle.pieces.specs.Numbers.{has_leading_zero, number_after}
 use Rattle.phc.specs.Grammar.{pairs_of, params_text, salt_fault, text_fault, version_digits}
 use Rattle.pieces.specs.Faults.{value_or_fault}
+use Rattle.pieces.proofs.ListLaws.{no_leading_zero}
 use Rattle.phc.specs.Grammar.{version_fault}
 use Rattle.phc.specs.Params.{Pairs, pair_text, pairs_text}
 use Rattle.phc.specs.Record.{IsRecord, bytes_part, hash_part, is_lone_v, is_pair, is_printable, params_part, phc}
@@ -32,6 +33,7 @@ use Rattle.phc.proofs.Characters.{all_append, all_weaker, decimal_digits, encodi
 use Rattle.phc.proofs.Decimals.{own}
 use Rattle.phc.proofs.PairTexts.{is_pair_byte, pair_bytes, pair_parts, valid_pairs}
 use Rattle.phc.proofs.Printed.{join_shown, shown}
+use Rattle.phc.proofs.EncodedBytes.{encoded_length}
 
 -- ---- the pieces of a record
 
@@ -320,12 +322,7 @@ zero_alone = refl
 
 leading : (n : ℕ) → n < 2 ^ 32 → has_leading_zero (decimal n) ≡ false
 leading zero h = zero_alone
-leading (suc n) h = by_text (decimal (suc n)) (first_decimal (suc n) (omega arith) (omega (arith, h)))
-  where
-    by_text : (s : List ℕ) → 48 < get_or s 0 0 → has_leading_zero s ≡ false
-    by_text [] e = refl
-    by_text (b ∷ []) e = refl
-    by_text (b ∷ (c ∷ s)) e = grind (arith, nat_tests, e)
+leading (suc n) h = no_leading_zero (decimal (suc n)) (first_decimal (suc n) (omega arith) (omega (arith, h)))
 
 decimal_read : (n : ℕ) → n < 2 ^ 32 → decimal_value (decimal n) ≡ Some n
 decimal_read n h =
@@ -360,15 +357,12 @@ params_read (p ∷ ps) h short = (valid_pairs (p ∷ ps) h short).1
 bytes_read : (b : List ℕ) → EachBelow 256 b → decoding (encoding b) ≡ Some b
 bytes_read b below = decoding-encoding base64_unpadded b refl below
 
-encoding_len : (b : List ℕ) → EachBelow 256 b → length (encoding b) ≡ (4 * length b + 2) / 3
-encoding_len b below = length-decodable base64_unpadded (encoding b) b refl (bytes_read b below)
-
 salt_none : (salt : Option (List ℕ)) → IfSome salt (λ b. EachBelow 256 b × (8 ≤ length b) × (length b ≤ 48))
     → fault_of salt_fault (option_map encoding salt) ≡ None
 salt_none None h = refl
 salt_none (Some b) h =
-    let long : 11 ≤ length (encoding b) = omega (arith, encoding_len b h.0, h.1) in
-    let short : length (encoding b) ≤ 64 = omega (arith, encoding_len b h.0, h.2) in
+    let long : 11 ≤ length (encoding b) = omega (arith, encoded_length b h.0, h.1) in
+    let short : length (encoding b) ≤ 64 = omega (arith, encoded_length b h.0, h.2) in
     let one : nat_le 11 (length (encoding b)) ≡ true = grind (arith, nat_tests, long) in
     let two : nat_le (length (encoding b)) 64 ≡ true = grind (arith, nat_tests, short) in
     rw (one, two, bytes_read b h.0) refl
@@ -377,7 +371,7 @@ hash_none : (hash : Option (List ℕ)) → IfSome hash (λ b. EachBelow 256 b ×
     → fault_of hash_fault (option_map encoding hash) ≡ None
 hash_none None h = refl
 hash_none (Some b) h =
-    let short : length (encoding b) ≤ 86 = omega (arith, encoding_len b h.0, h.2) in
+    let short : length (encoding b) ≤ 86 = omega (arith, encoded_length b h.0, h.2) in
     let one : nat_le (length (encoding b)) 86 ≡ true = grind (arith, nat_tests, short) in
     let long : nat_le 10 (length b) ≡ true = grind (arith, nat_tests, h.1) in
     rw (one, bytes_read b h.0, long) refl

@@ -9,8 +9,9 @@ use Rattle.std.specs.List.{list_all, starts_with, join_with_byte}
 use Rattle.std.specs.Char.{is_ascii_digit}
 use Rattle.std.proofs.lemmas.List.{append-nil}
 use Rattle.std.proofs.lemmas.Fmt.{decimal-digits_value}
-use Rattle.std.proofs.lemmas.Bool.{and_parts}
+use Rattle.std.proofs.lemmas.Bool.{and_parts, false≢true}
 use Rattle.std.proofs.lemmas.Bool.Decides.{nat_tests}
+use Rattle.std.proofs.lemmas.Option.{none-some, same_Some}
 use Rattle.pieces.specs.Pieces.{pieces_at, first}
 use Rattle.pieces.specs.Lists.{is_empty}
 use Rattle.pieces.proofs.Cuts.{cut_of, join_pieces}
@@ -41,15 +42,6 @@ pub join_shown : (id : List ℕ) (pieces : List (List ℕ)) → join_with_byte 3
 join_shown id [] = sym (append-nil id)
 join_shown id (p ∷ ps) = ap (λ (t : List ℕ). id ++ (36 ∷ t)) (join_shown p ps)
 
-none_some : {A : Type 0} (e : A) → None ≡ Some e → ⊥
-none_some e h = cc
-
-some_same : {A : Type 0} (a b : A) → Some a ≡ Some b → a ≡ b
-some_same a b h = cc
-
-false_true : false ≡ true → ⊥
-false_true x = cc
-
 -- ---- the version
 
 version_text : (q digits : List ℕ) → version_digits q ≡ Some digits → q ≡ codes "v=" ++ digits
@@ -57,11 +49,11 @@ version_text q digits h = by_tests (has 44 q) (starts_with nat_eq q (codes "v=")
   where
     by_tests : (comma starts : Bool) → starts_with nat_eq q (codes "v=") ≡ starts
         → (if comma then None else (if starts then Some (drop 2 q) else None)) ≡ Some digits → q ≡ codes "v=" ++ digits
-    by_tests true starts is e = absurd (none_some digits e)
-    by_tests false false is e = absurd (none_some digits e)
+    by_tests true starts is e = absurd (none-some digits e)
+    by_tests false false is e = absurd (none-some digits e)
     by_tests false true is e =
         let front : codes "v=" ≡ take 2 q = same_true (codes "v=") (take 2 q) is in
-        let rest : drop 2 q ≡ digits = some_same (drop 2 q) digits e in
+        let rest : drop 2 q ≡ digits = same_Some (drop 2 q) digits e in
         sym (take-append-drop 2 q) ∙ ap (λ (x : List ℕ). x ++ drop 2 q) (sym front)
         ∙ ap (λ (x : List ℕ). codes "v=" ++ x) rest
 
@@ -76,7 +68,7 @@ decimal_back digits n h =
   where
     by_test : (t : Bool) → (is_plain digits && nat_le 1 (length digits) && nat_lt (number_after 0 digits) (2 ^ 32)) ≡ t
         → (if t then Some (number_after 0 digits) else None) ≡ Some n → decimal n ≡ digits
-    by_test false is e = absurd (none_some n e)
+    by_test false is e = absurd (none-some n e)
     by_test true is e =
         let outer = and_parts (is_plain digits && nat_le 1 (length digits)) (nat_lt (number_after 0 digits) (2 ^ 32))
         is in
@@ -84,7 +76,7 @@ decimal_back digits n h =
         let plain = and_parts (list_all is_ascii_digit digits) (not (has_leading_zero digits)) inner.0 in
         let some : 0 < length digits = grind (arith, nat_tests, inner.1) in
         let small : number_after 0 digits < 2 ^ 32 = grind (arith, nat_tests, outer.1) in
-        ap decimal (sym (some_same (number_after 0 digits) n e))
+        ap decimal (sym (same_Some (number_after 0 digits) n e))
         ∙ decimal-digits_value own digits plain.0 some (lone_zero digits plain.1) (omega (arith, small))
 
 version_case : (q : List ℕ) (qs : List (List ℕ)) (r : Option (List ℕ)) → version_digits q ≡ r
@@ -95,7 +87,7 @@ version_case q qs (Some digits) is h = by_value (decimal_value digits) refl
   where
     by_value : (n : Option ℕ) → decimal_value digits ≡ n → shown (q ∷ qs) ≡ version_part n ++ shown qs
     by_value None e =
-        absurd (false_true (ap is_some (sym e) ∙ decimal_found digits h))
+        absurd (false≢true (ap is_some (sym e) ∙ decimal_found digits h))
     by_value (Some n) e = rw (version_text q digits is, decimal_back digits n e) refl
 
 version_shown : (pieces : List (List ℕ)) → fault_of version_fault (read_first version_digits pieces) ≡ None
@@ -121,7 +113,7 @@ params_case : (q : List ℕ) (qs : List (List ℕ)) (test : Bool) → has 61 q �
     → shown (q ∷ qs) ≡ params_part (pairs_of (if test then Some q else None))
     ++ shown (pieces_behind (if test then Some q else None) (q ∷ qs))
 params_case q qs false is h = refl
-params_case [] qs true is h = absurd (false_true is)
+params_case [] qs true is h = absurd (false≢true is)
 params_case (b ∷ q) qs true is h = ap (λ (t : List ℕ). t ++ shown qs) (sym (pairs_shown b q h))
 
 params_shown : (pieces : List (List ℕ)) → fault_of text_fault (read_first params_text pieces) ≡ None
@@ -134,7 +126,7 @@ params_shown (q ∷ qs) h = params_case q qs (has 61 q) refl h
 
 bytes_case : (q : List ℕ) (qs : List (List ℕ)) (r : Option (List ℕ)) → decoding q ≡ r → is_some r ≡ true
     → shown (q ∷ qs) ≡ bytes_part r ++ shown qs
-bytes_case q qs None is some = absurd (false_true some)
+bytes_case q qs None is some = absurd (false≢true some)
 bytes_case q qs (Some b) is some = ap (λ (t : List ℕ). 36 ∷ (t ++ shown qs)) (decoding-Some base64_unpadded q b is).1
 
 salt_shown : (pieces : List (List ℕ)) → fault_of salt_fault (first pieces) ≡ None
@@ -158,12 +150,12 @@ behind_salt (q ∷ qs) hs hh = by_salt (decoding q) refl (good_salt q hs).decode
   where
     by_salt : (r : Option (List ℕ)) → decoding q ≡ r → is_some r ≡ true
         → shown qs ≡ hash_part r (option_and_then decoding (first qs)) ++ shown (drop 1 qs)
-    by_salt None is some = absurd (false_true some)
+    by_salt None is some = absurd (false≢true some)
     by_salt (Some b) is some = hash_shown qs hh
 
 nothing_shown : (pieces : List (List ℕ)) → is_empty pieces ≡ true → shown pieces ≡ []
 nothing_shown [] h = refl
-nothing_shown (q ∷ qs) h = absurd (false_true h)
+nothing_shown (q ∷ qs) h = absurd (false≢true h)
 
 -- ---- the whole
 

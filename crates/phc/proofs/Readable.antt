@@ -8,6 +8,8 @@ use Rattle.std.specs.List.{list_all, starts_with}
 use Rattle.std.specs.Cmp.Lexicographic.{pointwise}
 use Rattle.std.proofs.lemmas.Bool.{and_parts, false≢true}
 use Rattle.std.proofs.lemmas.Bool.Decides.{nat_tests}
+use Rattle.std.proofs.lemmas.Option.{none-some}
+use Rattle.std.proofs.Math.Bool.{and-false}
 use Rattle.pieces.specs.Pieces.{first, pieces_at}
 use Rattle.base64ct.specs.Alphabets.{base64_unpadded}
 use Rattle.base64ct.specs.Encoding.{EachBelow}
@@ -32,13 +34,6 @@ use Rattle.phc.proofs.LayoutFaults.{good_parts}
 use Rattle.phc.proofs.PairTexts.{is_pair_byte, pair_bytes, pairs_valid}
 use Rattle.pieces.proofs.FaultLaws.{err_ok, first_none, unless_none, value_found}
 
-none_some : {A : Type 0} (a : A) → None ≡ Some a → ⊥
-none_some a h = cc
-
-and_false : (x : Bool) → (x && false) ≡ false
-and_false true = refl
-and_false false = refl
-
 -- ---- a hash stands behind a salt
 
 some_not_none : {A : Type 0} (o : Option A) → is_some o ≡ true → is_none o ≡ false
@@ -50,7 +45,7 @@ hash_behind_salt : (pieces : List (List ℕ)) → fault_of salt_fault (first pie
     ≡ false
 hash_behind_salt [] h = refl
 hash_behind_salt (q ∷ qs) h =
-    rw (some_not_none (decoding q) (good_salt q h).decodes) (and_false (is_some (option_and_then decoding (first qs))))
+    rw (some_not_none (decoding q) (good_salt q h).decodes) (and-false (is_some (option_and_then decoding (first qs))))
 
 -- ---- one single pair named `v` is a version
 
@@ -77,7 +72,7 @@ lone_pairs q (p ∷ []) is h none = by_test (pointwise nat_eq p.0 (codes "v")) r
 
     by_test : (t : Bool) → pointwise nat_eq p.0 (codes "v") ≡ t → t ≡ false
     by_test false e = refl
-    by_test true e = absurd (none_some p.1 (sym none ∙ lone_version q p text valid e))
+    by_test true e = absurd (none-some p.1 (sym none ∙ lone_version q p text valid e))
 
 params_case : (q : List ℕ) (test : Bool) → version_digits q ≡ None
     → fault_of text_fault (if test then Some q else None) ≡ None

@@ -18,30 +18,20 @@ use Rattle.phc.specs.declared.error.Error.{Error}
 use Rattle.phc.specs.declared.error.Error.TheVariants.{ParamValueInvalid, ParamValueTooLong}
 use Rattle.phc.proofs.Characters.{all_weaker, encoding_value}
 use Rattle.phc.proofs.EncodedBytes.{encoded_length}
+use Rattle.phc.proofs.FieldFaults.{both_hold}
+use Rattle.phc.proofs.NameLemmas.{name_byte_ascii}
 use Rattle.pieces.proofs.FaultLaws.{some_none}
+use Rattle.pieces.proofs.ByteTests.{all_ascii}
 
 -- ---- a test of each byte
 
-pub all_ascii : (P : ℕ → Bool) → ((b : ℕ) → P b ≡ true → b < 128) → (s : List ℕ) → list_all P s ≡ true → IsAscii s
-all_ascii P small [] h = IsAscii-nil
-all_ascii P small (b ∷ s) h = let parts = and_parts (P b) (list_all P s) h in
-    IsAscii-cons b s (small b parts.0) (all_ascii P small s parts.1)
-
 -- ---- names and values
-
-name_byte_ascii : (b : ℕ) → is_name_byte b ≡ true → b < 128
-name_byte_ascii b h = grind (arith, nat_tests)
 
 value_byte_ascii : (b : ℕ) → is_value_byte b ≡ true → b < 128
 value_byte_ascii b h = grind (arith, nat_tests)
 
 digit_is_value : (b : ℕ) → is_ascii_digit b ≡ true → is_value_byte b ≡ true
 digit_is_value b h = grind (arith, nat_tests)
-
-both_hold : (p q : Bool) (e f : Error) → first_fault (unless p e ∷ (unless q f ∷ [])) ≡ None → (p ≡ true) × (q ≡ true)
-both_hold true true e f h = (refl, refl)
-both_hold true false e f h = absurd (some_none f h)
-both_hold false q e f h = absurd (some_none e h)
 
 -- a value has at most 64 bytes, all of them those of values
 pub value_parts : (s : List ℕ) → value_fault s ≡ None → (length s ≤ 64) × (has_value_bytes s ≡ true)

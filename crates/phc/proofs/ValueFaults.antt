@@ -4,6 +4,7 @@ use Rattle.std.specs.Prelude.{◌&&◌, nat_le, Some, None}
 use Rattle.std.specs.List.{join_with_byte}
 use Rattle.std.proofs.lemmas.Bool.{and_parts}
 use Rattle.std.proofs.lemmas.Bool.Decides.{nat_tests}
+use Rattle.std.proofs.Math.Bool.{and-false}
 use Rattle.pieces.specs.Faults.{first_fault, or_else, unless}
 use Rattle.pieces.specs.Lists.{is_empty}
 use Rattle.pieces.specs.Pieces.{pieces_at}
@@ -38,11 +39,7 @@ not_both text value [] cut short none =
     and_true : (t : Bool) → t ≡ false → (t && true) ≡ false
     and_true false h = refl
     and_true true h = cc
-not_both text value (piece ∷ more) cut short none = and_false (has_value_bytes value)
-  where
-    and_false : (t : Bool) → (t && false) ≡ false
-    and_false true = refl
-    and_false false = refl
+not_both text value (piece ∷ more) cut short none = and-false (has_value_bytes value)
 
 pub invalid : (text value : List ℕ) (more : List (List ℕ)) → pieces_at 61 text ≡ value ∷ more → length value ≤ 64
     → (nat_le (length text) 64 && has_value_bytes text) ≡ false

@@ -1,7 +1,10 @@
 -- Texts whose bytes all pass a test.
-use Rattle.std.proofs.Common.{◌≡◌, ℕ, zero, suc, Bool, true, false, List, [], ◌∷◌, ◌++◌, refl, sym, ap, ◌∙◌, arith}
+use Rattle.std.proofs.Common.{◌≡◌, ℕ, zero, suc, ◌<◌, Bool, true, false, List, [], ◌∷◌, ◌++◌, length, slice_index}
+use Rattle.std.proofs.Common.{refl, sym, ap, ◌∙◌, arith}
 use Rattle.std.specs.List.{list_all}
+use Rattle.std.specs.Prelude.{IsAscii}
 use Rattle.std.proofs.lemmas.Bool.{and_parts, false≢true}
+use Rattle.std.proofs.lemmas.Str.Ascii.{IsAscii-nil, IsAscii-cons}
 use Rattle.pieces.specs.Pieces.{LacksByte}
 
 -- a text of bytes among which c is none
@@ -26,3 +29,17 @@ all_weaker p q weaker [] h = refl
 all_weaker p q weaker (b ∷ s) h =
     let parts = and_parts (p b) (list_all p s) h in
     rw (weaker b parts.0) (all_weaker p q weaker s parts.1)
+
+-- one byte of a text
+pub passes_at : (p : ℕ → Bool) (cs : List ℕ) (i : ℕ) → list_all p cs ≡ true → i < length cs
+    → p (slice_index cs i) ≡ true
+passes_at p [] i h below = absurd (omega (arith, below))
+passes_at p (c ∷ cs) zero h below = (and_parts (p c) (list_all p cs) h).0
+passes_at p (c ∷ cs) (suc i) h below = passes_at p cs i (and_parts (p c) (list_all p cs) h).1 (omega (arith, below))
+
+-- a test that ASCII bytes alone pass
+pub all_ascii : (p : ℕ → Bool) → ((b : ℕ) → p b ≡ true → b < 128) → (s : List ℕ) → list_all p s ≡ true → IsAscii s
+all_ascii p small [] h = IsAscii-nil
+all_ascii p small (b ∷ s) h =
+    let both = and_parts (p b) (list_all p s) h in
+    IsAscii-cons b s (small b both.0) (all_ascii p small s both.1)

@@ -7,6 +7,7 @@ use Rattle.std.specs.Str.Pattern.{FindsTextPrefix}
 use Rattle.std.specs.Str.{IsCharBoundary}
 use Rattle.std.proofs.lemmas.Bool.Decides.{nat_tests}
 use Rattle.std.proofs.lemmas.Str.Pattern.{starts_text}
+use Rattle.std.proofs.lemmas.Option.{none-some}
 use Rattle.pieces.specs.Pieces.{pieces_at, pieces_left, lent, behind}
 use Rattle.pieces.specs.Lists.{is_empty}
 use Rattle.pieces.proofs.Cuts.{cut_in_front, cut_of, same_byte}
@@ -27,9 +28,6 @@ behind_is text front (Some x) h =
     let yes = starts_text true front text (h.0, h.1, boundary) in
     rw (← yes) (ap Some (h.2 ∙ ap (λ k. drop k text) h.1.0))
 
-none_some : (body : List ℕ) → None ≡ Some body → ⊥
-none_some body h = cc
-
 -- what stands behind the cut with which a text begins
 pub behind_cut : (c : ℕ) (text body : List ℕ) → behind text (c ∷ []) ≡ Some body
     → pieces_at c text ≡ [] ∷ pieces_at c body
@@ -48,7 +46,7 @@ behind_cut c (b ∷ text) body is = by_test (c == b) refl is
         ap (λ (x : ℕ). pieces_at c (x ∷ text)) e ∙ cut_in_front c text ∙ ap (λ t. [] ∷ pieces_at c t) inner
     by_test false same is =
         let none : behind (b ∷ text) (c ∷ []) ≡ None = rw same refl in
-        absurd (none_some body (sym none ∙ is))
+        absurd (none-some body (sym none ∙ is))
 
 -- a text that doesn't begin with the cut is empty, or its first piece isn't
 pub no_cut_in_front : (c b : ℕ) (text : List ℕ) → behind (b ∷ text) (c ∷ []) ≡ None → (b == c) ≡ false
@@ -57,5 +55,5 @@ no_cut_in_front c b text is = by_test (c == b) refl is
     by_test : (t : Bool) → (c == b) ≡ t → behind (b ∷ text) (c ∷ []) ≡ None → (b == c) ≡ false
     by_test true same is =
         let found : behind (b ∷ text) (c ∷ []) ≡ Some text = rw same refl in
-        absurd (none_some text (sym is ∙ found))
+        absurd (none-some text (sym is ∙ found))
     by_test false same is = grind (arith, nat_tests, same)

@@ -2,6 +2,7 @@ pub mod ByteTests
 pub mod Cuts
 pub mod FaultLaws
 pub mod Fronts
+pub mod ListLaws
 mod Vectors
 mod Ascii
 mod LastPlaces

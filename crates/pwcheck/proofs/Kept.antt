@@ -3,6 +3,7 @@ use Rattle.std.proofs.Common.{◌≡◌, ◌≢◌, ℕ, ◌<◌, ◌≤◌, Lis
 use Rattle.std.proofs.Common.{arith, Option, Some}
 use Rattle.std.specs.Io.KnownBytes.{Consumes, Appends, IsAtEnd}
 use Rattle.std.proofs.lemmas.List.{length-append, nil_from_length}
+use Rattle.std.proofs.lemmas.Option.{same_Some}
 use Rattle.line_io.specs.Devices.{WhereTold}
 use Rattle.line_io.proofs.Moved.{where_told, where_told_end, appends_none}
 use Rattle.base64ct.specs.Encoding.{encoding, EachBelow}
@@ -11,7 +12,6 @@ use Rattle.base64ct.specs.Blocks.{decoded, AskedAreGood, IsEncoding}
 use Rattle.base64ct.specs.Wrapping.{wrap, Wrapped, layout, HoldsOnlyEnds}
 use Rattle.base64ct.specs.Decoders.{Decoded, IsOpened, left}
 use Rattle.base64ct.proofs.Padding.{length-encoding}
-use Rattle.base64ct.proofs.Firsts.{Some-once}
 use Rattle.base64ct.proofs.GoodBlocks.{encoding_by_blocks}
 use Rattle.base64ct.proofs.Encoders.{wrap_is}
 use Rattle.base64ct.proofs.Wrapping.{wrap-nil}
@@ -120,7 +120,7 @@ pub unwraps_bad : (w : ℕ) (input t output : List ℕ) (from n : ℕ) → 4 ≤
 unwraps_bad w input t output from n wide some made bad u =
     let parts = unwraps_parts w input output some u in
     let other = unwraps_opened w input output wide some u in
-    let same : encoding base64 output ≡ t = Some-once (encoding base64 output) t (sym other.1.0 ∙ made.0) in
+    let same : encoding base64 output ≡ t = same_Some (encoding base64 output) t (sym other.1.0 ∙ made.0) in
     bad (all_asked base64 t ((encoding_by_blocks base64 t refl).0 (output, parts.0, sym same)) from n)
 
 -- a vector to which all was appended

@@ -10,6 +10,7 @@ use Rattle.mcf.specs.Grammar.{Parts, fault, field_fault, first_field_fault, is_f
 use Rattle.mcf.specs.Grammar.{parts_text}
 use Rattle.mcf.proofs.Built.{mcf-parts_text}
 use Rattle.mcf.proofs.ValidTexts.{pieces_of_valid}
+use Rattle.mcf.proofs.Pushed.{good_field}
 use Rattle.phc.specs.Encoded.{encoding}
 use Rattle.phc.specs.Grammar.{is_value_byte}
 use Rattle.phc.specs.Params.{Pairs, pairs_text}
@@ -18,7 +19,7 @@ use Rattle.phc.specs.declared.password_hash.PasswordHash.{PasswordHash}
 use Rattle.phc.proofs.Characters.{all_weaker, encoding_value}
 use Rattle.phc.proofs.EncodedBytes.{encoded_length}
 use Rattle.phc.proofs.ParsedBack.{parses_back}
-use Rattle.stored_check.proofs.MadeTexts.{good_field, of_parts}
+use Rattle.stored_check.proofs.MadeTexts.{of_parts}
 use Rattle.stored_check.proofs.MadeTexts as made_texts
 use Rattle.stored_check.specs.Verdict.{phc_answer, same_text}
 use Rattle.scrypt_plain.specs.Lengths.{length-pbkdf2_once}

@@ -23,14 +23,9 @@ use Rattle.sha_crypt.specs.Simple.{characters, word_character}
 use Rattle.sha_crypt.specs.declared.errors.Family.{Family}
 use Rattle.sha_crypt.specs.declared.errors.Family.TheVariants.{Sha256, Sha512}
 use Rattle.sha_crypt.proofs.HashFields.{below_map, field_is_found}
-use Rattle.pieces.proofs.ByteTests.{all_append}
+use Rattle.pieces.proofs.ByteTests.{all_append, passes_at}
 
 -- ---- characters
-
-passes_at : (p : ℕ → Bool) (cs : List ℕ) (i : ℕ) → list_all p cs ≡ true → i < length cs → p (slice_index cs i) ≡ true
-passes_at p [] i h below = absurd (omega (arith, below))
-passes_at p (c ∷ cs) zero h below = (and_parts (p c) (list_all p cs) h).0
-passes_at p (c ∷ cs) (suc i) h below = passes_at p cs i (and_parts (p c) (list_all p cs) h).1 (omega (arith, below))
 
 values_pass : (p : ℕ → Bool) (values : List ℕ) → list_all p base64_sha_crypt.characters ≡ true → EachBelow 64 values
     → list_all p (map (character base64_sha_crypt) values) ≡ true

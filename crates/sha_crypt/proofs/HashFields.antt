@@ -7,12 +7,12 @@ use Rattle.std.proofs.lemmas.Bool.Decides.{nat_tests}
 use Rattle.base64ct.specs.Encoding.{EachBelow, encoding, byte_count, longest_input}
 use Rattle.base64ct.specs.Decoding.{decoding}
 use Rattle.base64ct.specs.Alphabets.{base64_sha_crypt}
-use Rattle.base64ct.proofs.DecodingLaws.{decoding-Some, decoding_is, same_true, true_same, encoding_once}
+use Rattle.base64ct.proofs.DecodingLaws.{decoding-Some, decoding_is, same_true, true_same}
 use Rattle.base64ct.proofs.DecodingLaws.{length-decoding, length-decodable, decoding-encoding, decoded_len-unpadded}
 use Rattle.std.specs.Prelude.{zero, suc, nat_lt, if◌then◌else◌, Result, Ok, Err}
 use Rattle.std.proofs.Common.{◌≤◌, rules}
 use Rattle.std.proofs.lemmas.List.{ext_get_or, length-map, get_or-map}
-use Rattle.std.proofs.lemmas.Bool.{and_parts}
+use Rattle.std.proofs.lemmas.Bool.{and_parts, false≢true}
 use Rattle.sha_crypt.specs.Digest.{sha_crypt_digest}
 use Rattle.sha_crypt.specs.Fields.{ShaFields, checked_hash}
 use Rattle.sha_crypt.specs.Check.{fields_answer}
@@ -20,8 +20,10 @@ use Rattle.sha_crypt.specs.HashField.{is_hash_field, are_places, undoes, IsHashF
 use Rattle.std.specs.Prelude.{is_some, IsErr, IfOk, ◌↔◌, ◌⊎◌, ◌++◌, drop}
 use Rattle.std.proofs.lemmas.List.{drop_all, append-nil}
 use Rattle.base64ct.specs.declared.errors.InvalidLengthError.{InvalidLengthError}
+use Rattle.base64ct.proofs.Encodings.{encoding_once}
 use Rattle.std.proofs.lemmas.Bool.{cases_lt}
 use Rattle.std.proofs.Common.{inl, inr}
+use Rattle.std.proofs.lemmas.Option.{none-some, same_Some}
 use Rattle.sha_crypt.specs.declared.errors.CheckError.TheVariants.{HashMismatch}
 use Rattle.sha_crypt.specs.HashField.{in_order, hash_field, of_length, field_bytes}
 
@@ -60,13 +62,10 @@ same_hash places digest bytes hash small is =
     rw e (true_same bytes) in
     same_tests (pointwise nat_eq m bytes) (pointwise nat_eq (encoding base64_sha_crypt m) hash) there back
 
-none_some : (b : List ℕ) → None ≡ Some b → ⊥
-none_some b e = cc
-
 kept : (n : ℕ) (b bytes : List ℕ) (t : Bool) → (length b == n) ≡ t → (if t then Some b else None) ≡ Some bytes
     → Some b ≡ Some bytes
 kept n b bytes true is h = h
-kept n b bytes false is h = absurd (none_some bytes h)
+kept n b bytes false is h = absurd (none-some bytes h)
 
 pub decoded_of : (n : ℕ) (bytes : List ℕ) (r : Option (List ℕ)) → of_length n r ≡ Some bytes → r ≡ Some bytes
 decoded_of n bytes None h = h
@@ -156,28 +155,22 @@ not_decoded n places source digest lp none is =
     let found : decoding base64_sha_crypt source ≡ Some m =
     decoding_is base64_sha_crypt source m refl (below_map places digest is.1) is.2 in
     let right : length m ≡ n = length-map places f ∙ lp in
-    absurd (none_some m (sym none ∙ ap (of_length n) found ∙ of_right_length n m right))
-
-some_same : (a b : List ℕ) → Some a ≡ Some b → a ≡ b
-some_same a b h = cc
+    absurd (none-some m (sym none ∙ ap (of_length n) found ∙ of_right_length n m right))
 
 kept_length : (n : ℕ) (bytes : List ℕ) (r : Option (List ℕ)) → of_length n r ≡ Some bytes → length bytes ≡ n
-kept_length n bytes None h = absurd (none_some bytes h)
+kept_length n bytes None h = absurd (none-some bytes h)
 kept_length n bytes (Some b) h = by_test (length b == n) refl h
   where
     by_test : (t : Bool) → (length b == n) ≡ t → (if t then Some b else None) ≡ Some bytes → length bytes ≡ n
     by_test true is e = let same : length b ≡ n = grind (arith, nat_tests, is) in
-        ap length (sym (some_same b bytes e)) ∙ same
-    by_test false is e = absurd (none_some bytes e)
-
-false_true : false ≡ true → ⊥
-false_true h = cc
+        ap length (sym (same_Some b bytes e)) ∙ same
+    by_test false is e = absurd (none-some bytes e)
 
 -- the test for hash fields tells those of digests
 pub field_found : (n : ℕ) (places back text : List ℕ) (r : Option (List ℕ)) → field_bytes n text ≡ r → is_some r ≡ true
     → length places ≡ n → length back ≡ n → are_places n places ≡ true → undoes n places back ≡ true
     → IsHashField n places text
-field_found n places back text None is some lp lb small undone = absurd (false_true some)
+field_found n places back text None is some lp lb small undone = absurd (false≢true some)
 field_found n places back text (Some bytes) is some lp lb small undone = (
   in_order back bytes,
   decoded n places back text bytes (in_order back bytes) lp lb

@@ -6,6 +6,7 @@ use Rattle.std.proofs.lemmas.Bool.Decides.{nat_tests}
 use Rattle.base64ct.proofs.DecodingLaws.{true_same}
 use Rattle.mcf.specs.Grammar.{mcf, field_fault, first_field_fault, is_field_byte, is_identifier, Parts}
 use Rattle.mcf.proofs.Built.{mcf-parts_text}
+use Rattle.mcf.proofs.Pushed.{good_field}
 use Rattle.phc.specs.declared.password_hash.PasswordHash.{PasswordHash}
 use Rattle.sha_crypt.specs.Check.{hash_matches}
 use Rattle.sha_crypt.specs.Families.{Scheme, scheme_fields}
@@ -19,10 +20,6 @@ use Rattle.sha_crypt.proofs.MadeTexts.{IsSalt, by_default, made_read}
 use Rattle.stored_check.specs.Verdict.{parts_answer, scheme_of, sha_answer, text_answer, verdict}
 use Rattle.stored_check.proofs.Normals.{rounds_field}
 use Rattle.stored_check.proofs.Records.{printed_is}
-
-pub good_field : (s : List ℕ) → 1 ≤ length s → list_all is_field_byte s ≡ true → field_fault s ≡ None
-good_field [] some h = absurd (omega (arith, some))
-good_field (b ∷ s) some h = rw h refl
 
 is_name : (family : Family) → is_identifier (family_id family) ≡ true
 is_name Sha256 = refl

@@ -14,10 +14,10 @@ use Rattle.mcf.specs.Grammar.{mcf, fault, field_fault, first_field_fault, is_fie
 use Rattle.pieces.specs.Lists.{is_empty}
 use Rattle.mcf.specs.Grammar.{Parts, parts_or_fault, parts_text}
 use Rattle.mcf.specs.declared.error.Error as mcf_error
-use Rattle.mcf.specs.declared.error.Error.TheVariants.{FieldInvalid, EncodingInvalid}
-use Rattle.mcf.proofs.Built.{mcf-parts_text}
+use Rattle.mcf.specs.declared.error.Error.TheVariants.{FieldInvalid}
+use Rattle.mcf.proofs.Built.{field_bytes, mcf-parts_text}
 use Rattle.mcf.proofs.ValidTexts.{valid_of}
-use Rattle.pieces.proofs.FaultLaws.{or_none, some_none}
+use Rattle.pieces.proofs.FaultLaws.{or_none, some_none, err_ok}
 use Rattle.phc.specs.declared.password_hash.PasswordHash.{PasswordHash}
 use Rattle.sha_crypt.specs.Families.{Scheme, scheme_fields, old_scheme_fields}
 use Rattle.sha_crypt.specs.Fields.{ShaFields, cut_salt, old_number}
@@ -31,22 +31,15 @@ use Rattle.stored_check.specs.Normal.{normal, normal_answer, normal_fields, norm
 use Rattle.stored_check.specs.Normal.{old_parts_answer}
 use Rattle.stored_check.specs.Verdict.{same_text, scheme_of, sha_answer, text_answer, verdict}
 
-err_ok : (e : CheckError) (f : ShaFields) → Err e ≡ Ok f → ⊥
-err_ok e f h = cc
-
 -- ---- fields without a fault
 
 pub record IsField (s : List ℕ) : Type 0 where
   pub some : is_empty s ≡ false
   pub bytes : list_all is_field_byte s ≡ true
 
-by_bytes : (t : Bool) → (if t then None else Some EncodingInvalid) ≡ None → t ≡ true
-by_bytes true e = refl
-by_bytes false e = absurd (some_none EncodingInvalid e)
-
 pub field_of : (s : List ℕ) → field_fault s ≡ None → IsField s
 field_of [] h = absurd (some_none FieldInvalid h)
-field_of (b ∷ s) h = record { some = refl; bytes = by_bytes (list_all is_field_byte (b ∷ s)) h }
+field_of (b ∷ s) h = record { some = refl; bytes = field_bytes b s h }
 
 of_field : (s : List ℕ) → IsField s → field_fault s ≡ None
 of_field s h = rw (h.some, h.bytes) refl

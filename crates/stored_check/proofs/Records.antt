@@ -8,6 +8,7 @@ use Rattle.std.specs.Result.{result_ok}
 use Rattle.std.proofs.lemmas.List.{length-append, length-take}
 use Rattle.std.specs.Str.{is_utf8}
 use Rattle.std.proofs.lemmas.Str.{IsUtf8-from_ascii, is_utf8-from_IsUtf8}
+use Rattle.std.proofs.lemmas.Bool.{true≢false}
 use Rattle.base64ct.proofs.DecodingLaws.{same_true}
 use Rattle.mcf.specs.Grammar.{mcf, fault, fields_text, parts, Parts, parts_text}
 use Rattle.mcf.specs.declared.error.Error as mcf_error
@@ -28,9 +29,6 @@ use Rattle.stored_check.specs.Normal.{normal, normal_fields, normal_parts, writt
 use Rattle.stored_check.specs.NormalViews.{text_or_record}
 use Rattle.stored_check.specs.Verdict.{named_family, same_text, scheme_of}
 use Rattle.stored_check.proofs.FamilyTexts.{id_of_family}
-
-true_false : true ≡ false → ⊥
-true_false h = cc
 
 -- ---- the record's text is the normal text
 
@@ -148,7 +146,7 @@ record_fits stored (Some x) valid is = let less = normal_shorter stored valid in
 by_valid : (stored : List ℕ) (o : Option mcf_error.Error) → fault stored ≡ o → is_utf8 stored ≡ false
     → normal stored ≡ stored
 by_valid stored None valid other =
-    absurd (true_false (sym (is_utf8-from_IsUtf8 stored (IsUtf8-from_ascii stored (valid_ascii stored valid))) ∙ other))
+    absurd (true≢false (sym (is_utf8-from_IsUtf8 stored (IsUtf8-from_ascii stored (valid_ascii stored valid))) ∙ other))
 by_valid stored (Some e) bad other = normal_of_fault stored e bad
 
 pub normal_of_other_bytes : (stored : List ℕ) → is_utf8 stored ≡ false → normal stored ≡ stored

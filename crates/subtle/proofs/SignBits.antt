@@ -6,7 +6,7 @@ use Rattle.std.proofs.lemmas.Nat.{xor_lt, or_lt, le_or_l, le_or_r}
 use Rattle.std.specs.Int.Bits.{xor_assoc, xor_self, xor_zero_l, xor_zero_r}
 use Rattle.std.proofs.lemmas.Bool.{cases_eq, eq-eqb, ne_eqb}
 
-xor_equal : (a b : ℕ) → bit_xor a b ≡ 0 → a ≡ b
+pub xor_equal : (a b : ℕ) → bit_xor a b ≡ 0 → a ≡ b
 xor_equal a b e =
     let whole : bit_xor (bit_xor a b) b ≡ a = rw (xor_assoc a b b, xor_self b) (xor_zero_r a) in
     sym whole ∙ rw e (xor_zero_l b)

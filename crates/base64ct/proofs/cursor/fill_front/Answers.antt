@@ -1,6 +1,7 @@
 use Rattle.std.proofs.Common.{sym, ◌≡◌, ◌+◌, ◌-◌, ◌%◌, ◌++◌, ℕ, List, length, take, drop, arith, refl, ap, ◌∙◌}
-use Rattle.std.proofs.lemmas.List.{length-append, length-take-le, length-drop}
-use Rattle.base64ct.proofs.Gathers.{asked_part, blocks_asked, as_filled, of_filled, two_parts, two_filled}
+use Rattle.std.proofs.lemmas.List.{length-append, length-take-le}
+use Rattle.base64ct.proofs.Gathers.{asked_part, blocks_asked, front_filled, of_filled, two_parts, two_filled}
+use Rattle.base64ct.proofs.Written.{length_front, length_back}
 use Rattle.base64ct.proofs.cursor.fill_front.Goals as goal
 
 pub returns-in-None-clause-filled : goal.returns-in-None-clause-filled
@@ -21,22 +22,17 @@ returns-in-None-fill_blocks-clause-filled g c = λ t s fits good.
     let first : ℕ = (3 - read % 3) % 3 in
     let n : ℕ = length out in
     let l1 : length (take first out) ≡ first = length-take-le first out (omega (arith, c.requires.some)) in
-    let lx : length xs ≡ first = c.fill_short.auto.out ∙ l1 in
-    let lo : length (xs ++ drop first out) ≡ n =
-    omega (arith, length-append xs (drop first out), length-drop first out, lx, c.requires.some) in
-    let one = as_filled a c.args.width c.args.body.now t c.in-Some.found.2 xs read (length (take first out))
-    c.in-Some.found.0 c.in-Some.found.1 c.fill_short.auto.out
+    let front = front_filled a c.args.width c.args.body.now t c.in-Some.found.2 out xs read first c.in-Some.found.0
+    c.in-Some.found.1 (omega (arith, c.requires.some)) c.fill_short.auto.out
     (c.in-Some.ensures.filled t s (omega (arith, fits, l1, c.requires.some))) in
-    let part : List ℕ = drop first (xs ++ drop first out) in
-    let l2 : length (take (length (xs ++ drop first out) - first) part) ≡ n - first =
-    length-take-le (length (xs ++ drop first out) - first) part
-    (omega (arith, length-drop first (xs ++ drop first out))) ∙ omega (arith, lo) in
-    blocks_asked a c.args.width c.args.body.now t c.in-Some.found.2 (read + length xs) c.in-Some.found.0
-    c.in-Some.found.1 (n - first) (n - first) g.met.E.Alphabet.lawful (omega (arith, lx))
-    (omega (arith, c.requires.whole, c.requires.some)) (omega (arith, lx, fits, c.requires.some))
-    one.stands (λ bytes rest below len is. c.in-None-fill_blocks.ensures bytes rest below (len ∙ sym l2) is)
-    (omega arith)
-    (asked_part a t read n (read + length xs) (n - first) good (omega arith) (omega (arith, lx, c.requires.some)))
+    let one : List ℕ = xs ++ drop first out in
+    let l2 : length (take (length one - first) (drop first one)) ≡ n - first =
+    length_back one first ∙ omega (arith, front.1) in
+    blocks_asked a c.args.width c.args.body.now t c.in-Some.found.2 (read + first) c.in-Some.found.0
+    c.in-Some.found.1 (n - first) (n - first) g.met.E.Alphabet.lawful (omega arith)
+    (omega (arith, c.requires.whole, c.requires.some)) (omega (arith, fits, c.requires.some)) front.3
+    (λ bytes rest below len is. c.in-None-fill_blocks.ensures bytes rest below (len ∙ sym l2) is) (omega arith)
+    (asked_part a t read n (read + first) (n - first) good (omega arith) (omega (arith, c.requires.some)))
 
 pub returns-in-Some-fill_blocks-clause-filled : goal.returns-in-Some-fill_blocks-clause-filled
 returns-in-Some-fill_blocks-clause-filled g c = λ t s fits.
@@ -50,11 +46,8 @@ returns-in-Some-fill_blocks-clause-filled g c = λ t s fits.
     let l1 : length (take first out) ≡ first = length-take-le first out (omega (arith, c.requires.some)) in
     let lx : length xs ≡ first = c.fill_short.auto.out ∙ l1 in
     let one : List ℕ = xs ++ drop first out in
-    let lo : length one ≡ n =
-    omega (arith, length-append xs (drop first out), length-drop first out, lx, c.requires.some) in
-    let ly : length ys ≡ length one - first =
-    c.fill_blocks.auto.out ∙ length-take-le (length one - first) (drop first one)
-    (omega (arith, length-drop first one)) in
+    let lo : length one ≡ n = length_front first xs out lx (omega (arith, c.requires.some)) in
+    let ly : length ys ≡ length one - first = c.fill_blocks.auto.out ∙ length_back one first in
     let is = two_parts out xs ys first (length one - first) lx (omega (arith, c.requires.some)) refl ly in
     let head = c.in-Some.ensures.filled t s (omega (arith, fits, l1, c.requires.some)) in
     of_filled a c.args.width c.args.body.now t c.in-Some.found.2 (xs ++ ys) _ read n c.in-Some-fill_blocks.found.0

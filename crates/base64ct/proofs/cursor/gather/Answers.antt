@@ -1,7 +1,7 @@
-use Rattle.std.proofs.Common.{◌≡◌, ◌≤◌, ◌+◌, ◌-◌, ◌++◌, ℕ, List, take, drop, length, arith, refl, ap, ◌∙◌, sym}
-use Rattle.std.proofs.lemmas.List.{length-append, length-take-le, length-drop}
+use Rattle.std.proofs.Common.{◌≡◌, ◌≤◌, ◌+◌, ◌-◌, ℕ, List, drop, length, arith, refl, ap, ◌∙◌, sym}
 use Rattle.base64ct.specs.Wrapping.{characters_from}
 use Rattle.base64ct.proofs.Wrapping.{length-put_mid}
+use Rattle.base64ct.proofs.Written.{copied, length_front}
 use Rattle.base64ct.proofs.Gathers.{gathered_first, gathered_more, gathered_all}
 use Rattle.base64ct.proofs.cursor.gather.Goals as goal
 
@@ -11,24 +11,14 @@ lines-init c =
     let ys : List ℕ = c.copy_from_slice.new.self in
     let body : List ℕ = c.args.body.now in
     let within : c.args.at + n ≤ length body = omega (arith, c.min-count.ensures, c.min.ensures, c.requires.within) in
-    let is : ys ≡ take n (drop c.args.at body) =
-    c.copy_from_slice.ensures.after ∙ ap (λ (k : ℕ). take k (drop c.args.at body)) (omega arith) in
-    let ly : length ys ≡ n =
-    ap length is ∙ length-take-le n (drop c.args.at body) (omega (arith, length-drop c.args.at body, within)) in
-    let ln : length (ys ++ drop n c.args.buffer.now) ≡ length c.args.buffer.now =
-    omega (
-      arith,
-      length-append ys (drop n c.args.buffer.now),
-      length-drop n c.args.buffer.now,
-      ly,
-      c.min-count.ensures,
-    ) in (
+    let is = copied body ys c.args.at _ n (omega arith) within c.copy_from_slice.ensures.after in
+    let ln = length_front n ys c.args.buffer.now is.1 (omega (arith, c.min-count.ensures)) in (
       omega (arith, ln, c.min-count.ensures),
       ln,
       within,
       (λ some more. omega (arith, some, more, ln, c.min-count.ensures, c.min.ensures)),
       gathered_first c.args.width body c.args.buffer.now ys c.args.at c.args.room n
-          (omega (arith, c.min-count.ensures, c.min.ensures)) within is,
+          (omega (arith, c.min-count.ensures, c.min.ensures)) within is.0,
     )
 
 pub returns-then-place-body : goal.returns-then-place-body
@@ -48,26 +38,22 @@ lines-preserved c =
     let start : ℕ = c.in-Some.next in
     let ys : List ℕ = c.copy_from_slice-in-lines.new.self in
     let body : List ℕ = c.args.body.now in
-    let width : c.lines.count + n - c.lines.count ≡ n = omega arith in
-    let is : ys ≡ take n (drop start body) =
-    c.copy_from_slice-in-lines.ensures.after ∙ ap (λ (k : ℕ). take k (drop start body)) (omega arith) in
     let within : start + n ≤ length body =
     omega (arith, c.min-n.ensures, c.min-in-lines.ensures, c.in-Some.ensures.2) in
     let fits : c.lines.count + n ≤ length c.lines.buffer = omega (arith, c.min-n.ensures, c.lines-test.true) in
-    let ly : length ys ≡ n =
-    ap length is ∙ length-take-le n (drop start body) (omega (arith, length-drop start body, within)) in
+    let is = copied body ys start _ n (omega arith) within c.copy_from_slice-in-lines.ensures.after in
     let ended : c.lines.left ≡ 0 =
     c.lines.invariant.3 c.lines-test.true (omega (arith, c.in-Some.ensures.1, c.in-Some.ensures.2)) in
     let same : characters_from c.args.width c.args.width (drop start body)
     ≡ characters_from c.args.width c.lines.left (drop c.lines.place body) =
     sym c.in-Some.ensures.0 ∙ ap (λ (r : ℕ). characters_from c.args.width r (drop c.lines.place body)) (sym ended) in
     let ln = length-put_mid c.lines.count (c.lines.count + n - c.lines.count) c.lines.buffer ys (omega (arith, fits))
-    (omega (arith, ly)) in (
+    (omega (arith, is.1)) in (
       omega (arith, ln, fits),
       omega (arith, ln, c.lines.invariant.1),
       within,
       (λ some more. omega (arith, some, more, ln, c.min-n.ensures, c.min-in-lines.ensures)),
       gathered_more c.args.width body c.lines.buffer ys c.args.at c.args.room c.lines.place c.lines.left start
           c.args.width c.lines.count (c.lines.count + n - c.lines.count) n c.lines.invariant.4 same
-          (omega (arith, c.min-n.ensures, c.min-in-lines.ensures)) within width fits is,
+          (omega (arith, c.min-n.ensures, c.min-in-lines.ensures)) within (omega arith) fits is.0,
     )

@@ -1,27 +1,19 @@
-use Rattle.std.proofs.Common.{◌≡◌, ℕ, refl, ap, ◌∙◌, arith}
-use Rattle.std.specs.Int.{w16, cast_unsigned}
-use Rattle.base64ct.specs.Steps.{encode_from, past_value, minus}
+use Rattle.std.proofs.Common.{ℕ, refl, arith}
 use Rattle.base64ct.specs.Alphabets.{base64_url, base64_url_steps}
 use Rattle.base64ct.specs.StepsAgree.{base64_url_agrees}
-use Rattle.base64ct.proofs.StepLaws.{word_kept, four_steps, encoded_character}
+use Rattle.base64ct.proofs.StepLaws.{next_sum, last_sum}
 use Rattle.base64ct.proofs.alphabet.url.encode_url.Goals as goal
 
 pub returns : goal.returns
 returns c =
-    let v : ℕ = c.args.value in
-    let begun : ℕ = cast_unsigned w16 c.first_sum-sum.result in
-    let sum : ℕ = cast_unsigned w16 c.add_past_value-sum-4.result in
-    let first = rw (word_kept c.first_sum-sum.result c.first_sum-sum.type_inv)
-    at c.add_past_value-sum.ensures in
-    let second = rw (word_kept c.add_past_value-sum.result c.add_past_value-sum.type_inv)
-    at c.add_past_value-sum-2.ensures in
-    let third = rw (word_kept c.add_past_value-sum-2.result c.add_past_value-sum-2.type_inv)
-    at c.add_past_value-sum-3.ensures in
-    let fourth = rw (word_kept c.add_past_value-sum-3.result c.add_past_value-sum-3.type_inv)
-    at c.add_past_value-sum-4.ensures in
-    let whole : sum ≡ encode_from begun v base64_url_steps.encoding =
-    four_steps begun _ _ _ sum v (past_value 25 6) (past_value 51 (minus 75)) (past_value 61 (minus 13))
-    (past_value 62 49) first second third fourth in
-    let low = rw (word_kept c.add_past_value-sum-4.result c.add_past_value-sum-4.type_inv) at c.low_byte.ensures in
-    low ∙ encoded_character base64_url base64_url_steps v sum refl base64_url_agrees (omega arith)
-    (whole ∙ ap (λ (w : ℕ). encode_from w v base64_url_steps.encoding) c.first_sum-sum.ensures)
+    let v : ℕ = c.args.value in let next = next_sum base64_url_steps v in
+    let first = next 0 c.first_sum-sum.result c.add_past_value-sum.result c.first_sum-sum.ensures
+    c.first_sum-sum.type_inv c.add_past_value-sum.ensures in
+    let second = next 1 c.add_past_value-sum.result c.add_past_value-sum-2.result first
+    c.add_past_value-sum.type_inv c.add_past_value-sum-2.ensures in
+    let third = next 2 c.add_past_value-sum-2.result c.add_past_value-sum-3.result second
+    c.add_past_value-sum-2.type_inv c.add_past_value-sum-3.ensures in
+    let fourth = next 3 c.add_past_value-sum-3.result c.add_past_value-sum-4.result third
+    c.add_past_value-sum-3.type_inv c.add_past_value-sum-4.ensures in
+    last_sum base64_url base64_url_steps v _ 4 c.add_past_value-sum-4.result refl base64_url_agrees (omega arith)
+    refl fourth c.add_past_value-sum-4.type_inv c.low_byte.ensures

@@ -1,8 +1,8 @@
-use Rattle.std.proofs.Common.{◌≡◌, ℕ, ◌-◌, ◌++◌, List, length, take, drop, replicate, sym, ap, ◌∙◌, subst, arith}
-use Rattle.std.proofs.lemmas.List.{length-drop, length-append, length-replicate, length-take-le}
+use Rattle.std.proofs.Common.{◌≡◌, ℕ, ◌++◌, List, length, replicate, sym, ap, ◌∙◌, subst, arith}
+use Rattle.std.proofs.lemmas.List.{length-replicate}
 use Rattle.base64ct.specs.Blocks.{AskedAreGood}
 use Rattle.base64ct.specs.Decoders.{left}
-use Rattle.base64ct.proofs.Parts.{rest_given, cut_back}
+use Rattle.base64ct.proofs.Parts.{rest_given, lengthened, cut_back}
 use Rattle.base64ct.proofs.decoder.Decoder.decode_rest.Goals as goal
 
 pub returns-in-Ok-decode_into : goal.returns-in-Ok-decode_into
@@ -15,12 +15,8 @@ returns-in-Ok-decode_into g c =
     let x : c.deref_mut.result.now ≡ buf ++ zeros = c.deref_mut.ensures.value ∙ c.in-Ok.ensures.1 in
     let len : c.lengthen.new.buf.len ≡ length c.deref_mut.result.now =
     c.lengthen.new.buf.ok.0 ∙ ap length (sym c.deref_mut.ensures.value) in
-    let tail : length (drop c.in-Ok.start c.deref_mut.result.now) ≡ length c.deref_mut.result.now - c.in-Ok.start =
-    length-drop c.in-Ok.start c.deref_mut.result.now in
-    let n : length (take (length c.deref_mut.result.now - c.in-Ok.start) (drop c.in-Ok.start c.deref_mut.result.now))
-    ≡ length (left a c.args.self.now) =
-    length-take-le (length c.deref_mut.result.now - c.in-Ok.start) (drop c.in-Ok.start c.deref_mut.result.now)
-    (omega (arith, tail)) ∙ omega (arith, ap length x, length-append buf zeros, lz, c.in-Ok.ensures.0) in
+    let n = lengthened buf c.deref_mut.result.now c.in-Ok.start c.remaining_len.result c.in-Ok.ensures.0 x
+    ∙ c.remaining_len.ensures.left in
     let given = rest_given a c.args.self.now c.decode_into.new.self buf c.deref_mut.result.now c.decode_into.new.out
     zeros c.in-Ok.start c.lengthen.new.buf.len _ c.lengthen.new.buf.items c.in-Ok.ensures.0 x len lz n
     (c.in-Ok-decode_into.ensures.answer (omega (arith, n))) in
@@ -36,12 +32,8 @@ returns-in-Err-decode_into g c =
     let x : c.deref_mut.result.now ≡ buf ++ zeros = c.deref_mut.ensures.value ∙ c.in-Ok.ensures.1 in
     let len : c.lengthen.new.buf.len ≡ length c.deref_mut.result.now =
     c.lengthen.new.buf.ok.0 ∙ ap length (sym c.deref_mut.ensures.value) in
-    let tail : length (drop c.in-Ok.start c.deref_mut.result.now) ≡ length c.deref_mut.result.now - c.in-Ok.start =
-    length-drop c.in-Ok.start c.deref_mut.result.now in
-    let n : length (take (length c.deref_mut.result.now - c.in-Ok.start) (drop c.in-Ok.start c.deref_mut.result.now))
-    ≡ length (left a c.args.self.now) =
-    length-take-le (length c.deref_mut.result.now - c.in-Ok.start) (drop c.in-Ok.start c.deref_mut.result.now)
-    (omega (arith, tail)) ∙ omega (arith, ap length x, length-append buf zeros, lz, c.in-Ok.ensures.0) in
+    let n = lengthened buf c.deref_mut.result.now c.in-Ok.start c.remaining_len.result c.in-Ok.ensures.0 x
+    ∙ c.remaining_len.ensures.left in
     let bad = c.in-Err-decode_into.ensures.answer (omega (arith, n)) in
     record {
       answer = (

@@ -1,7 +1,8 @@
 use Rattle.std.proofs.Common.{rules, ◌≡◌, [], ◌∷◌, ◌++◌, Err, ◌∙◌, sym}
+use Rattle.std.proofs.lemmas.Bool.{false≢true}
 use Rattle.phc.specs.ValueViews.{pair_view, value_text}
 use Rattle.phc.specs.Params.{add}
-use Rattle.phc.proofs.ParamsLemmas.{add_each-push, added_ok, added_err, yields_push, no_truth}
+use Rattle.phc.proofs.ParamsLemmas.{add_each-push, added_ok, added_err, yields_push}
 use Rattle.phc.proofs.params.ParamsString.try_from_iter.Goals as goal
 
 pub loop-name-preserved : goal.loop-name-preserved
@@ -23,7 +24,7 @@ returns-in_err-add_str g c =
         c.next.new.self,
         yields_push g.I.Iterator.next_gives c.args.pairs c.loop-name.name-iterator c.next.new.self c.loop-name.yielded
             (c.in-Some.name, c.in-Some.value) (search rules) (rw c.in-Some.is at c.next.ensures.steps),
-        λ ok. absurd (no_truth (rw is_err at ok)),
+        λ ok. absurd (false≢true (rw is_err at ok)),
       ),
       is_err ∙ sym (added ∙ refused),
     )
