@@ -6,7 +6,8 @@ use Rattle.base64ct.specs.Encoding.{Alphabet, is_alphabet, character, unpadded_e
 use Rattle.base64ct.specs.Encoding.{EachBelow, IsLenient}
 use Rattle.base64ct.proofs.Sextets.{groups-append, groups-nil, groups-whole_bytes, whole_bytes-block}
 use Rattle.base64ct.proofs.Sextets.{whole_bytes-append, whole_bytes-nil, whole_bytes-groups}
-use Rattle.base64ct.proofs.Encodings.{stem, stem-text, groups-below, length-groups, below-take}
+use Rattle.base64ct.specs.Tables.{stem}
+use Rattle.base64ct.proofs.Encodings.{stem-text, groups-below, length-groups, below-take}
 use Rattle.base64ct.proofs.Unpadded.{unpadded-append}
 use Rattle.base64ct.proofs.Padding.{encoding-is, encoding-from_stem, stem-encoding, length-text_padded}
 use Rattle.base64ct.proofs.Decoded.{rest_encoded}

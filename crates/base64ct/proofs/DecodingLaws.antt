@@ -9,7 +9,7 @@ use Rattle.std.proofs.lemmas.Option.{same_Some, none-some}
 use Rattle.base64ct.specs.Encoding.{Alphabet, is_alphabet, EachBelow, encoding, whole_bytes, decoded_len, byte_count}
 use Rattle.base64ct.specs.Answers.{IsNoEncoding}
 use Rattle.base64ct.specs.Decoding.{decoding, if_encodes, are_bytes, values_in}
-use Rattle.base64ct.proofs.Encodings.{decoded-encoding, encoding_once as once}
+use Rattle.base64ct.proofs.Encodings.{decoded-encoding}
 use Rattle.base64ct.proofs.Padding.{length-encoding, padding_count}
 
 pub same_true : (x y : List ℕ) → pointwise nat_eq x y ≡ true → x ≡ y

@@ -114,7 +114,7 @@ whole-few h few =
 whole-below : (b : List ℕ) → EachBelow 256 b → EachBelow 256 (whole_blocks b)
 whole-below b below = below-take 256 (3 * (length b / 3)) b (omega arith) below
 
-length-whole : (b : List ℕ) → length (whole_blocks b) ≡ 3 * (length b / 3)
+pub length-whole : (b : List ℕ) → length (whole_blocks b) ≡ 3 * (length b / 3)
 length-whole b = length-take-le (3 * (length b / 3)) b (omega arith)
 
 pub at_position : (a : Alphabet) (w : ℕ) (ending : Option LineEnding) (out wait : List ℕ) (p room : ℕ) (b : List ℕ)

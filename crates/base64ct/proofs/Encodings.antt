@@ -8,6 +8,7 @@ use Rattle.std.proofs.lemmas.List.Sums.{sum_by-append}
 use Rattle.std.proofs.lemmas.Bool.{cases_lt}
 use Rattle.base64ct.specs.Encoding.{Alphabet, is_alphabet, character, equals_sign, EachBelow, groups, whole_bytes}
 use Rattle.base64ct.specs.Encoding.{padding, text_of, encoding, padding_len}
+use Rattle.base64ct.specs.Tables.{stem}
 use Rattle.base64ct.proofs.Sextets.{four, groups-three, groups-two, groups-one, groups-nil, whole_bytes-groups}
 use Rattle.base64ct.proofs.Values.{value_at, map-value-character, no_equals_counted}
 
@@ -91,10 +92,6 @@ groups-below low_first (a ∷ b ∷ c ∷ rest) h =
     (groups-below low_first rest (λ i. h (suc (suc (suc i))))))
 
 -- ---- the padding
-
--- a text without its padding
-abbrev pub stem : Alphabet → List ℕ → List ℕ
-stem a t = take (length t - padding_len a t) t
 
 count-append : (xs ys : List ℕ)
     → count_by (λ c. c == equals_sign) (xs ++ ys)

@@ -12,7 +12,8 @@ use Rattle.base64ct.specs.Encoding.{Alphabet, is_alphabet, character, unpadded_e
 use Rattle.base64ct.specs.Encoding.{padding_len, byte_count, groups, equals_sign, EachBelow, IsMisaligned, decoded_len}
 use Rattle.base64ct.specs.Encoding.{Reads, IsLenient, AreCharacters}
 use Rattle.base64ct.proofs.Values.{counted, none_counted, no_equals_counted}
-use Rattle.base64ct.proofs.Encodings.{stem, stem-text, groups-below, length-groups, below-take}
+use Rattle.base64ct.specs.Tables.{stem}
+use Rattle.base64ct.proofs.Encodings.{stem-text, groups-below, length-groups, below-take}
 use Rattle.base64ct.proofs.Unpadded.{length-unpadded, rest_one, rest_two, put_after, are_characters-map}
 use borrow.Rule.Slice.PartMut.{put_mid}
 

@@ -4,6 +4,7 @@ ghost use Rattle.std.specs.Io.KnownBytes.{Keeps};
 ghost use Rattle.std.specs.List.{list_any};
 ghost use Rattle.pieces.specs.FaultCounts.{HasRisen};
 ghost use Rattle.line_io.specs.Lines.{is_feed, NoFeed};
+ghost use Rattle.line_io.specs.declared.buffer.TheConstants.{CAPACITY, LINE_MAX};
 
 use crate::{Failed, Source};
 use pieces::places::first_place;
@@ -12,7 +13,7 @@ use pieces::places::first_place;
 const CAPACITY: usize = 16_384;
 
 /// The most bytes of a line.
-const LONGEST: usize = 8_192;
+pub const LINE_MAX: usize = 8_192;
 
 /// An answer of [`LineBuffer::next_line`].
 #[derive(Clone, Copy, Debug, PartialEq, Eq)]
@@ -166,10 +167,10 @@ impl LineBuffer {
 
     /// Makes room behind what is pending. Bytes are moved only where the end of the buffer is reached.
     fn make_room(&mut self)
-        requires small { length (pending self.old) ≤ 8192 }
+        requires small { length (pending self.old) ≤ LINE_MAX }
         ensures line_end { self.new.line_end ≡ 0 }
         ensures pending { pending self.new ≡ pending self.old }
-        ensures room { self.new.end < 16384 }
+        ensures room { self.new.end < CAPACITY }
         ensures rest { KeepsRest self.old self.new }
     {
         self.clear_line();
@@ -202,7 +203,7 @@ impl LineBuffer {
     /// Reads after what is pending.
     #[tactic(auto, unfolding(crate::specs::Buffer::pending, crate::specs::Buffer::line))]
     fn fill<S: Source>(&mut self, source: &mut S) -> Result<(), Failed>
-        requires room { length (pending self.old) ≤ 8192 }
+        requires room { length (pending self.old) ≤ LINE_MAX }
         requires more { taken self.old ≤ max_bytes self.old }
         requires not_ended { is_ended self.old ≡ false }
         ensures line { line self.new ≡ [] }
@@ -229,12 +230,12 @@ impl LineBuffer {
     fn drop_long(&mut self, long: bool) -> bool
         requires more { taken self.old ≤ max_bytes self.old }
         requires no_line { line self.old ≡ [] }
-        ensures long { result ≡ (long || nat_lt 8192 (length (pending self.old))) }
+        ensures long { result ≡ (long || nat_lt LINE_MAX (length (pending self.old))) }
         ensures line { line self.new ≡ [] }
-        ensures pending { pending self.new ≡ (if nat_lt 8192 (length (pending self.old)) then [] else pending self.old) }
+        ensures pending { pending self.new ≡ (if nat_lt LINE_MAX (length (pending self.old)) then [] else pending self.old) }
         ensures rest { KeepsRest self.old self.new }
     {
-        if self.pending().len() > LONGEST {
+        if self.pending().len() > LINE_MAX {
             self.drop_pending();
             return true;
         }
@@ -245,13 +246,13 @@ impl LineBuffer {
     fn answer_line(&mut self, count: usize, skip: usize, long: bool) -> Line
         requires within { count + skip ≤ length (pending self.old) }
         requires past { taken self.old + count + skip ≤ max_bytes self.old + length (pending self.old) }
-        ensures answer { result ≡ (if long || nat_lt 8192 count then Line.TooLong else Line.Whole count) }
-        ensures line { line self.new ≡ (if long || nat_lt 8192 count then [] else take count (pending self.old)) }
+        ensures answer { result ≡ (if long || nat_lt LINE_MAX count then Line.TooLong else Line.Whole count) }
+        ensures line { line self.new ≡ (if long || nat_lt LINE_MAX count then [] else take count (pending self.old)) }
         ensures pending { pending self.new ≡ drop (count + skip) (pending self.old) }
         ensures rest { KeepsRest self.old self.new }
     {
         self.take_line(count, skip);
-        if long || count > LONGEST {
+        if long || count > LINE_MAX {
             self.clear_line();
             Line::TooLong
         } else {

@@ -1,6 +1,7 @@
 //! Bytes on their way to a sink.
 
 ghost use Rattle.std.specs.Prelude.{◌≡◌, ◌≤◌, ◌<◌, ◌+◌, ◌++◌, ◌∷◌, [], false, true, length};
+ghost use Rattle.line_io.specs.declared.output.TheConstants.{CAPACITY};
 
 use crate::write::write_all;
 use crate::{Failed, Sink};
@@ -47,7 +48,7 @@ impl OutputBuffer {
     #[tactic(auto, unfolding(crate::specs::Output::waiting))]
     fn waiting(&self) -> &[u8]
         ensures value { result.now ≡ waiting self.now }
-        ensures within { length result.now ≤ 16384 }
+        ensures within { length result.now ≤ CAPACITY }
     {
         &self.bytes[..self.len]
     }
@@ -71,7 +72,7 @@ impl OutputBuffer {
     // Keeps a piece behind what waits.
     #[tactic(auto, unfolding(crate::specs::Output::waiting))]
     fn keep(&mut self, piece: &[u8])
-        requires room { length (waiting self.old) + length piece.now ≤ 16384 }
+        requires room { length (waiting self.old) + length piece.now ≤ CAPACITY }
         ensures kept { waiting self.new ≡ waiting self.old ++ piece.now }
         ensures same { has_failed self.new ≡ has_failed self.old }
     {
@@ -132,7 +133,7 @@ impl OutputBuffer {
 
     // Keeps a line behind what waits.
     fn keep_line(&mut self, line: &[u8])
-        requires room { length (waiting self.old) + length line.now < 16384 }
+        requires room { length (waiting self.old) + length line.now < CAPACITY }
         ensures kept { waiting self.new ≡ waiting self.old ++ line.now ++ 10 ∷ [] }
         ensures same { has_failed self.new ≡ has_failed self.old }
     {

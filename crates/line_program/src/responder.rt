@@ -3,6 +3,7 @@
 ghost use Rattle.std.specs.Prelude.{◌≡◌, ◌≤◌, ◌<◌, ℕ, List, [], length, true, OnErr, OnOk, IfOk};
 ghost use Rattle.line_io.specs.Output.{Puts};
 ghost use Rattle.line_program.specs.Rules.{StateRules};
+ghost use Rattle.line_io.specs.declared.buffer.TheConstants.{LINE_MAX};
 
 use line_io::{OutputBuffer, Sink};
 use std::alloc::AllocError;
@@ -21,7 +22,7 @@ pub trait Responder {
         out: &mut OutputBuffer,
         sink: &mut K,
     ) -> Result<bool, AllocError>
-        requires short { length line.now ≤ 8192 }
+        requires short { length line.now ≤ LINE_MAX }
         ensures good { IfOk result (λ good. good ≡ rules.is_good self.old line.now) }
         ensures reply { OnOk result (Puts (K.written sink.old) (K.written sink.new) (K.faults sink.old) (K.faults sink.new) out.old out.new
             (rules.reply self.old line.now)) }
@@ -32,8 +33,8 @@ pub trait Responder {
 
     /// Puts the reply to a line of more than 8,192 bytes, whichever it was, and tells whether it is good.
     fn answer_long<K: Sink>(&mut self, out: &mut OutputBuffer, sink: &mut K) -> bool
-        ensures good { (line : List ℕ) → 8192 < length line → result ≡ rules.is_good self.old line }
-        ensures reply { (line : List ℕ) → 8192 < length line →
+        ensures good { (line : List ℕ) → LINE_MAX < length line → result ≡ rules.is_good self.old line }
+        ensures reply { (line : List ℕ) → LINE_MAX < length line →
             Puts (K.written sink.old) (K.written sink.new) (K.faults sink.old) (K.faults sink.new) out.old out.new (rules.reply self.old line) }
-        ensures after { (line : List ℕ) → 8192 < length line → self.new ≡ rules.after self.old line };
+        ensures after { (line : List ℕ) → LINE_MAX < length line → self.new ≡ rules.after self.old line };
 }

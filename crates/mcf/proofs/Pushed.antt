@@ -1,9 +1,8 @@
 -- Pushes keep the grammar.
-use Rattle.std.proofs.Common.{◌≡◌, ℕ, zero, suc, ◌<◌, ◌≤◌, true, List, [], ◌∷◌, ◌++◌, length, map, slice_index, refl}
+use Rattle.std.proofs.Common.{◌≡◌, ℕ, suc, ◌≤◌, true, List, [], ◌∷◌, ◌++◌, length, map, refl}
 use Rattle.std.proofs.Common.{ap, ◌∙◌, length-append, arith, inl, inr, Result, Ok, Err}
 use Rattle.std.specs.Prelude.{Option, Some, None, IfErr, OnOk}
 use Rattle.std.specs.List.{list_all}
-use Rattle.std.proofs.lemmas.Bool.{and_parts}
 use Rattle.std.proofs.lemmas.List.{length-map}
 use Rattle.base64ct.specs.Alphabets.{base64_unpadded, base64_bcrypt, base64_sha_crypt, base64_pbkdf2}
 use Rattle.base64ct.specs.Encoding.{Alphabet, EachBelow, bits, character, encoding, groups, sixes}

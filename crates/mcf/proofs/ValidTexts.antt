@@ -1,17 +1,16 @@
 -- The pieces of a text without a fault.
 use Rattle.std.proofs.Common.{◌≡◌, ℕ, true, List, [], ◌∷◌, ◌++◌, ap, ◌∙◌, sym, refl, arith}
-use Rattle.std.specs.Prelude.{Option, Some, None, Ok, ◌==◌}
+use Rattle.std.specs.Prelude.{None, Ok, ◌==◌}
 use Rattle.std.specs.List.{join_with_byte}
 use Rattle.std.proofs.lemmas.Bool.Decides.{nat_tests}
 use Rattle.std.proofs.lemmas.List.{append-nil}
 use Rattle.pieces.specs.Pieces.{pieces_at}
 use Rattle.pieces.proofs.Cuts.{cut_of, cut_in_front, join_pieces}
-use Rattle.mcf.specs.declared.error.Error.{Error}
 use Rattle.mcf.specs.declared.error.Error.TheVariants.{DelimiterInvalid, IdentifierInvalid}
 use Rattle.mcf.specs.Grammar.{first_field_fault, is_delimited, is_identifier, fault, mcf, parts, Parts}
 use Rattle.pieces.specs.Faults.{or_else, unless}
-use Rattle.pieces.proofs.FaultLaws.{or_none, some_none, unless_none}
-use Rattle.mcf.specs.Grammar.{parts_of_pieces, parts_or_fault, parts_text, fields_text}
+use Rattle.pieces.proofs.FaultLaws.{or_none, some_none, unless_none, value_found}
+use Rattle.mcf.specs.Grammar.{parts_of_pieces, parts_text, fields_text}
 
 -- what holds of a text without a fault
 pub record IsValid (s : List ℕ) : Type 0 where
@@ -58,15 +57,11 @@ pub join-fields : (piece : List ℕ) (fields : List (List ℕ))
 join-fields piece [] = sym (append-nil piece)
 join-fields piece (field ∷ fields) = ap (λ (t : List ℕ). piece ++ 36 ∷ t) (join-fields field fields)
 
-by_fault : (p q : Parts) (f : Option Error) → parts_or_fault p f ≡ Ok q → (f ≡ None) × (p ≡ q)
-by_fault p q None h = (refl, cc)
-by_fault p q (Some e) h = absurd cc
-
 -- a text is that of its identifier and its fields
 pub parts_text-mcf : (s : List ℕ) (p : Parts) → mcf s ≡ Ok p → parts_text p ≡ s
 unfolding mcf
 parts_text-mcf s p h =
-    let is = by_fault (parts s) p (fault s) h in
+    let is = value_found (parts s) p (fault s) h in
     let cut = pieces_of_valid s is.0 in
     ap parts_text (sym is.1) ∙ sym (join-fields [] ((parts s).id ∷ (parts s).fields)) ∙ ap (join_with_byte 36) (sym cut)
     ∙ join_pieces 36 s

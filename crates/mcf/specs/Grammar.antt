@@ -1,11 +1,11 @@
 -- The modular crypt format (crypt(5), "hashed passphrases"; the rules on characters are those of the
 -- documentation of Rust's crate mcf): a first fault, or an identifier and fields.
 use Rattle.std.specs.Prelude.{ℕ, Bool, not, ◌&&◌, ◌||◌, ◌==◌, List, [], ◌∷◌, ◌++◌, nat_eq, Option, Some}
-use Rattle.std.specs.Prelude.{None, Result, Ok, Err, if◌then◌else◌, codes}
+use Rattle.std.specs.Prelude.{None, Result, if◌then◌else◌, codes}
 use Rattle.std.specs.List.{list_all, list_any, starts_with, ends_with}
 use Rattle.std.specs.Char.{is_ascii_lowercase, is_ascii_digit, is_ascii_alphanumeric}
 use Rattle.pieces.specs.Characters.{dollar, hyphen}
-use Rattle.pieces.specs.Faults.{or_else, unless}
+use Rattle.pieces.specs.Faults.{or_else, unless, value_or_fault}
 use Rattle.pieces.specs.Lists.{is_empty}
 use Rattle.pieces.specs.Pieces.{pieces_at}
 use Rattle.mcf.specs.declared.error.Error.{Error}
@@ -62,14 +62,9 @@ fault s =
     (or_else (unless (is_identifier (parts s).id) IdentifierInvalid)
     (first_field_fault (parts s).fields))
 
--- the fault, where there is one, or the parts
-abbrev pub parts_or_fault : Parts → Option Error → Result Parts Error
-parts_or_fault p (Some e) = Err e
-parts_or_fault p None = Ok p
-
 -- what a text means: its identifier and fields, or its first fault
 unfoldable pub mcf : List ℕ → Result Parts Error
-mcf s = parts_or_fault (parts s) (fault s)
+mcf s = value_or_fault (parts s) (fault s)
 
 -- the text of one part, with its `$`
 abbrev pub with_dollar : List ℕ → List ℕ

@@ -13,6 +13,7 @@ use Rattle.mcf.specs.declared.error.Error as mcf_error
 use Rattle.phc.specs.declared.password_hash.PasswordHash.{PasswordHash}
 use Rattle.sha_crypt.specs.HashField.{field_bytes, in_order}
 use Rattle.sha_crypt.proofs.HashFields.{decoded_of, same_hash}
+use Rattle.stored_check.proofs.Causes.{fits}
 use Rattle.stored_check.specs.Verdict.{may_lack_memory, mcf_name, verdict}
 use Rattle.stored_check.specs.declared.error.StoredError.TheVariants.{PasswordTooLong, Mcf}
 use Rattle.md5_crypt.specs.Digest.{md5_crypt_digest}
@@ -55,18 +56,15 @@ module _ (accepted : PasswordHash → List ℕ → ℕ → Bool) (tag : List ℕ
   unfolding legacy_verdict
   too_long h = let test : nat_lt 4096 (length password) ≡ true = grind (arith, nat_tests) in inl (rw test refl)
 
-  fits : length password ≤ 4096 → nat_lt 4096 (length password) ≡ false
-  fits h = grind (arith, nat_tests)
-
   verdict_of_fault : (e : mcf_error.Error) → length password ≤ 4096 → fault stored ≡ Some e
       → verdict accepted tag password stored ≡ Err (Mcf (mcf_name e))
   unfolding verdict mcf
-  verdict_of_fault e short bad = rw (fits short, bad) refl
+  verdict_of_fault e short bad = rw (fits password short, bad) refl
 
   legacy_of_fault : (e : mcf_error.Error) → length password ≤ 4096 → fault stored ≡ Some e
       → legacy_verdict accepted tag password stored ≡ Err (Stored (Mcf (mcf_name e)))
   unfolding legacy_verdict mcf
-  legacy_of_fault e short bad = rw (fits short, bad) refl
+  legacy_of_fault e short bad = rw (fits password short, bad) refl
 
   no_lack : (e : mcf_error.Error) → length password ≤ 4096 → fault stored ≡ Some e
       → may_lack_memory accepted needs_memory tag password stored ≡ false
@@ -84,12 +82,12 @@ module _ (accepted : PasswordHash → List ℕ → ℕ → Bool) (tag : List ℕ
       → magic_of (parts stored).id ≡ Some magic
       → r ≡ md5_answer magic password (md5_fields (parts stored).fields) → Whole r
   unfolding legacy_verdict mcf
-  md5_text magic r short valid is h = inl (h ∙ rw (fits short, valid, is) refl)
+  md5_text magic r short valid is h = inl (h ∙ rw (fits password short, valid, is) refl)
 
   legacy_is : length password ≤ 4096 → fault stored ≡ None → magic_of (parts stored).id ≡ None
       → legacy_verdict accepted tag password stored ≡ stored_answer (verdict accepted tag password stored)
   unfolding legacy_verdict mcf
-  legacy_is short valid none = rw (fits short, valid, none) refl
+  legacy_is short valid none = rw (fits password short, valid, none) refl
 
   lack_is : fault stored ≡ None → magic_of (parts stored).id ≡ None
       → legacy_may_lack accepted needs_memory tag password stored

@@ -6,17 +6,15 @@ ghost use Rattle.stored_check.specs.Verdict.{may_lack_memory, verdict};
 ghost use Rattle.md5_crypt.specs.Verdict.{IsLegacyVerdict, split_fields, legacy_may_lack, legacy_verdict};
 ghost use Rattle.md5_crypt.specs.Verdict.{md5_answer, md5_fields, stored_answer, checked_fields};
 ghost use Rattle.md5_crypt.specs.Views.{as_form, fields_of};
+ghost use Rattle.stored_check.specs.declared.check.TheConstants.{PASSWORD_MAX};
 
 use crate::magic::magic_of;
 use crate::{LegacyError, MAP_MD5, Magic, Md5Fault, md5_crypt};
 use mcf::{Fields, PasswordHashRef};
 use sha_crypt::b64::{field_bytes, in_order};
 use std::alloc::Global;
-use stored_check::{PhcKdf, StoredError, check_stored};
+use stored_check::{PASSWORD_MAX, PhcKdf, StoredError, check_stored};
 use subtle::ct_eq_slices;
-
-/// The most bytes of a password.
-const PASSWORD_MAX: usize = 4_096;
 
 /// The most bytes of a salt.
 const SALT_MAX: usize = 8;
@@ -50,7 +48,7 @@ fn split_fields(mut fields: Fields<'_>) -> Result<Md5Text<'_>, Md5Fault>
 // Whether the text of the hash is the hash field of the password's digest. The digests are compared as bytes, to their
 // end.
 fn check_parts(magic: Magic, password: &[u8], parts: Md5Text<'_>) -> Result<bool, LegacyError>
-    requires short { length password.now ≤ 4096 }
+    requires short { length password.now ≤ PASSWORD_MAX }
     ensures answer { result ≡ md5_answer magic password.now (checked_fields (Ok (fields_of parts.entry))) }
 {
     if parts.salt.len() > SALT_MAX {
@@ -67,7 +65,7 @@ fn check_parts(magic: Magic, password: &[u8], parts: Md5Text<'_>) -> Result<bool
 // The answer for the fields behind an identifier with this magic.
 #[tactic(auto, unfolding(crate::specs::Verdict::md5_fields))]
 fn check_fields(magic: Magic, password: &[u8], fields: Fields<'_>) -> Result<bool, LegacyError>
-    requires short { length password.now ≤ 4096 }
+    requires short { length password.now ≤ PASSWORD_MAX }
     ensures answer { result ≡ md5_answer magic password.now (md5_fields (fields_left fields.entry)) }
 {
     match split_fields(fields) {

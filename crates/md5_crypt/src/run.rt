@@ -38,10 +38,10 @@ struct LegacyCheck {
 }
 
 impl PasswordCheck for LegacyCheck {
-    ghost use Rattle.line_program.specs.PlainOutput.{as_option};
+    ghost use Rattle.std.specs.Result.{result_ok};
     ghost use Rattle.md5_crypt.specs.Run.{is_costly, verdict_with_scrypt};
 
-    ghost verdict = { λ check password stored. as_option (verdict_with_scrypt password stored) };
+    ghost verdict = { λ check password stored. result_ok (verdict_with_scrypt password stored) };
 
     ghost may_lack = { λ check password stored. is_costly password stored };
 

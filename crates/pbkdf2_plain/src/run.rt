@@ -51,10 +51,10 @@ struct EitherCheck {
 }
 
 impl PasswordCheck for EitherCheck {
-    ghost use Rattle.line_program.specs.PlainOutput.{as_option};
+    ghost use Rattle.std.specs.Result.{result_ok};
     ghost use Rattle.pbkdf2_plain.specs.Run.{is_costly, verdict_of_either};
 
-    ghost verdict = { λ check password stored. as_option (verdict_of_either password stored) };
+    ghost verdict = { λ check password stored. result_ok (verdict_of_either password stored) };
 
     ghost may_lack = { λ check password stored. is_costly password stored };
 

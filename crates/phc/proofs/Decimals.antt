@@ -1,9 +1,9 @@
 -- What `parse` gives for digits without a leading zero.
 use Rattle.std.proofs.Common.{◌≡◌, ℕ, ◌^◌, ◌<◌, Bool, true, false, List, length, refl, arith, rules, Result, Ok, Err}
-use Rattle.std.specs.Prelude.{◌&&◌, not, nat_le, nat_lt, Option, Some, None}
+use Rattle.std.specs.Prelude.{◌&&◌, not, nat_le, nat_lt, Some, None}
 use Rattle.std.specs.Char.{is_ascii_digit}
 use Rattle.std.specs.List.{list_all}
-use Rattle.std.specs.Result.{OkIff}
+use Rattle.std.specs.Result.{OkIff, result_ok}
 use Rattle.std.specs.Str.Parse.{ParsesUnsigned}
 use Rattle.std.proofs.lemmas.Str.Parse.{IsNumeralModel, numerals_by_fold, parse_digits}
 use Rattle.std.proofs.lemmas.Bool.Decides.{nat_tests}
@@ -13,11 +13,6 @@ use Rattle.pieces.specs.Numbers.{has_leading_zero, number_after}
 
 pub own : IsNumeralModel (λ ds. list_all is_ascii_digit ds ≡ true) (number_after 0)
 own = numerals_by_fold _ (search rules) number_after (search rules)
-
--- what is left of a result
-abbrev pub as_option : {E : Type 0} → Result ℕ E → Option ℕ
-as_option (Ok n) = Some n
-as_option (Err e) = None
 
 when_small : (s : List ℕ) (n : ℕ) → is_plain s ≡ true → 0 < length s → number_after 0 s < 2 ^ 32 → n ≡ number_after 0 s
     → Some n ≡ decimal_value s
@@ -37,12 +32,12 @@ unless_small s true is none =
     absurd (none (some, small))
 
 by_answer : {E : Type 0} (s : List ℕ) (r : Result ℕ E) → is_plain s ≡ true
-    → OkIff r ((0 < length s) × (number_after 0 s < 2 ^ 32)) (number_after 0 s) → as_option r ≡ decimal_value s
+    → OkIff r ((0 < length s) × (number_after 0 s < 2 ^ 32)) (number_after 0 s) → result_ok r ≡ decimal_value s
 by_answer s (Ok n) plain h = when_small s n plain h.0.0 h.0.1 h.1
 by_answer s (Err e) plain h = unless_small s _ refl h
 
 pub plain_parsed : {E : Type 0} (s : List ℕ) (r : Result ℕ E) → is_plain s ≡ true → ParsesUnsigned 32 10 s r
-    → as_option r ≡ decimal_value s
+    → result_ok r ≡ decimal_value s
 plain_parsed s r plain h =
     let parts = and_parts (list_all is_ascii_digit s) (not (has_leading_zero s)) plain in
     by_answer s r plain (parse_digits own 32 s r h parts.0)

@@ -1,6 +1,6 @@
 -- A printable record is read back from its text, and every record that is read is printable.
-use Rattle.std.proofs.Common.{◌≡◌, ◌≢◌, ℕ, zero, suc, ◌+◌, ◌*◌, ◌/◌, ◌^◌, ◌<◌, ◌≤◌, Bool, true, false, List, [], ◌∷◌}
-use Rattle.std.proofs.Common.{◌++◌, length, drop, get_or, refl, sym, ap, ◌∙◌, arith, append_assoc, Ok}
+use Rattle.std.proofs.Common.{◌≡◌, ◌≢◌, ℕ, zero, suc, ◌^◌, ◌<◌, ◌≤◌, Bool, true, false, List, [], ◌∷◌}
+use Rattle.std.proofs.Common.{◌++◌, length, drop, refl, sym, ap, ◌∙◌, arith, append_assoc, Ok}
 use Rattle.std.specs.Prelude.{◌==◌, ◌&&◌, ◌||◌, not, nat_eq, nat_le, nat_lt, Option, Some, None, IfSome, is_some}
 use Rattle.std.specs.Prelude.{is_none, codes, if◌then◌else◌}
 use Rattle.std.specs.Option.{option_and_then, option_map}
@@ -16,7 +16,7 @@ use Rattle.pieces.specs.Pieces.{EachLacks, first, pieces_at}
 use Rattle.pieces.proofs.Cuts.{cut_in_front, cut_joined}
 use Rattle.base64ct.specs.Alphabets.{base64_unpadded}
 use Rattle.base64ct.specs.Encoding.{EachBelow}
-use Rattle.base64ct.proofs.DecodingLaws.{decoding-encoding, length-decodable}
+use Rattle.base64ct.proofs.DecodingLaws.{decoding-encoding}
 use Rattle.phc.specs.Encoded.{decoding, encoding}
 use Rattle.phc.specs.Grammar.{Layout, pieces_behind, decimal_value, fault_of, fault_of_layout, read_first, has}
 use Rattle.phc.specs.Grammar.{hash_fault, is_name, is_name_byte, is_value_byte, layout}

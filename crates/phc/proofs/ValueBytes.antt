@@ -1,5 +1,5 @@
 -- Texts whose bytes are those of names and values: they are ASCII and lack `,` and `=`.
-use Rattle.std.proofs.Common.{◌≡◌, ℕ, ◌^◌, ◌<◌, ◌≤◌, Bool, true, false, List, [], ◌∷◌, length, refl, arith}
+use Rattle.std.proofs.Common.{◌≡◌, ℕ, ◌^◌, ◌<◌, ◌≤◌, true, List, length, refl, arith}
 use Rattle.std.specs.Prelude.{◌&&◌, nat_le, None}
 use Rattle.std.specs.Char.{is_ascii_digit}
 use Rattle.std.specs.Fmt.{decimal}
@@ -9,18 +9,14 @@ use Rattle.std.proofs.lemmas.Bool.{and_parts}
 use Rattle.std.proofs.lemmas.Bool.Decides.{nat_tests}
 use Rattle.std.proofs.lemmas.Fmt.{length-decimal-le}
 use Rattle.std.proofs.lemmas.Str.{IsUtf8-from_ascii}
-use Rattle.std.proofs.lemmas.Str.Ascii.{IsAscii-nil, IsAscii-cons}
 use Rattle.base64ct.specs.Encoding.{EachBelow}
 use Rattle.phc.specs.Encoded.{encoding}
 use Rattle.phc.specs.Grammar.{has_value_bytes, is_name, is_name_byte, is_value_byte, value_fault}
-use Rattle.pieces.specs.Faults.{first_fault, unless}
-use Rattle.phc.specs.declared.error.Error.{Error}
 use Rattle.phc.specs.declared.error.Error.TheVariants.{ParamValueInvalid, ParamValueTooLong}
 use Rattle.phc.proofs.Characters.{all_weaker, encoding_value}
 use Rattle.phc.proofs.EncodedBytes.{encoded_length}
 use Rattle.phc.proofs.FieldFaults.{both_hold}
 use Rattle.phc.proofs.NameLemmas.{name_byte_ascii}
-use Rattle.pieces.proofs.FaultLaws.{some_none}
 use Rattle.pieces.proofs.ByteTests.{all_ascii}
 
 -- ---- a test of each byte

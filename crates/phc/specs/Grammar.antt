@@ -2,7 +2,7 @@
 -- By the limits of `phc` 0.6.1 it is narrower than the format's (a salt is a canonical encoding of 11 to 64 characters,
 -- a hash of 10 bytes to 86 characters, parameters have at most 127 characters), and wider: a parameter may be named
 -- `v`, a name may stand twice, and a value may be empty.
-use Rattle.std.specs.Prelude.{ℕ, ◌+◌, ◌-◌, ◌^◌, Bool, not, ◌&&◌, ◌||◌, List, [], ◌∷◌, ◌==◌}
+use Rattle.std.specs.Prelude.{ℕ, ◌^◌, Bool, not, ◌&&◌, ◌||◌, List, [], ◌∷◌, ◌==◌}
 use Rattle.std.specs.Prelude.{nat_lt, nat_le, length, drop, Option, Some, None, is_some, unwrap_or}
 use Rattle.std.specs.Prelude.{if◌then◌else◌, codes, map}
 use Rattle.std.specs.List.{list_all, list_any}
@@ -19,6 +19,11 @@ use Rattle.phc.specs.declared.error.Error.{Error}
 use Rattle.phc.specs.declared.error.Error.TheVariants.{Base64, OutputSize, ParamNameInvalid, ParamValueInvalid}
 use Rattle.phc.specs.declared.error.Error.TheVariants.{ParamValueTooLong, ParamsMaxExceeded, SaltTooShort, SaltTooLong}
 use Rattle.phc.specs.declared.error.Error.TheVariants.{TrailingData}
+use Rattle.phc.specs.declared.ident.TheConstants.Ident as Ident
+use Rattle.phc.specs.declared.output.TheConstants.Output as Output
+use Rattle.phc.specs.declared.params.TheConstants.ParamsString as ParamsString
+use Rattle.phc.specs.declared.salt.TheConstants.SaltString as SaltString
+use Rattle.phc.specs.declared.value.TheConstants.Value as Value
 
 -- ---- names, values and decimals
 
@@ -28,7 +33,7 @@ is_name_byte b = is_ascii_lowercase b || is_ascii_digit b || b == hyphen
 
 -- 1 to 32 such characters
 abbrev pub is_name : List ℕ → Bool
-is_name s = nat_le 1 (length s) && nat_le (length s) 32 && list_all is_name_byte s
+is_name s = nat_le 1 (length s) && nat_le (length s) Ident.MAX_LENGTH && list_all is_name_byte s
 
 -- characters of A-Z a-z 0-9 `/` `+` `.` `-`
 abbrev pub is_value_byte : ℕ → Bool
@@ -60,7 +65,9 @@ name_fault s = unless (is_name s) ParamNameInvalid
 -- the fault of a value
 abbrev pub value_fault : List ℕ → Option Error
 value_fault s = first_fault
-    (unless (nat_le (length s) 64) ParamValueTooLong ∷ (unless (has_value_bytes s) ParamValueInvalid ∷ []))
+    (unless (nat_le (length s) Value.MAX_LENGTH) ParamValueTooLong
+    ∷ (unless (has_value_bytes s) ParamValueInvalid
+    ∷ []))
 
 -- ---- which piece is what
 
@@ -138,12 +145,13 @@ pair_of [] = ([], [])
 
 abbrev pub version_fault : List ℕ → Option Error
 version_fault s = first_fault
-    (unless (nat_le (length s) 64) ParamValueTooLong
+    (unless (nat_le (length s) Value.MAX_LENGTH) ParamValueTooLong
     ∷ (unless (is_some (decimal_value s)) ParamValueInvalid
     ∷ []))
 
 abbrev pub params_fault : List ℕ → Option Error
-params_fault s = first_fault (unless (nat_le (length s) 127) ParamsMaxExceeded ∷ map pair_fault (cut_pairs s))
+params_fault s = first_fault
+    (unless (nat_le (length s) ParamsString.MAX_LENGTH) ParamsMaxExceeded ∷ map pair_fault (cut_pairs s))
 
 -- the fault of a text, of which the empty one has none
 abbrev pub text_fault : List ℕ → Option Error
@@ -155,17 +163,17 @@ text_pairs s = if is_empty s then [] else map pair_of (cut_pairs s)
 
 abbrev pub salt_fault : List ℕ → Option Error
 salt_fault s = first_fault
-    (unless (nat_le 11 (length s)) SaltTooShort
-    ∷ (unless (nat_le (length s) 64) SaltTooLong
+    (unless (nat_le SaltString.MIN_LENGTH (length s)) SaltTooShort
+    ∷ (unless (nat_le (length s) SaltString.MAX_LENGTH) SaltTooLong
     ∷ (unless (is_some (decoding s)) (Base64 InvalidEncoding)
     ∷ [])))
 
 -- the fault of the hash, whose encoding stands for 10 bytes or more
 abbrev pub hash_fault : List ℕ → Option Error
 hash_fault s = first_fault
-    (unless (nat_le (length s) 86) (Base64 InvalidLength)
+    (unless (nat_le (length s) Output.B64_MAX_LENGTH) (Base64 InvalidLength)
     ∷ (unless (is_some (decoding s)) (Base64 InvalidEncoding)
-    ∷ (unless (nat_le 10 (length (unwrap_or (decoding s) []))) (OutputSize Less 10)
+    ∷ (unless (nat_le Output.MIN_LENGTH (length (unwrap_or (decoding s) []))) (OutputSize Less Output.MIN_LENGTH)
     ∷ [])))
 
 -- ---- the whole

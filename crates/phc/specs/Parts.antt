@@ -7,6 +7,8 @@ use Rattle.phc.specs.Grammar.{hash_fault, salt_fault}
 use Rattle.pieces.specs.Faults.{value_or_fault}
 use Rattle.phc.specs.declared.error.Error.{Error}
 use Rattle.phc.specs.declared.error.Error.TheVariants.{OutputSize, SaltTooShort, SaltTooLong}
+use Rattle.phc.specs.declared.output.TheConstants.Output as Output
+use Rattle.phc.specs.declared.salt.TheConstants.Salt as Salt
 
 -- the bytes whose encoding the text of a hash is, or its fault
 abbrev pub output_or_fault : List ℕ → Result (List ℕ) Error
@@ -23,13 +25,13 @@ salt_text_or_fault s = value_or_fault s (salt_fault s)
 -- 10 to 64 bytes
 abbrev pub output_of_bytes : List ℕ → Result (List ℕ) Error
 output_of_bytes b =
-    if nat_lt (length b) 10 then Err (OutputSize Less 10)
-    else (if nat_lt 64 (length b) then Err (OutputSize Greater 64) else Ok b)
+    if nat_lt (length b) Output.MIN_LENGTH then Err (OutputSize Less Output.MIN_LENGTH)
+    else (if nat_lt Output.MAX_LENGTH (length b) then Err (OutputSize Greater Output.MAX_LENGTH) else Ok b)
 
 -- 8 to 48 bytes
 abbrev pub salt_of_bytes : List ℕ → Result (List ℕ) Error
-salt_of_bytes b = if nat_lt (length b) 8 then Err SaltTooShort else
-    (if nat_lt 48 (length b) then Err SaltTooLong else Ok b)
+salt_of_bytes b = if nat_lt (length b) Salt.MIN_LENGTH then Err SaltTooShort else
+    (if nat_lt Salt.MAX_LENGTH (length b) then Err SaltTooLong else Ok b)
 
 -- what a closure left, or its refusal
 abbrev pub after_init : Result (Unit {0}) Error → List ℕ → Result (List ℕ) Error

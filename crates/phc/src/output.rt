@@ -9,6 +9,7 @@ ghost use Rattle.base64ct.specs.declared.errors.Error.TheVariants.{InvalidLength
 ghost use Rattle.base64ct.specs.Counts.{field_looks};
 ghost use Rattle.phc.specs.Encoded.{encoding};
 ghost use Rattle.phc.specs.Parts.{output_or_fault, output_of_bytes, after_init};
+ghost use Rattle.phc.specs.declared.output.TheConstants.Output as Output;
 
 use crate::{Error, Result};
 use base64ct::{Base64Unpadded, Counts, Encoding};
@@ -29,12 +30,13 @@ pub struct Output {
 
 impl Model for Output {
     ghost use Rattle.std.specs.Prelude.{◌≡◌, ◌≤◌, ℕ, List, length};
+    ghost use Rattle.phc.specs.declared.output.TheConstants.Output as Output;
 
     ghost Value = { List ℕ };
 
     ghost view = { λ o. o.bytes };
 
-    ghost invariant = { λ o. (10 ≤ length o.bytes) × (length o.bytes ≤ 64) };
+    ghost invariant = { λ o. (Output.MIN_LENGTH ≤ length o.bytes) × (length o.bytes ≤ Output.MAX_LENGTH) };
 
     ghost inverse = { λ s. record { bytes = s } };
 }
@@ -87,10 +89,10 @@ impl Output {
     /// The output that `f` writes over `output_size` zeros. It refuses a size as [`new`](Output::new) does
     /// before `f` is called, and then as `f` does.
     pub fn init_with<F: FnOnce(&mut [u8]) -> Result<()>>(output_size: usize, f: F) -> Result<Output>
-        requires { 10 ≤ output_size → output_size ≤ 64 → FnOnceTakesAtMut F.FnOnce f (replicate output_size 0) }
-        ensures short { output_size < 10 → result ≡ Err (Error.OutputSize Less 10) }
-        ensures long { 64 < output_size → result ≡ Err (Error.OutputSize Greater 64) }
-        ensures filled { 10 ≤ output_size → output_size ≤ 64 → (answer : _) × (left : _)
+        requires { Output.MIN_LENGTH ≤ output_size → output_size ≤ Output.MAX_LENGTH → FnOnceTakesAtMut F.FnOnce f (replicate output_size 0) }
+        ensures short { output_size < Output.MIN_LENGTH → result ≡ Err (Error.OutputSize Less Output.MIN_LENGTH) }
+        ensures long { Output.MAX_LENGTH < output_size → result ≡ Err (Error.OutputSize Greater Output.MAX_LENGTH) }
+        ensures filled { Output.MIN_LENGTH ≤ output_size → output_size ≤ Output.MAX_LENGTH → (answer : _) × (left : _)
             × FnOnceReturnsAtMut F.FnOnce f (replicate output_size 0) answer left × (result ≡ after_init answer left) }
     {
         if output_size < Self::MIN_LENGTH {
@@ -109,8 +111,8 @@ impl Output {
     /// The bytes.
     pub fn as_bytes(&self) -> &[u8]
         ensures bytes { result.now ≡ self.now }
-        ensures least { 10 ≤ length result.now }
-        ensures most { length result.now ≤ 64 }
+        ensures least { Output.MIN_LENGTH ≤ length result.now }
+        ensures most { length result.now ≤ Output.MAX_LENGTH }
     {
         self.bytes.as_slice()
     }

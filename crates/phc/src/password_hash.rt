@@ -12,6 +12,8 @@ ghost use Rattle.pieces.specs.Faults.{value_or_fault};
 ghost use Rattle.phc.specs.Record.{IsRecord, bytes_part, hash_part, is_lone_v, is_printable, params_part, phc, phc_text, record_of_layout, record_text, version_part};
 ghost use Rattle.phc.specs.Encoded.{decoding};
 ghost use Rattle.phc.specs.Views.{parts_of};
+ghost use Rattle.phc.specs.declared.output.TheConstants.Output as Output;
+ghost use Rattle.phc.specs.declared.salt.TheConstants.Salt as Salt;
 
 use crate::layout::{FormParts, layout};
 use crate::value::decimal;
@@ -248,7 +250,7 @@ fn promised_by_bytes(bytes: &[u8])
 
 // What the type of a salt promises.
 fn promised_by_salt(salt: Option<Salt>)
-    ensures { IfSome salt (λ b. EachBelow 256 b × (8 ≤ length b) × (length b ≤ 48)) }
+    ensures { IfSome salt (λ b. EachBelow 256 b × (Salt.MIN_LENGTH ≤ length b) × (length b ≤ Salt.MAX_LENGTH)) }
 {
     if let Some(salt) = &salt {
         promised_by_bytes(salt.as_bytes());
@@ -257,7 +259,7 @@ fn promised_by_salt(salt: Option<Salt>)
 
 // What the type of a hash promises.
 fn promised_by_hash(hash: Option<Output>)
-    ensures { IfSome hash (λ b. EachBelow 256 b × (10 ≤ length b) × (length b ≤ 64)) }
+    ensures { IfSome hash (λ b. EachBelow 256 b × (Output.MIN_LENGTH ≤ length b) × (length b ≤ Output.MAX_LENGTH)) }
 {
     if let Some(hash) = &hash {
         promised_by_bytes(hash.as_bytes());

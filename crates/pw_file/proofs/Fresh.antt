@@ -2,8 +2,8 @@
 use Rattle.std.proofs.Common.{◌≡◌, ℕ, ◌≤◌, ◌^◌, List, [], ◌∷◌, ◌++◌, length, refl, ap, ◌∙◌, arith}
 use Rattle.std.specs.Prelude.{codes, Option, Some, None, Ok, unwrap_or}
 use Rattle.std.proofs.lemmas.List.{length-append}
-use Rattle.mcf.specs.Grammar.{Parts, fault, mcf, parts, parts_or_fault}
-use Rattle.mcf.specs.declared.error.Error as mcf_error
+use Rattle.mcf.specs.Grammar.{Parts, fault, mcf, parts}
+use Rattle.pieces.proofs.FaultLaws.{value_found}
 use Rattle.phc.specs.Encoded.{decoding, encoding}
 use Rattle.phc.specs.Grammar.{salt_fault}
 use Rattle.phc.specs.Record.{record_text}
@@ -37,13 +37,9 @@ is_made password salt salt_is text decodes =
 
 -- ---- `set` takes it
 
-no_fault : (p q : Parts) (f : Option mcf_error.Error) → parts_or_fault p f ≡ Ok q → f ≡ None
-no_fault p q None h = refl
-no_fault p q (Some e) h = absurd cc
-
 fault_of : (s : List ℕ) (q : Parts) → mcf s ≡ Ok q → fault s ≡ None
 unfolding mcf
-fault_of s q h = no_fault (parts s) q (fault s) h
+fault_of s q h = (value_found (parts s) q (fault s) h).0
 
 pub fresh_good : (password salt : List ℕ) → salt_fault salt ≡ None → fault (fresh password salt) ≡ None
 fresh_good password salt good =

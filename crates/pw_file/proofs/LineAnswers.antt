@@ -12,8 +12,9 @@ use Rattle.stored_check.specs.declared.error.StoredError.TheVariants as stored
 use Rattle.stored_check.proofs.Causes.{never_memory}
 use Rattle.scrypt_plain.specs.Profile.{accepted, key}
 use Rattle.pw_file.specs.Verdicts.{verdict_on}
-use Rattle.pw_file.specs.Answers.{IsAnswer, bad_text, check_answer, check_may_lack, checked, done_or_fault, first_fault}
-use Rattle.pw_file.specs.Answers.{has_room, set_answer, unless, upgrade_answer, with_salt, upgrade_may_lack}
+use Rattle.pieces.specs.Faults.{first_fault, unless}
+use Rattle.pw_file.specs.Answers.{IsAnswer, bad_text, check_answer, check_may_lack, checked, done_or_fault, has_room}
+use Rattle.pw_file.specs.Answers.{set_answer, upgrade_answer, with_salt, upgrade_may_lack}
 use Rattle.pw_file.specs.Calls.{is_want, rows_after_set, rows_after_upgrade}
 use Rattle.pw_file.specs.Commands as of
 use Rattle.pw_file.specs.History.{Lists, Reply, Rows, Says, change_of, is_done, is_upgraded, text_in}

@@ -25,8 +25,9 @@ use Rattle.stored_check.specs.declared.error.StoredError.{StoredError}
 use Rattle.stored_check.specs.declared.error.StoredError.TheVariants as stored
 use Rattle.scrypt_plain.specs.Profile.{accepted, key, needs_memory}
 use Rattle.pw_file.specs.Verdicts.{fresh, fresh_key, verdict_on}
-use Rattle.pw_file.specs.Answers.{IsAnswer, bad_text, check_answer, check_may_lack, checked, first_fault, has_room}
-use Rattle.pw_file.specs.Answers.{set_fault, unless, upgrade_answer, is_match, upgrade_may_lack}
+use Rattle.pieces.specs.Faults.{first_fault, unless}
+use Rattle.pw_file.specs.Answers.{IsAnswer, bad_text, check_answer, check_may_lack, checked, has_room, set_fault}
+use Rattle.pw_file.specs.Answers.{upgrade_answer, is_match, upgrade_may_lack}
 use Rattle.pw_file.specs.Commands.{by_cut, command, cut_at_tab, is_tab}
 use Rattle.pw_file.specs.History.{Rows, text_in}
 use Rattle.pw_file.specs.Table.{rows_of}

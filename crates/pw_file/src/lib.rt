@@ -20,4 +20,4 @@ pub use command::Command;
 pub use error::FileError;
 pub use reply::{LineReply, Word};
 pub use run::{run_file, run_file_limited};
-pub use table::Table;
+pub use table::{TEXT_MAX, Table, USERS_MAX};

@@ -8,6 +8,8 @@ ghost use Rattle.pw_file.specs.Calls.{after_check, after_set, after_upgrade, row
 ghost use Rattle.pw_file.specs.History.{History, IsContentOf, text_in};
 ghost use Rattle.pw_file.specs.Replies.{row_line};
 ghost use Rattle.pw_file.specs.Verdicts.{fresh};
+ghost use Rattle.pw_file.specs.declared.table.TheConstants.{TEXT_MAX, USERS_MAX};
+ghost use Rattle.stored_check.specs.declared.check.TheConstants.{PASSWORD_MAX};
 
 use crate::FileError;
 use crate::names::checked;
@@ -22,10 +24,10 @@ use std::marker::Model;
 use stored_check::{check_stored, mcf_name};
 
 /// The most bytes of a text.
-const TEXT_MAX: usize = 1_024;
+pub const TEXT_MAX: usize = 1_024;
 
 /// The most users.
-const USERS_MAX: usize = 4_096;
+pub const USERS_MAX: usize = 4_096;
 
 /// The most bytes of a line of a listing: `set`, a tab, a name of 32 bytes, a tab, a text, a line feed.
 pub(crate) const ROW_LINE_MAX: usize = 1_062;
@@ -44,12 +46,13 @@ pub struct Table {
 impl Model for Table {
     ghost use Rattle.std.specs.Prelude.{◌≡◌, ◌≤◌, ℕ, List, length, true};
     ghost use Rattle.pw_file.specs.Table.{are_short, rows_of};
+    ghost use Rattle.pw_file.specs.declared.table.TheConstants.{USERS_MAX};
 
     ghost Value = { List (List ℕ × List ℕ) };
 
     ghost view = { λ t. rows_of t.texts.entries };
 
-    ghost invariant = { λ t. (length t.texts.entries ≤ 4096) × (are_short t.texts.entries ≡ true) };
+    ghost invariant = { λ t. (length t.texts.entries ≤ USERS_MAX) × (are_short t.texts.entries ≡ true) };
 }
 
 // The encoding of a key of 32 bytes.
@@ -71,9 +74,9 @@ fn fresh(
     password: &str,
     salt: &SaltString,
 ) -> Result<String, AllocError>
-    requires short { length password.now ≤ 4096 }
+    requires short { length password.now ≤ PASSWORD_MAX }
     ensures text { IfOk result (λ text. string_bytes text ≡ fresh password.now salt.now) }
-    ensures length { IfOk result (λ text. length (string_bytes text) ≤ 1024) }
+    ensures length { IfOk result (λ text. length (string_bytes text) ≤ TEXT_MAX) }
 {
     let mut key = [0; 32];
     kdf.scrypt_into(
@@ -95,7 +98,7 @@ fn fresh(
 
 // The command that sets the text of the user, with its line feed.
 fn line_of_row(user: Ident, text: &str) -> ShortBytes<ROW_LINE_MAX>
-    requires short { length text.now ≤ 1024 }
+    requires short { length text.now ≤ TEXT_MAX }
     ensures line { result ≡ row_line (user, text.now) }
 {
     let name = user.as_str();
@@ -124,7 +127,7 @@ impl Table {
     /// How many users there are.
     pub fn len(&self) -> usize
         ensures len { result ≡ length self.now }
-        ensures most { result ≤ 4096 }
+        ensures most { result ≤ USERS_MAX }
     {
         self.texts.len()
     }
@@ -152,7 +155,7 @@ impl Table {
     /// The user at a place and its text, which has at most 1,024 bytes.
     pub fn row(&self, i: usize) -> Option<(Ident, &str)>
         ensures row { option_map (λ row. (row.0, row.1.now)) result ≡ slice_get self.now i }
-        ensures short { IfSome result (λ row. length row.1.now ≤ 1024) }
+        ensures short { IfSome result (λ row. length row.1.now ≤ TEXT_MAX) }
     {
         match self.texts.get_index(i) {
             Some((user, text)) => Some((*user, text.as_str())),
@@ -180,7 +183,7 @@ impl Table {
     // Makes this the user's text. A new user goes last.
     fn put(&mut self, user: Ident, text: String) -> Result<(), AllocError>
         requires room { has_room (text_in self.old user) (length self.old) ≡ true }
-        requires short { length (string_bytes text) ≤ 1024 }
+        requires short { length (string_bytes text) ≤ TEXT_MAX }
         ensures put { OnOk result (self.new ≡ with_text self.old user (string_bytes text)) }
         ensures err { OnErr result (self.new ≡ self.old) }
     {
@@ -209,7 +212,7 @@ impl Table {
     // Makes a copy of this the user's text.
     fn put_copy(&mut self, user: Ident, text: &str) -> Result<(), FileError>
         requires room { has_room (text_in self.old user) (length self.old) ≡ true }
-        requires short { length text.now ≤ 1024 }
+        requires short { length text.now ≤ TEXT_MAX }
         ensures done { (result ≡ Ok tt) ⊎ (result ≡ Err FileError.OutOfMemory) }
         ensures rows { self.new ≡ rows_after_set self.old user text.now result }
     {
@@ -286,7 +289,7 @@ impl Table {
 
     // Makes the user's text, which there is, a new one.
     fn renew(&mut self, user: Ident, password: &str, salt: &SaltString) -> Result<bool, FileError>
-        requires short { length password.now ≤ 4096 }
+        requires short { length password.now ≤ PASSWORD_MAX }
         requires user { is_some (text_in self.old user) ≡ true }
         ensures answer { (result ≡ Ok true) ⊎ (result ≡ Err FileError.OutOfMemory) }
         ensures rows { self.new ≡ rows_after_upgrade self.old user password.now salt.now result }

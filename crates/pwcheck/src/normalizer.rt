@@ -3,6 +3,7 @@
 ghost use Rattle.std.specs.Prelude.{◌≡◌, ◌≤◌, ◌++◌, drop, length, take};
 ghost use Rattle.stored_check.specs.Normal.{normal};
 ghost use Rattle.pwcheck.specs.Normalize.{normal_line};
+ghost use Rattle.line_io.specs.declared.buffer.TheConstants.{LINE_MAX};
 
 use line_io::{OutputBuffer, Sink};
 use line_program::Responder;
@@ -37,7 +38,7 @@ fn write_line(line: &[u8], out: &mut [u8]) -> usize
 
 // What is written for a line of at most 8,192 bytes, at the front of `out`.
 fn normal_line<'o>(line: &[u8], out: &'o mut [u8; ROOM]) -> &'o [u8]
-    requires { length line.now ≤ 8192 }
+    requires { length line.now ≤ LINE_MAX }
     ensures { result.now ≡ normal_line line.now }
 {
     let out = &mut out[..];

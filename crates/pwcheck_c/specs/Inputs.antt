@@ -3,6 +3,8 @@ use Rattle.std.specs.Prelude.{ℕ, ◌^◌, Bool, ◌&&◌, ◌||◌, nat_lt, na
 use Rattle.std.specs.Char.{is_ascii_alphanumeric}
 use Rattle.std.specs.List.{list_all}
 use Rattle.scrypt_plain.specs.Bounds.{in_bounds}
+use Rattle.sha_crypt.specs.declared.defs.TheConstants.{SALT_MAX_LEN}
+use Rattle.sha_crypt.specs.declared.params.TheConstants.{ROUNDS_MAX, ROUNDS_MIN}
 
 -- a password or salt that is taken
 abbrev pub is_short : List ℕ → Bool
@@ -15,7 +17,7 @@ scrypt_takes password salt ln r p n =
 
 -- SHA-crypt takes the password and the rounds
 abbrev pub rounds_taken : List ℕ → ℕ → Bool
-rounds_taken password rounds = is_short password && nat_le 1000 rounds && nat_le rounds 999999999
+rounds_taken password rounds = is_short password && nat_le ROUNDS_MIN rounds && nat_le rounds ROUNDS_MAX
 
 -- the same, for what has `size` bytes, in a buffer of n
 abbrev pub sha_takes : ℕ → List ℕ → ℕ → ℕ → Bool
@@ -27,7 +29,7 @@ is_salt_character c = is_ascii_alphanumeric c || c == 46 || c == 47
 
 -- a salt of a text: crypt(5), 1 to 16 of these characters
 abbrev pub is_salt : List ℕ → Bool
-is_salt salt = nat_le 1 (length salt) && nat_le (length salt) 16 && list_all is_salt_character salt
+is_salt salt = nat_le 1 (length salt) && nat_le (length salt) SALT_MAX_LEN && list_all is_salt_character salt
 
 -- a text is made of these
 abbrev pub text_takes : List ℕ → List ℕ → ℕ → Bool

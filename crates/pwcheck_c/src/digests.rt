@@ -7,6 +7,7 @@ ghost use Rattle.sha_crypt.specs.Digest.{sha_crypt_digest};
 ghost use Rattle.sha_crypt.specs.HashField.{hash_field};
 ghost use Rattle.sha_crypt.specs.declared.defs.TheConstants.{MAP_SHA256, MAP_SHA512};
 ghost use Rattle.pwcheck_c.specs.Inputs.{sha_takes};
+ghost use Rattle.sha_crypt.specs.declared.defs.TheConstants.{PW_SIZE_SHA256, PW_SIZE_SHA512};
 
 use crate::statuses::{DONE, LONG, OUT_OF_RANGE};
 use sha_crypt::{
@@ -71,9 +72,9 @@ pub extern "C" fn pwcheck_sha256_crypt_b64(
     rounds: u32,
     out: &mut [u8],
 ) -> i32
-    ensures field { sha_takes 43 password.now rounds (length out.old) ≡ true
+    ensures field { sha_takes PW_SIZE_SHA256 password.now rounds (length out.old) ≡ true
         → (result ≡ DONE) × (out.new ≡ hash_field MAP_SHA256 (sha_crypt_digest sha256 password.now salt.now rounds)) }
-    ensures refused { sha_takes 43 password.now rounds (length out.old) ≡ false
+    ensures refused { sha_takes PW_SIZE_SHA256 password.now rounds (length out.old) ≡ false
         → (result ≡ OUT_OF_RANGE) × (out.new ≡ out.old) }
 {
     if password.len() >= LONG || out.len() != 43 {
@@ -97,9 +98,9 @@ pub extern "C" fn pwcheck_sha512_crypt_b64(
     rounds: u32,
     out: &mut [u8],
 ) -> i32
-    ensures field { sha_takes 86 password.now rounds (length out.old) ≡ true
+    ensures field { sha_takes PW_SIZE_SHA512 password.now rounds (length out.old) ≡ true
         → (result ≡ DONE) × (out.new ≡ hash_field MAP_SHA512 (sha_crypt_digest sha512 password.now salt.now rounds)) }
-    ensures refused { sha_takes 86 password.now rounds (length out.old) ≡ false
+    ensures refused { sha_takes PW_SIZE_SHA512 password.now rounds (length out.old) ≡ false
         → (result ≡ OUT_OF_RANGE) × (out.new ≡ out.old) }
 {
     if password.len() >= LONG || out.len() != 86 {

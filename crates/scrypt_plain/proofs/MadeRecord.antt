@@ -6,11 +6,12 @@ use Rattle.std.specs.List.{list_all}
 use Rattle.std.proofs.lemmas.Bool.Decides.{nat_tests}
 use Rattle.base64ct.specs.Encoding.{EachBelow}
 use Rattle.base64ct.proofs.DecodingLaws.{true_same}
-use Rattle.mcf.specs.Grammar.{Parts, fault, field_fault, first_field_fault, is_field_byte, mcf, parts, parts_or_fault}
+use Rattle.mcf.specs.Grammar.{Parts, fault, field_fault, first_field_fault, is_field_byte, mcf, parts}
 use Rattle.mcf.specs.Grammar.{parts_text}
 use Rattle.mcf.proofs.Built.{mcf-parts_text}
 use Rattle.mcf.proofs.ValidTexts.{pieces_of_valid}
 use Rattle.mcf.proofs.Pushed.{good_field}
+use Rattle.pieces.proofs.FaultLaws.{value_found}
 use Rattle.phc.specs.Encoded.{encoding}
 use Rattle.phc.specs.Grammar.{is_value_byte}
 use Rattle.phc.specs.Params.{Pairs, pairs_text}
@@ -73,15 +74,11 @@ encoded_good b below some =
     good_field (encoding b) (omega (arith, encoded_length b below, some))
     (all_weaker is_value_byte is_field_byte value_in_field (encoding b) (encoding_value b below))
 
-by_fault : (p q : Parts) (f : _) → parts_or_fault p f ≡ Ok q → (f ≡ None) × (p ≡ q)
-by_fault p q None h = (refl, cc)
-by_fault p q (Some e) h = absurd cc
-
 -- a text that both grammars read
 read_phc : (text : List ℕ) (p : Parts) → mcf text ≡ Ok p → phc_text text ≡ phc p.id p.fields
 unfolding mcf phc_text
 read_phc text p h =
-    let is = by_fault (parts text) p (fault text) h in
+    let is = value_found (parts text) p (fault text) h in
     ap phc_of_pieces (pieces_of_valid text is.0) ∙ ap (λ (q : Parts). phc q.id q.fields) is.1
 
 key_length : (password salt : List ℕ) (n r p : ℕ) → length (scrypt password salt n r p 32) ≡ 32

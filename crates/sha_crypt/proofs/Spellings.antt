@@ -24,7 +24,7 @@ use Rattle.sha_crypt.specs.declared.errors.CheckError.{CheckError}
 use Rattle.sha_crypt.specs.declared.errors.Family.{Family}
 use Rattle.sha_crypt.specs.declared.errors.Family.TheVariants.{Sha256, Sha512}
 use Rattle.sha_crypt.proofs.Decimals.{decimal_lacks, plain_decimal, plain_number-decimal, plain_old}
-use Rattle.sha_crypt.proofs.Shapes.{HasForm, Stands, form_of, of_form, where_so, unless}
+use Rattle.sha_crypt.proofs.Shapes.{HasForm, Stands, form_of, found, of_form, where_so, unless}
 
 -- ---- the bytes of the salt that count
 
@@ -40,9 +40,6 @@ unfolding sha_crypt_digest
 digest-take H password salt rounds = rw (cut_once salt) refl
 
 -- ---- the last faults
-
-abbrev found : ShaFields → Result ShaFields CheckError
-found f = Ok f
 
 ok_same : (f g : ShaFields) → found f ≡ found g → f ≡ g
 ok_same f g h = cc

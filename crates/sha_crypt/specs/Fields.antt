@@ -16,6 +16,8 @@ use Rattle.sha_crypt.specs.declared.errors.CheckError.TheVariants.{InvalidFormat
 use Rattle.sha_crypt.specs.declared.errors.CryptError.TheVariants.{RoundsError}
 use Rattle.sha_crypt.specs.declared.errors.FormatFault.TheVariants.{NoFields, NoSalt, RoundsNotNumber, NoHash, Trailing}
 use Rattle.sha_crypt.specs.declared.errors.FormatFault.TheVariants.{SaltTooLong, Base64}
+use Rattle.sha_crypt.specs.declared.defs.TheConstants.{SALT_MAX_LEN}
+use Rattle.sha_crypt.specs.declared.params.TheConstants.{ROUNDS_DEFAULT, ROUNDS_MAX, ROUNDS_MIN}
 
 -- ---- the number of rounds
 
@@ -45,7 +47,7 @@ pub record ShaFields : Type 0 where
 -- the rounds are in range
 abbrev pub fields_in_range : ℕ → Bool → List ℕ → List ℕ → Result ShaFields CheckError
 fields_in_range rounds written salt hash =
-    if nat_lt rounds 1000 || nat_lt 999999999 rounds then Err (Crypt RoundsError)
+    if nat_lt rounds ROUNDS_MIN || nat_lt ROUNDS_MAX rounds then Err (Crypt RoundsError)
     else Ok (record { rounds = rounds; written = written; salt = salt; hash = hash })
 
 -- from the salt on: exactly a salt and a hash
@@ -62,7 +64,7 @@ with_rounds (Some rounds) pieces = from_salt rounds true pieces
 
 -- by what stands behind `rounds=` in the first piece; `number` reads the rounds
 abbrev pub by_rounds : (List ℕ → Option ℕ) → Option (List ℕ) → List ℕ → List (List ℕ) → Result ShaFields CheckError
-by_rounds number None first pieces = from_salt 5000 false (first ∷ pieces)
+by_rounds number None first pieces = from_salt ROUNDS_DEFAULT false (first ∷ pieces)
 by_rounds number (Some digits) first pieces =
     if is_empty pieces then Err (InvalidFormat NoSalt) else with_rounds (number digits) pieces
 
@@ -76,7 +78,7 @@ split_fields number (first ∷ pieces) = by_rounds number (behind first (codes "
 -- the salt has at most 16 bytes
 abbrev pub short_salt : Result ShaFields CheckError → Result ShaFields CheckError
 short_salt (Err e) = Err e
-short_salt (Ok f) = if nat_lt 16 (length f.salt) then Err (InvalidFormat SaltTooLong) else Ok f
+short_salt (Ok f) = if nat_lt SALT_MAX_LEN (length f.salt) then Err (InvalidFormat SaltTooLong) else Ok f
 
 -- the text of the hash is a hash field
 abbrev pub checked_hash : (List ℕ → Bool) → Result ShaFields CheckError → Result ShaFields CheckError
@@ -99,4 +101,4 @@ old_fields is_hash_field pieces = checked_hash is_hash_field (split_fields old_n
 
 -- the fields with the bytes of the salt that count
 abbrev pub cut_salt : ShaFields → ShaFields
-cut_salt f = record f { salt = take 16 f.salt }
+cut_salt f = record f { salt = take SALT_MAX_LEN f.salt }

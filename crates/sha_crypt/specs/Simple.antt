@@ -11,6 +11,7 @@ use Rattle.sha_crypt.specs.HashField.{hash_field}
 use Rattle.sha_crypt.specs.Records.{family_scheme, record_text}
 use Rattle.sha_crypt.specs.declared.errors.Family.{Family}
 use Rattle.sha_crypt.specs.declared.errors.Family.TheVariants.{Sha256, Sha512}
+use Rattle.sha_crypt.specs.declared.params.TheConstants.{ROUNDS_DEFAULT}
 
 -- ---- salts
 
@@ -34,7 +35,7 @@ abbrev pub made_fields : Scheme → List ℕ → List ℕ → ℕ → ShaFields
 made_fields s password salt rounds =
     record {
       rounds = rounds;
-      written = not (rounds == 5000);
+      written = not (rounds == ROUNDS_DEFAULT);
       salt = salt;
       hash = hash_field s.places (sha_crypt_digest s.hash password salt rounds);
     }

@@ -2,6 +2,7 @@
 
 ghost use Rattle.std.specs.Prelude.{◌≡◌, ℕ, ◌+◌, ◌<◌, ◌≤◌, List, ◌++◌, length, take};
 ghost use Rattle.sha_crypt.specs.Digest.{by_digits, copies, repeated_to, sha_crypt_digest, start_digest};
+ghost use Rattle.sha_crypt.specs.declared.defs.TheConstants.{SALT_MAX_LEN};
 
 use crate::SALT_MAX_LEN;
 use crate::hasher::Hasher;
@@ -52,8 +53,8 @@ fn feed_by_digits<const N: usize, H: Hasher<N>>(
 
 // The part of a salt that counts.
 fn used_salt(salt: &[u8]) -> &[u8]
-    ensures value { result.now ≡ take 16 salt.now }
-    ensures short { length result.now ≤ 16 }
+    ensures value { result.now ≡ take SALT_MAX_LEN salt.now }
+    ensures short { length result.now ≤ SALT_MAX_LEN }
 {
     if salt.len() > SALT_MAX_LEN {
         &salt[..SALT_MAX_LEN]

@@ -1,6 +1,7 @@
 //! The number of rounds.
 
 ghost use Rattle.std.specs.Prelude.{◌≡◌, ◌≤◌, ◌<◌, ◌⊎◌, Ok, Err};
+ghost use Rattle.sha_crypt.specs.declared.params.TheConstants.{ROUNDS_MAX, ROUNDS_MIN};
 
 use crate::CryptError;
 use std::marker::Model;
@@ -22,12 +23,13 @@ pub struct Sha256Params {
 
 impl Model for Sha256Params {
     ghost use Rattle.std.specs.Prelude.{ℕ, ◌≤◌};
+    ghost use Rattle.sha_crypt.specs.declared.params.TheConstants.{ROUNDS_MAX, ROUNDS_MIN};
 
     ghost Value = { ℕ };
 
     ghost view = { λ p. p.rounds };
 
-    ghost invariant = { λ p. (1000 ≤ p.rounds) × (p.rounds ≤ 999999999) };
+    ghost invariant = { λ p. (ROUNDS_MIN ≤ p.rounds) × (p.rounds ≤ ROUNDS_MAX) };
 
     ghost inverse = { λ n. record { rounds = n } };
 }
@@ -35,8 +37,8 @@ impl Model for Sha256Params {
 impl Sha256Params {
     /// Parameters with this number of rounds.
     pub fn new(rounds: usize) -> Result<Sha256Params, CryptError>
-        ensures inside { 1000 ≤ rounds → rounds ≤ 999999999 → result ≡ Ok rounds }
-        ensures outside { (rounds < 1000) ⊎ (999999999 < rounds) → result ≡ Err CryptError.RoundsError }
+        ensures inside { ROUNDS_MIN ≤ rounds → rounds ≤ ROUNDS_MAX → result ≡ Ok rounds }
+        ensures outside { (rounds < ROUNDS_MIN) ⊎ (ROUNDS_MAX < rounds) → result ≡ Err CryptError.RoundsError }
     {
         if rounds < ROUNDS_MIN || rounds > ROUNDS_MAX {
             return Err(CryptError::RoundsError);
@@ -47,8 +49,8 @@ impl Sha256Params {
     /// The rounds.
     pub fn rounds(&self) -> usize
         ensures number { result ≡ self.now }
-        ensures least { 1000 ≤ result }
-        ensures most { result ≤ 999999999 }
+        ensures least { ROUNDS_MIN ≤ result }
+        ensures most { result ≤ ROUNDS_MAX }
     {
         self.rounds
     }
@@ -72,12 +74,13 @@ pub struct Sha512Params {
 
 impl Model for Sha512Params {
     ghost use Rattle.std.specs.Prelude.{ℕ, ◌≤◌};
+    ghost use Rattle.sha_crypt.specs.declared.params.TheConstants.{ROUNDS_MAX, ROUNDS_MIN};
 
     ghost Value = { ℕ };
 
     ghost view = { λ p. p.rounds };
 
-    ghost invariant = { λ p. (1000 ≤ p.rounds) × (p.rounds ≤ 999999999) };
+    ghost invariant = { λ p. (ROUNDS_MIN ≤ p.rounds) × (p.rounds ≤ ROUNDS_MAX) };
 
     ghost inverse = { λ n. record { rounds = n } };
 }
@@ -85,8 +88,8 @@ impl Model for Sha512Params {
 impl Sha512Params {
     /// Parameters with this number of rounds.
     pub fn new(rounds: usize) -> Result<Sha512Params, CryptError>
-        ensures inside { 1000 ≤ rounds → rounds ≤ 999999999 → result ≡ Ok rounds }
-        ensures outside { (rounds < 1000) ⊎ (999999999 < rounds) → result ≡ Err CryptError.RoundsError }
+        ensures inside { ROUNDS_MIN ≤ rounds → rounds ≤ ROUNDS_MAX → result ≡ Ok rounds }
+        ensures outside { (rounds < ROUNDS_MIN) ⊎ (ROUNDS_MAX < rounds) → result ≡ Err CryptError.RoundsError }
     {
         if rounds < ROUNDS_MIN || rounds > ROUNDS_MAX {
             return Err(CryptError::RoundsError);
@@ -97,8 +100,8 @@ impl Sha512Params {
     /// The rounds.
     pub fn rounds(&self) -> usize
         ensures number { result ≡ self.now }
-        ensures least { 1000 ≤ result }
-        ensures most { result ≤ 999999999 }
+        ensures least { ROUNDS_MIN ≤ result }
+        ensures most { result ≤ ROUNDS_MAX }
     {
         self.rounds
     }

@@ -1,6 +1,8 @@
--- The definition of the verdict never gives want of memory.
-use Rattle.std.proofs.Common.{◌≢◌, ℕ, Bool, true, false, List, length, Option, Some, None, Result, Ok, Err}
+-- A short password is no cause, and the definition of the verdict never gives want of memory.
+use Rattle.std.proofs.Common.{◌≡◌, ◌≢◌, ℕ, ◌≤◌, Bool, true, false, List, length, arith, Option, Some, None, Result, Ok}
+use Rattle.std.proofs.Common.{Err}
 use Rattle.std.specs.Prelude.{nat_lt, if◌then◌else◌}
+use Rattle.std.proofs.lemmas.Bool.Decides.{nat_tests}
 use Rattle.mcf.specs.Grammar.{mcf, Parts}
 use Rattle.mcf.specs.declared.error.Error as mcf_error
 use Rattle.phc.specs.Record.{phc}
@@ -13,6 +15,10 @@ use Rattle.stored_check.specs.declared.error.StoredError.{StoredError}
 use Rattle.stored_check.specs.declared.error.StoredError.TheVariants.{OutOfMemory}
 use Rattle.stored_check.specs.Verdict.{key_answer, parts_answer, phc_answer, scheme_of, sha_answer, text_answer}
 use Rattle.stored_check.specs.Verdict.{verdict}
+
+-- a password that is short enough passes the test of its length
+pub fits : (password : List ℕ) → length password ≤ 4096 → nat_lt 4096 (length password) ≡ false
+fits password short = grind (arith, nat_tests)
 
 abbrev Other : Result Bool StoredError → Type 0
 Other r = r ≢ Err OutOfMemory

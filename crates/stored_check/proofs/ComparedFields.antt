@@ -4,7 +4,7 @@ use Rattle.std.specs.Prelude.{nat_lt, Option, Some, None, if◌then◌else◌}
 use Rattle.std.specs.Option.{option_and_then}
 use Rattle.base64ct.specs.Alphabets.{base64_unpadded}
 use Rattle.base64ct.proofs.DecodingLaws.{decoding-Some}
-use Rattle.mcf.specs.Grammar.{mcf, fault, parts, parts_or_fault}
+use Rattle.mcf.specs.Grammar.{mcf, fault, parts}
 use Rattle.mcf.specs.declared.error.Error as mcf_error
 use Rattle.phc.specs.Encoded.{decoding, encoding}
 use Rattle.phc.specs.Grammar.{fault_of_layout, layout}
@@ -91,7 +91,7 @@ module _ (accepted : PasswordHash → List ℕ → ℕ → Bool) (tag : List ℕ
   by_scheme (Some s) none h = absurd cc
   by_scheme None none h = by_record (phc (parts stored).id (parts stored).fields) refl h
 
-  by_fault : (o : Option mcf_error.Error) → text_answer accepted tag password (parts_or_fault (parts stored) o) ≡ Ok b
+  by_fault : (o : Option mcf_error.Error) → text_answer accepted tag password (value_or_fault (parts stored) o) ≡ Ok b
       → scheme_of (parts stored).id ≡ None → ComparesField tag password stored b
   by_fault (Some e) h none = absurd cc
   by_fault None h none = by_scheme (scheme_of (parts stored).id) none h

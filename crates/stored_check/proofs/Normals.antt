@@ -12,12 +12,12 @@ use Rattle.std.proofs.lemmas.Fmt.{digits_decimal}
 use Rattle.std.proofs.lemmas.Str.Parse.{numerals_by_value, tells_all_ascii_digits}
 use Rattle.mcf.specs.Grammar.{mcf, fault, field_fault, first_field_fault, is_field_byte, is_identifier, parts}
 use Rattle.pieces.specs.Lists.{is_empty}
-use Rattle.mcf.specs.Grammar.{Parts, parts_or_fault, parts_text}
+use Rattle.mcf.specs.Grammar.{Parts, parts_text}
 use Rattle.mcf.specs.declared.error.Error as mcf_error
 use Rattle.mcf.specs.declared.error.Error.TheVariants.{FieldInvalid}
 use Rattle.mcf.proofs.Built.{field_bytes, mcf-parts_text}
 use Rattle.mcf.proofs.ValidTexts.{valid_of}
-use Rattle.pieces.proofs.FaultLaws.{or_none, some_none, err_ok}
+use Rattle.pieces.proofs.FaultLaws.{or_none, some_none, err_ok, value_found}
 use Rattle.phc.specs.declared.password_hash.PasswordHash.{PasswordHash}
 use Rattle.sha_crypt.specs.Families.{Scheme, scheme_fields, old_scheme_fields}
 use Rattle.sha_crypt.specs.Fields.{ShaFields, cut_salt, old_number}
@@ -97,10 +97,6 @@ anew_good s pieces f h good = let form = old_form s pieces f h in
 
 -- ---- parts of a text
 
-by_fault : (p q : Parts) (o : Option mcf_error.Error) → parts_or_fault p o ≡ Ok q → (o ≡ None) × (p ≡ q)
-by_fault p q None h = (refl, cc)
-by_fault p q (Some e) h = absurd cc
-
 record IsValidParts (p : Parts) : Type 0 where
   identifier : is_identifier p.id ≡ true
   fields : first_field_fault p.fields ≡ None
@@ -108,7 +104,7 @@ record IsValidParts (p : Parts) : Type 0 where
 valid_parts : (stored : List ℕ) (p : Parts) → mcf stored ≡ Ok p → IsValidParts p
 unfolding mcf
 valid_parts stored p h =
-    let both = by_fault (parts stored) p (fault stored) h in
+    let both = value_found (parts stored) p (fault stored) h in
     let valid = valid_of stored both.0 in
     record {
       identifier = ap (λ (q : Parts). is_identifier q.id) (sym both.1) ∙ valid.identifier;

@@ -7,6 +7,7 @@ ghost use Rattle.phc.specs.Encoded.{encoding};
 ghost use Rattle.phc.specs.Record.{phc_text};
 ghost use Rattle.stored_check.specs.Counts.{hash_length, record_hash_length, verdict_comparisons, verdict_looks};
 ghost use Rattle.stored_check.specs.Verdict.{IsVerdict, key_answer, may_lack_memory, phc_answer, record_needs, same_text, verdict};
+ghost use Rattle.stored_check.specs.declared.check.TheConstants.{PASSWORD_MAX};
 
 use crate::family::{check_family, named_family};
 use crate::names::{mcf_name, phc_name, sha_verdict};
@@ -16,7 +17,7 @@ use mcf::PasswordHashRef;
 use std::alloc::Global;
 
 /// The most bytes of a password.
-const PASSWORD_MAX: usize = 4_096;
+pub const PASSWORD_MAX: usize = 4_096;
 
 // Whether two lists of bytes have one encoding. They are compared as bytes, to their end.
 fn same_encoding(hash: &[u8], key: &[u8], counts: &mut Counts) -> bool
@@ -39,7 +40,7 @@ fn check_record<K: PhcKdf>(
     parsed: &phc::PasswordHash,
     counts: &mut Counts,
 ) -> Result<bool, StoredError>
-    requires short { length password.now ≤ 4096 }
+    requires short { length password.now ≤ PASSWORD_MAX }
     requires sames { counts.old.sames ≤ 2 ^ 62 + 8 }
     ensures answer { IsVerdict
         (key_answer (K.accepted kdf.now) (K.tag kdf.now) password.now parsed.now parsed.now.salt parsed.now.hash)
@@ -79,7 +80,7 @@ fn check_phc<K: PhcKdf>(
     stored: &str,
     counts: &mut Counts,
 ) -> Result<bool, StoredError>
-    requires short { length password.now ≤ 4096 }
+    requires short { length password.now ≤ PASSWORD_MAX }
     requires looks { counts.old.looks ≤ 2 ^ 62 }
     requires sames { counts.old.sames ≤ 2 ^ 62 }
     ensures answer { IsVerdict

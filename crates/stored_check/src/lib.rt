@@ -15,7 +15,7 @@ mod normal;
 mod tests;
 mod words;
 
-pub use check::{check_stored, check_stored_counted};
+pub use check::{PASSWORD_MAX, check_stored, check_stored_counted};
 pub use error::{McfFault, PhcFault, ShaFault, ShaFormat, StoredError};
 pub use kdf::PhcKdf;
 pub use names::mcf_name;

@@ -22,7 +22,7 @@ use Rattle.wrap_stream.proofs.Letters.{encoding-nil}
 use Rattle.base64ct.proofs.GoodBlocks.{below-append}
 use Rattle.wrap_stream.proofs.Laying.{room_none}
 use Rattle.base64ct.proofs.Wrapping.{room_after-add, wrap-append, wrap-nil}
-use Rattle.base64ct.proofs.Encoders.{wrap_is}
+use Rattle.base64ct.proofs.Encoders.{length-whole, wrap_is}
 
 -- ---- a text in pieces
 
@@ -68,9 +68,6 @@ rest_of bytes = drop (3 * (length bytes / 3)) bytes
 
 pub whole_and_rest : (bytes : List ℕ) → whole_blocks bytes ++ rest_of bytes ≡ bytes
 whole_and_rest bytes = take-append-drop (3 * (length bytes / 3)) bytes
-
-length-whole : (bytes : List ℕ) → length (whole_blocks bytes) ≡ 3 * (length bytes / 3)
-length-whole bytes = length-take-le (3 * (length bytes / 3)) bytes (omega arith)
 
 length-rest : (bytes : List ℕ) → length (rest_of bytes) ≡ length bytes - 3 * (length bytes / 3)
 length-rest bytes = length-drop (3 * (length bytes / 3)) bytes
