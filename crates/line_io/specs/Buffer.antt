@@ -6,7 +6,7 @@ use Rattle.line_io.specs.Lines.{NoFeed}
 use Rattle.line_io.specs.declared.buffer.LineBuffer.{LineBuffer}
 use Rattle.line_io.specs.declared.buffer.Line.{Line}
 use Rattle.line_io.specs.declared.buffer.Line.TheVariants.{Whole, TooLong, End, Failed, Budget}
-use Rattle.line_io.specs.declared.buffer.TheConstants.{LINE_MAX}
+use Rattle.line_io.specs.Limits.{LINE_MAX}
 
 -- the bytes that were taken and not yet answered
 unfoldable pub pending : LineBuffer → List ℕ

@@ -2,6 +2,7 @@ pub mod Devices
 pub mod Memory
 pub mod Lines
 pub mod Buffer
+pub mod Limits
 pub mod Steps
 pub mod System
 pub mod Runs

@@ -7,7 +7,7 @@ use Rattle.line_io.specs.Buffer.{pending, line, taken, max_bytes, is_ended, is_c
 use Rattle.line_io.specs.declared.buffer.LineBuffer.{LineBuffer}
 use Rattle.line_io.specs.declared.buffer.Line.{Line}
 use Rattle.line_io.specs.declared.buffer.Line.TheVariants.{Whole, TooLong, End, Failed, Budget}
-use Rattle.line_io.specs.declared.buffer.TheConstants.{LINE_MAX}
+use Rattle.line_io.specs.Limits.{LINE_MAX}
 
 -- a buffer that nothing was read into
 pub record IsNew (max : ℕ) (b : LineBuffer) : Type 0 where

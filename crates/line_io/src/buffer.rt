@@ -4,7 +4,8 @@ ghost use Rattle.std.specs.Io.KnownBytes.{Keeps};
 ghost use Rattle.std.specs.List.{list_any};
 ghost use Rattle.pieces.specs.FaultCounts.{HasRisen};
 ghost use Rattle.line_io.specs.Lines.{is_feed, NoFeed};
-ghost use Rattle.line_io.specs.declared.buffer.TheConstants.{CAPACITY, LINE_MAX};
+ghost use Rattle.line_io.specs.Limits.{LINE_MAX};
+ghost use Rattle.line_io.specs.declared.buffer.TheConstants.{CAPACITY};
 
 use crate::{Failed, Source};
 use pieces::places::first_place;

@@ -6,7 +6,7 @@ use Rattle.std.specs.Prelude.{bytes_eq, nat_eq, if◌then◌else◌, Option, Som
 use Rattle.std.specs.Cmp.Lexicographic.{pointwise}
 use Rattle.std.specs.List.{flat_map}
 use Rattle.line_program.specs.Rules.{LineRules, StateRules, each_line, from_state}
-use Rattle.line_io.specs.declared.buffer.TheConstants.{LINE_MAX}
+use Rattle.line_io.specs.Limits.{LINE_MAX}
 
 abbrev pub is_list : List ℕ → Bool
 is_list line = bytes_eq line (codes "list")

@@ -6,7 +6,7 @@ ghost use Rattle.line_io.specs.Devices.{WhereTold};
 ghost use Rattle.pieces.specs.FaultCounts.{HasRisen};
 ghost use Rattle.line_program.specs.Outcome.{Outcome};
 ghost use Rattle.line_program.specs.PlainOutput.{answer_rules, is_plain_match, is_tab, line_answer, line_may_lack, plain_word};
-ghost use Rattle.line_io.specs.declared.buffer.TheConstants.{LINE_MAX};
+ghost use Rattle.line_io.specs.Limits.{LINE_MAX};
 
 use crate::Responder;
 use crate::cut::cut_at_last_tab;

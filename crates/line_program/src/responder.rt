@@ -3,7 +3,7 @@
 ghost use Rattle.std.specs.Prelude.{◌≡◌, ◌≤◌, ◌<◌, ℕ, List, [], length, true, OnErr, OnOk, IfOk};
 ghost use Rattle.line_io.specs.Output.{Puts};
 ghost use Rattle.line_program.specs.Rules.{StateRules};
-ghost use Rattle.line_io.specs.declared.buffer.TheConstants.{LINE_MAX};
+ghost use Rattle.line_io.specs.Limits.{LINE_MAX};
 
 use line_io::{OutputBuffer, Sink};
 use std::alloc::AllocError;

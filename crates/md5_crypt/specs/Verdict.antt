@@ -17,7 +17,7 @@ use Rattle.md5_crypt.specs.declared.error.LegacyError.{LegacyError}
 use Rattle.md5_crypt.specs.declared.error.LegacyError.TheVariants.{Md5, Stored}
 use Rattle.md5_crypt.specs.declared.error.Md5Fault.{Md5Fault}
 use Rattle.md5_crypt.specs.declared.error.Md5Fault.TheVariants.{NoSalt, NoHash, Trailing, SaltTooLong, Base64}
-use Rattle.stored_check.specs.declared.check.TheConstants.{PASSWORD_MAX}
+use Rattle.stored_check.specs.Limits.{PASSWORD_MAX}
 
 -- the magic of an identifier, if it has one
 abbrev pub magic_of : List ℕ → Option Magic

@@ -6,7 +6,7 @@ ghost use Rattle.stored_check.specs.Verdict.{may_lack_memory, verdict};
 ghost use Rattle.md5_crypt.specs.Verdict.{IsLegacyVerdict, split_fields, legacy_may_lack, legacy_verdict};
 ghost use Rattle.md5_crypt.specs.Verdict.{md5_answer, md5_fields, stored_answer, checked_fields};
 ghost use Rattle.md5_crypt.specs.Views.{as_form, fields_of};
-ghost use Rattle.stored_check.specs.declared.check.TheConstants.{PASSWORD_MAX};
+ghost use Rattle.stored_check.specs.Limits.{PASSWORD_MAX};
 
 use crate::magic::magic_of;
 use crate::{LegacyError, MAP_MD5, Magic, Md5Fault, md5_crypt};

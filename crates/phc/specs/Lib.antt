@@ -8,4 +8,5 @@ pub mod Record
 pub mod Views
 pub mod Counts
 pub mod Kept
+pub mod Limits
 pub mod ValueViews

@@ -59,8 +59,8 @@ pub(crate) fn is_name(s: &str) -> bool
 }
 
 impl Ident {
-    /// The most characters.
-    pub const MAX_LENGTH: usize = 32;
+    // The most characters.
+    const MAX_LENGTH: usize = 32;
 
     /// The name that `s` is, or else `ParamNameInvalid`.
     pub fn new(s: &str) -> Result<Ident>

@@ -36,7 +36,7 @@ impl<'a> Value<'a> {
     pub const MAX_LENGTH: usize = 64;
 
     /// The most bytes whose encoding is a value.
-    pub const MAX_BYTES: usize = 48;
+    pub(crate) const MAX_BYTES: usize = 48;
 
     /// The value that `input` is. It refuses by `ParamValueTooLong` where `input` has more than 64 bytes,
     /// else by `ParamValueInvalid` where it has another character.

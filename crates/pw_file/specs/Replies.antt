@@ -13,7 +13,7 @@ use Rattle.pw_file.specs.declared.error.FileError.TheVariants as refused
 use Rattle.pw_file.specs.declared.reply.Word.{Word}
 use Rattle.pw_file.specs.declared.reply.Word.TheVariants.{TooLong, BadCommand, Done, TextLong, BadText, Full, NoUser}
 use Rattle.pw_file.specs.declared.reply.Word.TheVariants.{BadSalt, Invalid, Match, Mismatch, Upgraded}
-use Rattle.line_io.specs.declared.buffer.TheConstants.{LINE_MAX}
+use Rattle.line_io.specs.Limits.{LINE_MAX}
 
 -- ---- words
 

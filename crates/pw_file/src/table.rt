@@ -8,8 +8,8 @@ ghost use Rattle.pw_file.specs.Calls.{after_check, after_set, after_upgrade, row
 ghost use Rattle.pw_file.specs.History.{History, IsContentOf, text_in};
 ghost use Rattle.pw_file.specs.Replies.{row_line};
 ghost use Rattle.pw_file.specs.Verdicts.{fresh};
-ghost use Rattle.pw_file.specs.declared.table.TheConstants.{TEXT_MAX, USERS_MAX};
-ghost use Rattle.stored_check.specs.declared.check.TheConstants.{PASSWORD_MAX};
+ghost use Rattle.pw_file.specs.Limits.{TEXT_MAX, USERS_MAX};
+ghost use Rattle.stored_check.specs.Limits.{PASSWORD_MAX};
 
 use crate::FileError;
 use crate::names::checked;
@@ -46,7 +46,7 @@ pub struct Table {
 impl Model for Table {
     ghost use Rattle.std.specs.Prelude.{◌≡◌, ◌≤◌, ℕ, List, length, true};
     ghost use Rattle.pw_file.specs.Table.{are_short, rows_of};
-    ghost use Rattle.pw_file.specs.declared.table.TheConstants.{USERS_MAX};
+    ghost use Rattle.pw_file.specs.Limits.{USERS_MAX};
 
     ghost Value = { List (List ℕ × List ℕ) };
 

@@ -15,7 +15,7 @@ use Rattle.pwcheck.specs.declared.form.Form.{Form}
 use Rattle.pwcheck.specs.declared.form.Form.TheVariants.{Plain, Counted}
 use Rattle.line_program.specs.PlainOutput.{is_tab}
 use Rattle.line_program.specs.Rules.{LineRules, each_line}
-use Rattle.line_io.specs.declared.buffer.TheConstants.{LINE_MAX}
+use Rattle.line_io.specs.Limits.{LINE_MAX}
 
 -- ---- words
 

@@ -13,7 +13,6 @@ use Rattle.sha_crypt.specs.Simple.{characters, sha256_text, sha512_text}
 use Rattle.stored_check.specs.Verdict.{verdict}
 use Rattle.stored_check.specs.declared.error.StoredError.{StoredError}
 use Rattle.scrypt_plain.specs.Profile.{accepted, key}
-use Rattle.pwcheck.specs.declared.bench.TheConstants.{ROUNDS}
 
 -- ---- the generators
 
@@ -49,8 +48,8 @@ scrypt_text password salt = record_text (scrypt_record salt (scrypt password sal
 -- 1,000 rounds, and scrypt, in turn.
 unfoldable pub made_text : ℕ → List ℕ → Stream → List ℕ
 made_text i password left =
-    if i % 3 == 0 then sha256_text password (characters 16 left).0 ROUNDS
-    else (if i % 3 == 1 then sha512_text password (characters 16 left).0 ROUNDS
+    if i % 3 == 0 then sha256_text password (characters 16 left).0 1000
+    else (if i % 3 == 1 then sha512_text password (characters 16 left).0 1000
     else scrypt_text password (fill_bytes 16 left).0)
 
 -- ---- the lines

@@ -2,7 +2,7 @@
 use Rattle.std.specs.Prelude.{ℕ, Bool, false, not, List, [], ◌∷◌, ◌++◌, length, nat_lt, codes, if◌then◌else◌}
 use Rattle.line_program.specs.Rules.{LineRules, each_line}
 use Rattle.stored_check.specs.Normal.{normal}
-use Rattle.line_io.specs.declared.buffer.TheConstants.{LINE_MAX}
+use Rattle.line_io.specs.Limits.{LINE_MAX}
 
 -- a line of at most 8,192 bytes
 abbrev pub fits : List ℕ → Bool

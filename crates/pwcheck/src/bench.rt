@@ -8,8 +8,7 @@ ghost use Rattle.rand_chacha.specs.ChaCha.{of_seed};
 ghost use Rattle.rand_core.specs.Stream.{Stream, fill_bytes};
 ghost use Rattle.sha_crypt.specs.Simple.{characters, sha256_text, sha512_text};
 ghost use Rattle.pwcheck.specs.Bench.{is_match, is_mismatch, is_other, line_seed, line_verdict, made_text, matches, mismatches, others, scrypt_record, scrypt_text, summary, summary_text};
-ghost use Rattle.stored_check.specs.declared.check.TheConstants.{PASSWORD_MAX};
-ghost use Rattle.pwcheck.specs.declared.bench.TheConstants.{ROUNDS};
+ghost use Rattle.stored_check.specs.Limits.{PASSWORD_MAX};
 
 use line_io::{Failed, Sink, write_all};
 use line_program::status::{ALL_GOOD, NO_MEMORY, WRITE_FAULT};
@@ -37,7 +36,7 @@ fn line_rng(n: u64, i: u64) -> ChaCha20Rng
 // A text of SHA-256-crypt.
 fn sha256_line<R: Rng>(alloc: Global, rng: &mut R, password: &str) -> Option<String>
     requires { length password.now ≤ PASSWORD_MAX }
-    ensures { IfSome result (λ t. string_bytes t ≡ sha256_text password.now (characters 16 (R.stream rng.old)).0 ROUNDS) }
+    ensures { IfSome result (λ t. string_bytes t ≡ sha256_text password.now (characters 16 (R.stream rng.old)).0 1000) }
 {
     match Sha256Params::new(ROUNDS) {
         Ok(params) => match sha256_simple(alloc, rng, password, &params) {
@@ -51,7 +50,7 @@ fn sha256_line<R: Rng>(alloc: Global, rng: &mut R, password: &str) -> Option<Str
 // A text of SHA-512-crypt.
 fn sha512_line<R: Rng>(alloc: Global, rng: &mut R, password: &str) -> Option<String>
     requires { length password.now ≤ PASSWORD_MAX }
-    ensures { IfSome result (λ t. string_bytes t ≡ sha512_text password.now (characters 16 (R.stream rng.old)).0 ROUNDS) }
+    ensures { IfSome result (λ t. string_bytes t ≡ sha512_text password.now (characters 16 (R.stream rng.old)).0 1000) }
 {
     match Sha512Params::new(ROUNDS) {
         Ok(params) => match sha512_simple(alloc, rng, password, &params) {

@@ -3,7 +3,7 @@
 ghost use Rattle.std.specs.Prelude.{◌≡◌, ◌≤◌, ◌++◌, drop, length, take};
 ghost use Rattle.stored_check.specs.Normal.{normal};
 ghost use Rattle.pwcheck.specs.Normalize.{normal_line};
-ghost use Rattle.line_io.specs.declared.buffer.TheConstants.{LINE_MAX};
+ghost use Rattle.line_io.specs.Limits.{LINE_MAX};
 
 use line_io::{OutputBuffer, Sink};
 use line_program::Responder;

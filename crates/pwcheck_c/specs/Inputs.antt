@@ -3,8 +3,7 @@ use Rattle.std.specs.Prelude.{ℕ, ◌^◌, Bool, ◌&&◌, ◌||◌, nat_lt, na
 use Rattle.std.specs.Char.{is_ascii_alphanumeric}
 use Rattle.std.specs.List.{list_all}
 use Rattle.scrypt_plain.specs.Bounds.{in_bounds}
-use Rattle.sha_crypt.specs.declared.defs.TheConstants.{SALT_MAX_LEN}
-use Rattle.sha_crypt.specs.declared.params.TheConstants.{ROUNDS_MAX, ROUNDS_MIN}
+use Rattle.sha_crypt.specs.Limits.{ROUNDS_MAX, ROUNDS_MIN, SALT_MAX_LEN}
 
 -- a password or salt that is taken
 abbrev pub is_short : List ℕ → Bool

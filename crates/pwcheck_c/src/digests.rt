@@ -7,7 +7,7 @@ ghost use Rattle.sha_crypt.specs.Digest.{sha_crypt_digest};
 ghost use Rattle.sha_crypt.specs.HashField.{hash_field};
 ghost use Rattle.sha_crypt.specs.declared.defs.TheConstants.{MAP_SHA256, MAP_SHA512};
 ghost use Rattle.pwcheck_c.specs.Inputs.{sha_takes};
-ghost use Rattle.sha_crypt.specs.declared.defs.TheConstants.{PW_SIZE_SHA256, PW_SIZE_SHA512};
+ghost use Rattle.sha_crypt.specs.Limits.{PW_SIZE_SHA256, PW_SIZE_SHA512};
 
 use crate::statuses::{DONE, LONG, OUT_OF_RANGE};
 use sha_crypt::{

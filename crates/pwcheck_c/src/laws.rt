@@ -6,7 +6,7 @@ ghost use Rattle.sha_crypt.specs.Families.{sha256_answer, sha512_answer};
 ghost use Rattle.sha_crypt.specs.Simple.{made_text, sha256_text, sha512_text};
 ghost use Rattle.sha_crypt.specs.declared.errors.Family.{Family};
 ghost use Rattle.stored_check.specs.Verdict.{verdict};
-ghost use Rattle.stored_check.specs.declared.check.TheConstants.{PASSWORD_MAX};
+ghost use Rattle.stored_check.specs.Limits.{PASSWORD_MAX};
 ghost use Rattle.pwcheck_c.specs.Inputs.{text_takes};
 
 /// The text that is made of a password and a salt matches the password, by the check of its family and, for a password

@@ -6,8 +6,7 @@ ghost use Rattle.sha_crypt.specs.Records.{rounds_part};
 ghost use Rattle.sha_crypt.specs.Simple.{sha256_text, sha512_text};
 ghost use Rattle.pwcheck_c.specs.Inputs.{is_salt, is_salt_character, text_takes};
 ghost use Rattle.pwcheck_c.specs.Written.{IsPut};
-ghost use Rattle.sha_crypt.specs.declared.defs.TheConstants.{PW_SIZE_SHA512, SALT_MAX_LEN};
-ghost use Rattle.sha_crypt.specs.declared.params.TheConstants.{ROUNDS_DEFAULT};
+ghost use Rattle.sha_crypt.specs.Limits.{PW_SIZE_SHA512, ROUNDS_DEFAULT, SALT_MAX_LEN};
 
 use crate::statuses::{DONE, LONG, NO_ROOM, OUT_OF_RANGE};
 use pieces::short_bytes::ShortBytes;

@@ -16,8 +16,7 @@ use Rattle.sha_crypt.specs.declared.errors.CheckError.TheVariants.{InvalidFormat
 use Rattle.sha_crypt.specs.declared.errors.CryptError.TheVariants.{RoundsError}
 use Rattle.sha_crypt.specs.declared.errors.FormatFault.TheVariants.{NoFields, NoSalt, RoundsNotNumber, NoHash, Trailing}
 use Rattle.sha_crypt.specs.declared.errors.FormatFault.TheVariants.{SaltTooLong, Base64}
-use Rattle.sha_crypt.specs.declared.defs.TheConstants.{SALT_MAX_LEN}
-use Rattle.sha_crypt.specs.declared.params.TheConstants.{ROUNDS_DEFAULT, ROUNDS_MAX, ROUNDS_MIN}
+use Rattle.sha_crypt.specs.Limits.{ROUNDS_DEFAULT, ROUNDS_MAX, ROUNDS_MIN, SALT_MAX_LEN}
 
 -- ---- the number of rounds
 

@@ -5,6 +5,7 @@ pub mod Fields
 pub mod Fronts
 pub mod HashField
 pub mod Lent
+pub mod Limits
 pub mod RecordViews
 pub mod Records
 pub mod Simple

@@ -11,7 +11,7 @@ use Rattle.sha_crypt.specs.HashField.{hash_field}
 use Rattle.sha_crypt.specs.Records.{family_scheme, record_text}
 use Rattle.sha_crypt.specs.declared.errors.Family.{Family}
 use Rattle.sha_crypt.specs.declared.errors.Family.TheVariants.{Sha256, Sha512}
-use Rattle.sha_crypt.specs.declared.params.TheConstants.{ROUNDS_DEFAULT}
+use Rattle.sha_crypt.specs.Limits.{ROUNDS_DEFAULT}
 
 -- ---- salts
 

@@ -2,7 +2,7 @@
 
 ghost use Rattle.std.specs.Prelude.{◌≡◌, ℕ, ◌+◌, ◌<◌, ◌≤◌, List, ◌++◌, length, take};
 ghost use Rattle.sha_crypt.specs.Digest.{by_digits, copies, repeated_to, sha_crypt_digest, start_digest};
-ghost use Rattle.sha_crypt.specs.declared.defs.TheConstants.{SALT_MAX_LEN};
+ghost use Rattle.sha_crypt.specs.Limits.{SALT_MAX_LEN};
 
 use crate::SALT_MAX_LEN;
 use crate::hasher::Hasher;

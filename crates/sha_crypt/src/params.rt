@@ -1,7 +1,7 @@
 //! The number of rounds.
 
 ghost use Rattle.std.specs.Prelude.{◌≡◌, ◌≤◌, ◌<◌, ◌⊎◌, Ok, Err};
-ghost use Rattle.sha_crypt.specs.declared.params.TheConstants.{ROUNDS_MAX, ROUNDS_MIN};
+ghost use Rattle.sha_crypt.specs.Limits.{ROUNDS_MAX, ROUNDS_MIN};
 
 use crate::CryptError;
 use std::marker::Model;
@@ -23,7 +23,7 @@ pub struct Sha256Params {
 
 impl Model for Sha256Params {
     ghost use Rattle.std.specs.Prelude.{ℕ, ◌≤◌};
-    ghost use Rattle.sha_crypt.specs.declared.params.TheConstants.{ROUNDS_MAX, ROUNDS_MIN};
+    ghost use Rattle.sha_crypt.specs.Limits.{ROUNDS_MAX, ROUNDS_MIN};
 
     ghost Value = { ℕ };
 
@@ -74,7 +74,7 @@ pub struct Sha512Params {
 
 impl Model for Sha512Params {
     ghost use Rattle.std.specs.Prelude.{ℕ, ◌≤◌};
-    ghost use Rattle.sha_crypt.specs.declared.params.TheConstants.{ROUNDS_MAX, ROUNDS_MIN};
+    ghost use Rattle.sha_crypt.specs.Limits.{ROUNDS_MAX, ROUNDS_MIN};
 
     ghost Value = { ℕ };
 

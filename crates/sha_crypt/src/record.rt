@@ -7,7 +7,7 @@ ghost use Rattle.std.specs.Io.BufRead.{Rests};
 ghost use Rattle.std.specs.Fmt.{HasWritten, IsPlainFormatter};
 ghost use Rattle.sha_crypt.specs.HashField.{is_hash_field};
 ghost use Rattle.sha_crypt.specs.Records.{family_id, family_scheme, old_record_of, record_of, rounds_part};
-ghost use Rattle.sha_crypt.specs.declared.defs.TheConstants.{PW_SIZE_SHA512, SALT_MAX_LEN};
+ghost use Rattle.sha_crypt.specs.Limits.{PW_SIZE_SHA512, SALT_MAX_LEN};
 
 use crate::b64::field_bytes;
 use crate::fields::{Reading, text_parts};

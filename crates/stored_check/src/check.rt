@@ -7,7 +7,7 @@ ghost use Rattle.phc.specs.Encoded.{encoding};
 ghost use Rattle.phc.specs.Record.{phc_text};
 ghost use Rattle.stored_check.specs.Counts.{hash_length, record_hash_length, verdict_comparisons, verdict_looks};
 ghost use Rattle.stored_check.specs.Verdict.{IsVerdict, key_answer, may_lack_memory, phc_answer, record_needs, same_text, verdict};
-ghost use Rattle.stored_check.specs.declared.check.TheConstants.{PASSWORD_MAX};
+ghost use Rattle.stored_check.specs.Limits.{PASSWORD_MAX};
 
 use crate::family::{check_family, named_family};
 use crate::names::{mcf_name, phc_name, sha_verdict};

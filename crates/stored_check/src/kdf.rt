@@ -2,7 +2,7 @@
 
 ghost use Rattle.std.specs.Prelude.{◌≡◌, ◌≤◌, ℕ, List, Bool, OnErr, OnOk, length, true};
 ghost use Rattle.phc.specs.declared.password_hash.PasswordHash.{PasswordHash};
-ghost use Rattle.stored_check.specs.declared.check.TheConstants.{PASSWORD_MAX};
+ghost use Rattle.stored_check.specs.Limits.{PASSWORD_MAX};
 
 use std::alloc::{AllocError, Global};
 
