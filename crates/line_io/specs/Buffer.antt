@@ -6,7 +6,7 @@ use Rattle.line_io.specs.Lines.{NoFeed}
 use Rattle.line_io.specs.declared.buffer.LineBuffer.{LineBuffer}
 use Rattle.line_io.specs.declared.buffer.Line.{Line}
 use Rattle.line_io.specs.declared.buffer.Line.TheVariants.{Whole, TooLong, End, Failed, Budget}
-use Rattle.line_io.specs.Limits.{LINE_MAX}
+use Rattle.line_io.specs.Limits.{line_max}
 
 -- the bytes that were taken and not yet answered
 unfoldable pub pending : LineBuffer → List ℕ
@@ -44,8 +44,8 @@ IsFirstLine bytes l b = ((bytes ≡ l ++ 10 ∷ pending b) × (taken b ≤ max_b
 
 -- An answer. `bytes` were pending before the call or were taken in it, and `b` is the buffer after it.
 abbrev pub Answers : Line → List ℕ → LineBuffer → Type 0
-Answers (Whole n) bytes b = (length (line b) ≡ n) × (n ≤ LINE_MAX) × NoFeed (line b) × IsFirstLine bytes (line b) b
-Answers TooLong bytes b = (line b ≡ []) × ((l : List ℕ) × (LINE_MAX < length l) × NoFeed l × IsFirstLine bytes l b)
+Answers (Whole n) bytes b = (length (line b) ≡ n) × (n ≤ line_max) × NoFeed (line b) × IsFirstLine bytes (line b) b
+Answers TooLong bytes b = (line b ≡ []) × ((l : List ℕ) × (line_max < length l) × NoFeed l × IsFirstLine bytes l b)
 Answers End bytes b = (line b ≡ []) × (is_ended b ≡ true) × (bytes ≡ []) × (taken b ≤ max_bytes b)
 Answers Failed bytes b = (line b ≡ []) × (is_ended b ≡ false) × NoFeed bytes × (taken b ≤ max_bytes b)
 Answers Budget bytes b = (line b ≡ []) × (is_ended b ≡ false) × (max_bytes b < taken b) × NoFeed (among_first b bytes)

@@ -2,5 +2,5 @@
 use Rattle.std.specs.Prelude.{ℕ}
 
 -- the most bytes of a line
-abbrev pub LINE_MAX : ℕ
-LINE_MAX = 8192
+abbrev pub line_max : ℕ
+line_max = 8192

@@ -7,7 +7,7 @@ use Rattle.line_io.specs.Buffer.{pending, line, taken, max_bytes, is_ended, is_c
 use Rattle.line_io.specs.declared.buffer.LineBuffer.{LineBuffer}
 use Rattle.line_io.specs.declared.buffer.Line.{Line}
 use Rattle.line_io.specs.declared.buffer.Line.TheVariants.{Whole, TooLong, End, Failed, Budget}
-use Rattle.line_io.specs.Limits.{LINE_MAX}
+use Rattle.line_io.specs.Limits.{line_max}
 
 -- a buffer that nothing was read into
 pub record IsNew (max : ℕ) (b : LineBuffer) : Type 0 where
@@ -34,7 +34,7 @@ Calls (a ∷ more) left before left_now now = (left_mid : Option (List ℕ)) × 
 
 -- how a line is answered, and what the buffer shows then
 abbrev pub line_answer : List ℕ → Line × List ℕ
-line_answer l = if nat_lt LINE_MAX (length l) then (TooLong, []) else (Whole (length l), l)
+line_answer l = if nat_lt line_max (length l) then (TooLong, []) else (Whole (length l), l)
 
 -- The answers before the last one, where the source held `held` and `taken` was taken of it.
 abbrev pub AnswersUntil : Line → ℕ → List ℕ → List ℕ → List (Line × List ℕ) → Type 0

@@ -4,7 +4,7 @@ ghost use Rattle.std.specs.Io.KnownBytes.{Keeps};
 ghost use Rattle.std.specs.List.{list_any};
 ghost use Rattle.pieces.specs.FaultCounts.{HasRisen};
 ghost use Rattle.line_io.specs.Lines.{is_feed, NoFeed};
-ghost use Rattle.line_io.specs.Limits.{LINE_MAX};
+ghost use Rattle.line_io.specs.Limits.{line_max};
 ghost use Rattle.line_io.specs.declared.buffer.TheConstants.{CAPACITY};
 
 use crate::{Failed, Source};
@@ -168,7 +168,7 @@ impl LineBuffer {
 
     /// Makes room behind what is pending. Bytes are moved only where the end of the buffer is reached.
     fn make_room(&mut self)
-        requires small { length (pending self.old) ≤ LINE_MAX }
+        requires small { length (pending self.old) ≤ line_max }
         ensures line_end { self.new.line_end ≡ 0 }
         ensures pending { pending self.new ≡ pending self.old }
         ensures room { self.new.end < CAPACITY }
@@ -204,7 +204,7 @@ impl LineBuffer {
     /// Reads after what is pending.
     #[tactic(auto, unfolding(crate::specs::Buffer::pending, crate::specs::Buffer::line))]
     fn fill<S: Source>(&mut self, source: &mut S) -> Result<(), Failed>
-        requires room { length (pending self.old) ≤ LINE_MAX }
+        requires room { length (pending self.old) ≤ line_max }
         requires more { taken self.old ≤ max_bytes self.old }
         requires not_ended { is_ended self.old ≡ false }
         ensures line { line self.new ≡ [] }
@@ -231,9 +231,9 @@ impl LineBuffer {
     fn drop_long(&mut self, long: bool) -> bool
         requires more { taken self.old ≤ max_bytes self.old }
         requires no_line { line self.old ≡ [] }
-        ensures long { result ≡ (long || nat_lt LINE_MAX (length (pending self.old))) }
+        ensures long { result ≡ (long || nat_lt line_max (length (pending self.old))) }
         ensures line { line self.new ≡ [] }
-        ensures pending { pending self.new ≡ (if nat_lt LINE_MAX (length (pending self.old)) then [] else pending self.old) }
+        ensures pending { pending self.new ≡ (if nat_lt line_max (length (pending self.old)) then [] else pending self.old) }
         ensures rest { KeepsRest self.old self.new }
     {
         if self.pending().len() > LINE_MAX {
@@ -247,8 +247,8 @@ impl LineBuffer {
     fn answer_line(&mut self, count: usize, skip: usize, long: bool) -> Line
         requires within { count + skip ≤ length (pending self.old) }
         requires past { taken self.old + count + skip ≤ max_bytes self.old + length (pending self.old) }
-        ensures answer { result ≡ (if long || nat_lt LINE_MAX count then Line.TooLong else Line.Whole count) }
-        ensures line { line self.new ≡ (if long || nat_lt LINE_MAX count then [] else take count (pending self.old)) }
+        ensures answer { result ≡ (if long || nat_lt line_max count then Line.TooLong else Line.Whole count) }
+        ensures line { line self.new ≡ (if long || nat_lt line_max count then [] else take count (pending self.old)) }
         ensures pending { pending self.new ≡ drop (count + skip) (pending self.old) }
         ensures rest { KeepsRest self.old self.new }
     {

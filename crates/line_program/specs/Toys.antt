@@ -6,7 +6,7 @@ use Rattle.std.specs.Prelude.{bytes_eq, nat_eq, if◌then◌else◌, Option, Som
 use Rattle.std.specs.Cmp.Lexicographic.{pointwise}
 use Rattle.std.specs.List.{flat_map}
 use Rattle.line_program.specs.Rules.{LineRules, StateRules, each_line, from_state}
-use Rattle.line_io.specs.Limits.{LINE_MAX}
+use Rattle.line_io.specs.Limits.{line_max}
 
 abbrev pub is_list : List ℕ → Bool
 is_list line = bytes_eq line (codes "list")
@@ -18,7 +18,7 @@ listing texts = flat_map (λ text. text ++ 10 ∷ []) texts
 -- the reply to a line, where these lines are kept, by the first that holds
 abbrev pub reply_over : List (List ℕ) → List ℕ → List ℕ
 reply_over texts line =
-    if nat_lt LINE_MAX (length line) then codes "toolong" ++ 10 ∷ []
+    if nat_lt line_max (length line) then codes "toolong" ++ 10 ∷ []
     else if is_list line then listing texts
     else if nat_le 4096 (length texts) then codes "full" ++ 10 ∷ []
     else codes "ok" ++ 10 ∷ []
@@ -37,13 +37,13 @@ kept (pair ∷ more) = if was_kept pair then pair.0 ∷ kept more else kept more
 
 -- the line is kept
 abbrev pub keeps : List (List ℕ) → List ℕ → Bool
-keeps texts line = if nat_lt LINE_MAX (length line) then false else if is_list line then false else not
+keeps texts line = if nat_lt line_max (length line) then false else if is_list line then false else not
     (nat_le 4096 (length texts))
 
 -- a reply of `ok` or a listing
 abbrev pub is_good_over : List (List ℕ) → List ℕ → Bool
 is_good_over texts line =
-    if nat_lt LINE_MAX (length line) then false else if is_list line then true else not (nat_le 4096 (length texts))
+    if nat_lt line_max (length line) then false else if is_list line then true else not (nat_le 4096 (length texts))
 
 -- what is kept, as the code has it
 abbrev pub notes_rules : StateRules (List (List ℕ))
@@ -69,7 +69,7 @@ program_rules = from_state history_rules []
 -- ---- Echo: each line is given back, without memory
 
 abbrev pub fits : List ℕ → Bool
-fits line = nat_le (length line) LINE_MAX
+fits line = nat_le (length line) line_max
 
 abbrev pub echo_reply : List ℕ → List ℕ
 echo_reply line = if fits line then line ++ 10 ∷ [] else codes "toolong" ++ 10 ∷ []

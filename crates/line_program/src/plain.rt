@@ -6,7 +6,7 @@ ghost use Rattle.line_io.specs.Devices.{WhereTold};
 ghost use Rattle.pieces.specs.FaultCounts.{HasRisen};
 ghost use Rattle.line_program.specs.Outcome.{Outcome};
 ghost use Rattle.line_program.specs.PlainOutput.{answer_rules, is_plain_match, is_tab, line_answer, line_may_lack, plain_word};
-ghost use Rattle.line_io.specs.Limits.{LINE_MAX};
+ghost use Rattle.line_io.specs.Limits.{line_max};
 
 use crate::Responder;
 use crate::cut::cut_at_last_tab;
@@ -43,7 +43,7 @@ fn check_text<C: PasswordCheck>(check: &C, text: &str) -> Result<Option<bool>, A
 
 // The verdict on a line.
 fn check_line<C: PasswordCheck>(check: &C, line: &[u8]) -> Result<Option<bool>, AllocError>
-    requires short { length line.now ≤ LINE_MAX }
+    requires short { length line.now ≤ line_max }
     ensures answer { IfOk result (λ answer. answer ≡ line_answer (C.verdict check.now) line.now) }
     ensures wants { OnErr result (line_may_lack (C.may_lack check.now) line.now ≡ true) }
 {

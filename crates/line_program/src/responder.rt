@@ -3,7 +3,7 @@
 ghost use Rattle.std.specs.Prelude.{◌≡◌, ◌≤◌, ◌<◌, ℕ, List, [], length, true, OnErr, OnOk, IfOk};
 ghost use Rattle.line_io.specs.Output.{Puts};
 ghost use Rattle.line_program.specs.Rules.{StateRules};
-ghost use Rattle.line_io.specs.Limits.{LINE_MAX};
+ghost use Rattle.line_io.specs.Limits.{line_max};
 
 use line_io::{OutputBuffer, Sink};
 use std::alloc::AllocError;
@@ -22,7 +22,7 @@ pub trait Responder {
         out: &mut OutputBuffer,
         sink: &mut K,
     ) -> Result<bool, AllocError>
-        requires short { length line.now ≤ LINE_MAX }
+        requires short { length line.now ≤ line_max }
         ensures good { IfOk result (λ good. good ≡ rules.is_good self.old line.now) }
         ensures reply { OnOk result (Puts (K.written sink.old) (K.written sink.new) (K.faults sink.old) (K.faults sink.new) out.old out.new
             (rules.reply self.old line.now)) }
@@ -33,8 +33,8 @@ pub trait Responder {
 
     /// Puts the reply to a line of more than 8,192 bytes, whichever it was, and tells whether it is good.
     fn answer_long<K: Sink>(&mut self, out: &mut OutputBuffer, sink: &mut K) -> bool
-        ensures good { (line : List ℕ) → LINE_MAX < length line → result ≡ rules.is_good self.old line }
-        ensures reply { (line : List ℕ) → LINE_MAX < length line →
+        ensures good { (line : List ℕ) → line_max < length line → result ≡ rules.is_good self.old line }
+        ensures reply { (line : List ℕ) → line_max < length line →
             Puts (K.written sink.old) (K.written sink.new) (K.faults sink.old) (K.faults sink.new) out.old out.new (rules.reply self.old line) }
-        ensures after { (line : List ℕ) → LINE_MAX < length line → self.new ≡ rules.after self.old line };
+        ensures after { (line : List ℕ) → line_max < length line → self.new ≡ rules.after self.old line };
 }

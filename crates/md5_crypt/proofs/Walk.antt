@@ -17,23 +17,22 @@ use Rattle.stored_check.proofs.Causes.{fits}
 use Rattle.stored_check.specs.Verdict.{may_lack_memory, mcf_name, verdict}
 use Rattle.stored_check.specs.declared.error.StoredError.TheVariants.{PasswordTooLong, Mcf}
 use Rattle.md5_crypt.specs.Digest.{md5_crypt_digest}
-use Rattle.md5_crypt.specs.Field.{md5_field}
+use Rattle.md5_crypt.specs.Field.{map_md5, md5_field}
 use Rattle.md5_crypt.specs.Verdict.{IsLegacyVerdict, legacy_may_lack, legacy_verdict, magic_of, md5_answer, md5_fields}
 use Rattle.md5_crypt.specs.Verdict.{Md5Fields, stored_answer, checked_fields}
 use Rattle.md5_crypt.specs.declared.error.LegacyError.{LegacyError}
 use Rattle.md5_crypt.specs.declared.error.LegacyError.TheVariants.{Stored}
-use Rattle.md5_crypt.specs.declared.field.TheConstants.{MAP_MD5}
 use Rattle.md5_crypt.specs.declared.magic.Magic.{Magic}
 
 -- the bytes of the digest and of the hash field are compared in place of their encodings
 pub answer_same : (magic : Magic) (password : List ℕ) (f : Md5Fields) (bytes digest wanted : List ℕ) (r : Bool)
     → length f.salt ≤ 8 → field_bytes 16 f.hash ≡ Some bytes → digest ≡ md5_crypt_digest password f.salt magic
-    → wanted ≡ in_order MAP_MD5 digest → EachBelow 256 wanted → r ≡ pointwise nat_eq wanted bytes
+    → wanted ≡ in_order map_md5 digest → EachBelow 256 wanted → r ≡ pointwise nat_eq wanted bytes
     → Ok r ≡ md5_answer magic password (checked_fields (Ok f))
 answer_same magic password f bytes digest wanted r short found digest_is wanted_is small r_is =
     let fits : nat_lt 8 (length f.salt) ≡ false = grind (arith, nat_tests, short) in
-    let same : pointwise nat_eq (in_order MAP_MD5 digest) bytes ≡ pointwise nat_eq (md5_field digest) f.hash =
-    same_hash MAP_MD5 digest bytes f.hash (rw wanted_is at small)
+    let same : pointwise nat_eq (in_order map_md5 digest) bytes ≡ pointwise nat_eq (md5_field digest) f.hash =
+    same_hash map_md5 digest bytes f.hash (rw wanted_is at small)
     (decoded_of 16 bytes (decoding base64_sha_crypt f.hash) found) in
     let test : r ≡ pointwise nat_eq (md5_field digest) f.hash =
     r_is ∙ ap (λ (x : List ℕ). pointwise nat_eq x bytes) wanted_is ∙ same in

@@ -5,13 +5,12 @@ use Rattle.phc.specs.declared.password_hash.PasswordHash.{PasswordHash}
 use Rattle.sha_crypt.specs.HashField.{is_hash_field, IsHashField}
 use Rattle.stored_check.specs.declared.error.StoredError.TheVariants.{OutOfMemory}
 use Rattle.md5_crypt.specs.declared.error.LegacyError.TheVariants.{Stored}
-use Rattle.md5_crypt.specs.declared.field.TheConstants.{MAP_MD5}
-use Rattle.md5_crypt.specs.Field.{md5_field}
+use Rattle.md5_crypt.specs.Field.{map_md5, md5_field}
 use Rattle.md5_crypt.specs.Verdict.{legacy_verdict}
 
 -- the test for hash fields tells those of some digest
 abbrev pub FieldOfSomeDigest : Type 0
-FieldOfSomeDigest = (text : List ℕ) → (is_hash_field 16 text ≡ true) ↔ IsHashField 16 MAP_MD5 text
+FieldOfSomeDigest = (text : List ℕ) → (is_hash_field 16 text ≡ true) ↔ IsHashField 16 map_md5 text
 
 -- two digests with one hash field are equal
 abbrev pub FieldOnce : Type 0

@@ -17,7 +17,7 @@ use Rattle.md5_crypt.specs.declared.error.LegacyError.{LegacyError}
 use Rattle.md5_crypt.specs.declared.error.LegacyError.TheVariants.{Md5, Stored}
 use Rattle.md5_crypt.specs.declared.error.Md5Fault.{Md5Fault}
 use Rattle.md5_crypt.specs.declared.error.Md5Fault.TheVariants.{NoSalt, NoHash, Trailing, SaltTooLong, Base64}
-use Rattle.stored_check.specs.Limits.{PASSWORD_MAX}
+use Rattle.stored_check.specs.Limits.{password_max}
 
 -- the magic of an identifier, if it has one
 abbrev pub magic_of : List ℕ → Option Magic
@@ -72,7 +72,7 @@ module _ (accepted : PasswordHash → List ℕ → ℕ → Bool) (tag : List ℕ
   -- the verdict on a password and a stored text, or the first cause that there is none
   unfoldable pub legacy_verdict : List ℕ → List ℕ → Result Bool LegacyError
   legacy_verdict password stored =
-      if nat_lt PASSWORD_MAX (length password) then Err (Stored PasswordTooLong)
+      if nat_lt password_max (length password) then Err (Stored PasswordTooLong)
       else text_answer password stored (mcf stored)
 
 -- ---- want of memory

@@ -6,7 +6,7 @@ ghost use Rattle.stored_check.specs.Verdict.{may_lack_memory, verdict};
 ghost use Rattle.md5_crypt.specs.Verdict.{IsLegacyVerdict, split_fields, legacy_may_lack, legacy_verdict};
 ghost use Rattle.md5_crypt.specs.Verdict.{md5_answer, md5_fields, stored_answer, checked_fields};
 ghost use Rattle.md5_crypt.specs.Views.{as_form, fields_of};
-ghost use Rattle.stored_check.specs.Limits.{PASSWORD_MAX};
+ghost use Rattle.stored_check.specs.Limits.{password_max};
 
 use crate::magic::magic_of;
 use crate::{LegacyError, MAP_MD5, Magic, Md5Fault, md5_crypt};
@@ -48,7 +48,7 @@ fn split_fields(mut fields: Fields<'_>) -> Result<Md5Text<'_>, Md5Fault>
 // Whether the text of the hash is the hash field of the password's digest. The digests are compared as bytes, to their
 // end.
 fn check_parts(magic: Magic, password: &[u8], parts: Md5Text<'_>) -> Result<bool, LegacyError>
-    requires short { length password.now ≤ PASSWORD_MAX }
+    requires short { length password.now ≤ password_max }
     ensures answer { result ≡ md5_answer magic password.now (checked_fields (Ok (fields_of parts.entry))) }
 {
     if parts.salt.len() > SALT_MAX {
@@ -65,7 +65,7 @@ fn check_parts(magic: Magic, password: &[u8], parts: Md5Text<'_>) -> Result<bool
 // The answer for the fields behind an identifier with this magic.
 #[tactic(auto, unfolding(crate::specs::Verdict::md5_fields))]
 fn check_fields(magic: Magic, password: &[u8], fields: Fields<'_>) -> Result<bool, LegacyError>
-    requires short { length password.now ≤ PASSWORD_MAX }
+    requires short { length password.now ≤ password_max }
     ensures answer { result ≡ md5_answer magic password.now (md5_fields (fields_left fields.entry)) }
 {
     match split_fields(fields) {

@@ -19,7 +19,7 @@ use Rattle.phc.specs.declared.error.Error.{Error}
 use Rattle.phc.specs.declared.error.Error.TheVariants.{Base64, OutputSize, ParamNameInvalid, ParamValueInvalid}
 use Rattle.phc.specs.declared.error.Error.TheVariants.{ParamValueTooLong, ParamsMaxExceeded, SaltTooShort, SaltTooLong}
 use Rattle.phc.specs.declared.error.Error.TheVariants.{TrailingData}
-use Rattle.phc.specs.Limits.{NAME_MAX, OUTPUT_MIN, OUTPUT_TEXT_MAX, PARAMS_MAX, SALT_TEXT_MAX, SALT_TEXT_MIN, VALUE_MAX}
+use Rattle.phc.specs.Limits.{name_max, output_min, output_text_max, params_max, salt_text_max, salt_text_min, value_max}
 
 -- ---- names, values and decimals
 
@@ -29,7 +29,7 @@ is_name_byte b = is_ascii_lowercase b || is_ascii_digit b || b == hyphen
 
 -- 1 to 32 such characters
 abbrev pub is_name : List ℕ → Bool
-is_name s = nat_le 1 (length s) && nat_le (length s) NAME_MAX && list_all is_name_byte s
+is_name s = nat_le 1 (length s) && nat_le (length s) name_max && list_all is_name_byte s
 
 -- characters of A-Z a-z 0-9 `/` `+` `.` `-`
 abbrev pub is_value_byte : ℕ → Bool
@@ -61,7 +61,7 @@ name_fault s = unless (is_name s) ParamNameInvalid
 -- the fault of a value
 abbrev pub value_fault : List ℕ → Option Error
 value_fault s = first_fault
-    (unless (nat_le (length s) VALUE_MAX) ParamValueTooLong
+    (unless (nat_le (length s) value_max) ParamValueTooLong
     ∷ (unless (has_value_bytes s) ParamValueInvalid
     ∷ []))
 
@@ -141,13 +141,13 @@ pair_of [] = ([], [])
 
 abbrev pub version_fault : List ℕ → Option Error
 version_fault s = first_fault
-    (unless (nat_le (length s) VALUE_MAX) ParamValueTooLong
+    (unless (nat_le (length s) value_max) ParamValueTooLong
     ∷ (unless (is_some (decimal_value s)) ParamValueInvalid
     ∷ []))
 
 abbrev pub params_fault : List ℕ → Option Error
 params_fault s = first_fault
-    (unless (nat_le (length s) PARAMS_MAX) ParamsMaxExceeded ∷ map pair_fault (cut_pairs s))
+    (unless (nat_le (length s) params_max) ParamsMaxExceeded ∷ map pair_fault (cut_pairs s))
 
 -- the fault of a text, of which the empty one has none
 abbrev pub text_fault : List ℕ → Option Error
@@ -159,17 +159,17 @@ text_pairs s = if is_empty s then [] else map pair_of (cut_pairs s)
 
 abbrev pub salt_fault : List ℕ → Option Error
 salt_fault s = first_fault
-    (unless (nat_le SALT_TEXT_MIN (length s)) SaltTooShort
-    ∷ (unless (nat_le (length s) SALT_TEXT_MAX) SaltTooLong
+    (unless (nat_le salt_text_min (length s)) SaltTooShort
+    ∷ (unless (nat_le (length s) salt_text_max) SaltTooLong
     ∷ (unless (is_some (decoding s)) (Base64 InvalidEncoding)
     ∷ [])))
 
 -- the fault of the hash, whose encoding stands for 10 bytes or more
 abbrev pub hash_fault : List ℕ → Option Error
 hash_fault s = first_fault
-    (unless (nat_le (length s) OUTPUT_TEXT_MAX) (Base64 InvalidLength)
+    (unless (nat_le (length s) output_text_max) (Base64 InvalidLength)
     ∷ (unless (is_some (decoding s)) (Base64 InvalidEncoding)
-    ∷ (unless (nat_le OUTPUT_MIN (length (unwrap_or (decoding s) []))) (OutputSize Less OUTPUT_MIN)
+    ∷ (unless (nat_le output_min (length (unwrap_or (decoding s) []))) (OutputSize Less output_min)
     ∷ [])))
 
 -- ---- the whole

@@ -2,45 +2,45 @@
 use Rattle.std.specs.Prelude.{ℕ}
 
 -- the most characters of a name
-abbrev pub NAME_MAX : ℕ
-NAME_MAX = 32
+abbrev pub name_max : ℕ
+name_max = 32
 
 -- the most characters of a value
-abbrev pub VALUE_MAX : ℕ
-VALUE_MAX = 64
+abbrev pub value_max : ℕ
+value_max = 64
 
 -- the most bytes whose encoding is a value
-abbrev pub VALUE_BYTES_MAX : ℕ
-VALUE_BYTES_MAX = 48
+abbrev pub value_bytes_max : ℕ
+value_bytes_max = 48
 
 -- the most characters of parameters
-abbrev pub PARAMS_MAX : ℕ
-PARAMS_MAX = 127
+abbrev pub params_max : ℕ
+params_max = 127
 
 -- the fewest bytes of a salt
-abbrev pub SALT_MIN : ℕ
-SALT_MIN = 8
+abbrev pub salt_min : ℕ
+salt_min = 8
 
 -- the most
-abbrev pub SALT_MAX : ℕ
-SALT_MAX = 48
+abbrev pub salt_max : ℕ
+salt_max = 48
 
 -- the fewest characters of its text
-abbrev pub SALT_TEXT_MIN : ℕ
-SALT_TEXT_MIN = 11
+abbrev pub salt_text_min : ℕ
+salt_text_min = 11
 
 -- the most
-abbrev pub SALT_TEXT_MAX : ℕ
-SALT_TEXT_MAX = 64
+abbrev pub salt_text_max : ℕ
+salt_text_max = 64
 
 -- the fewest bytes of an output
-abbrev pub OUTPUT_MIN : ℕ
-OUTPUT_MIN = 10
+abbrev pub output_min : ℕ
+output_min = 10
 
 -- the most
-abbrev pub OUTPUT_MAX : ℕ
-OUTPUT_MAX = 64
+abbrev pub output_max : ℕ
+output_max = 64
 
 -- the most characters of its text
-abbrev pub OUTPUT_TEXT_MAX : ℕ
-OUTPUT_TEXT_MAX = 86
+abbrev pub output_text_max : ℕ
+output_text_max = 86

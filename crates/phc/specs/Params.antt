@@ -12,7 +12,7 @@ use Rattle.pieces.specs.Lists.{is_empty}
 use Rattle.phc.specs.declared.error.Error.{Error}
 use Rattle.phc.specs.declared.error.Error.TheVariants.{ParamNameDuplicated, ParamNameInvalid, ParamValueInvalid}
 use Rattle.phc.specs.declared.error.Error.TheVariants.{ParamValueTooLong, ParamsMaxExceeded}
-use Rattle.phc.specs.Limits.{PARAMS_MAX, VALUE_BYTES_MAX}
+use Rattle.phc.specs.Limits.{params_max, value_bytes_max}
 
 -- names and values, in their order
 abbrev pub Pairs : Type 0
@@ -43,7 +43,7 @@ get (p ∷ ps) name = if pointwise nat_eq p.0 name then Some p.1 else get ps nam
 abbrev pub add : Pairs → List ℕ → List ℕ → Result Pairs Error
 add ps name value =
     if is_some (get ps name) then Err ParamNameDuplicated
-    else (if nat_lt PARAMS_MAX (length (pairs_text (ps ++ (name, value) ∷ []))) then Err ParamsMaxExceeded
+    else (if nat_lt params_max (length (pairs_text (ps ++ (name, value) ∷ []))) then Err ParamsMaxExceeded
     else Ok (ps ++ (name, value) ∷ []))
 
 -- the text with one more pair behind it
@@ -63,7 +63,7 @@ add_named ps name value =
 abbrev pub add_bytes : Pairs → List ℕ → List ℕ → Result Pairs Error
 add_bytes ps name bytes =
     if is_some (get ps name) then Err ParamNameDuplicated
-    else (if nat_lt VALUE_BYTES_MAX (length bytes) then Err ParamValueTooLong else add ps name (encoding bytes))
+    else (if nat_lt value_bytes_max (length bytes) then Err ParamValueTooLong else add ps name (encoding bytes))
 
 -- a call that changes the pairs: its answer, and the pairs after it
 abbrev pub added_or_kept : Result Pairs Error → Pairs → Result (Unit {0}) Error × Pairs

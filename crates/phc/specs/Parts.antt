@@ -7,7 +7,7 @@ use Rattle.phc.specs.Grammar.{hash_fault, salt_fault}
 use Rattle.pieces.specs.Faults.{value_or_fault}
 use Rattle.phc.specs.declared.error.Error.{Error}
 use Rattle.phc.specs.declared.error.Error.TheVariants.{OutputSize, SaltTooShort, SaltTooLong}
-use Rattle.phc.specs.Limits.{OUTPUT_MAX, OUTPUT_MIN, SALT_MAX, SALT_MIN}
+use Rattle.phc.specs.Limits.{output_max, output_min, salt_max, salt_min}
 
 -- the bytes whose encoding the text of a hash is, or its fault
 abbrev pub output_or_fault : List ℕ → Result (List ℕ) Error
@@ -24,13 +24,13 @@ salt_text_or_fault s = value_or_fault s (salt_fault s)
 -- 10 to 64 bytes
 abbrev pub output_of_bytes : List ℕ → Result (List ℕ) Error
 output_of_bytes b =
-    if nat_lt (length b) OUTPUT_MIN then Err (OutputSize Less OUTPUT_MIN)
-    else (if nat_lt OUTPUT_MAX (length b) then Err (OutputSize Greater OUTPUT_MAX) else Ok b)
+    if nat_lt (length b) output_min then Err (OutputSize Less output_min)
+    else (if nat_lt output_max (length b) then Err (OutputSize Greater output_max) else Ok b)
 
 -- 8 to 48 bytes
 abbrev pub salt_of_bytes : List ℕ → Result (List ℕ) Error
-salt_of_bytes b = if nat_lt (length b) SALT_MIN then Err SaltTooShort else
-    (if nat_lt SALT_MAX (length b) then Err SaltTooLong else Ok b)
+salt_of_bytes b = if nat_lt (length b) salt_min then Err SaltTooShort else
+    (if nat_lt salt_max (length b) then Err SaltTooLong else Ok b)
 
 -- what a closure left, or its refusal
 abbrev pub after_init : Result (Unit {0}) Error → List ℕ → Result (List ℕ) Error

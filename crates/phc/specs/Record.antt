@@ -17,7 +17,7 @@ use Rattle.phc.specs.Params.{Pairs, pairs_text}
 use Rattle.phc.specs.declared.error.Error.{Error}
 use Rattle.phc.specs.declared.error.Error.TheVariants.{MissingField}
 use Rattle.phc.specs.declared.password_hash.PasswordHash.{PasswordHash}
-use Rattle.phc.specs.Limits.{OUTPUT_MAX, OUTPUT_MIN, PARAMS_MAX, SALT_MAX, SALT_MIN, VALUE_MAX}
+use Rattle.phc.specs.Limits.{output_max, output_min, params_max, salt_max, salt_min, value_max}
 
 -- the record of pieces that have no fault
 abbrev pub record_of_layout : List ℕ → Layout → PasswordHash
@@ -74,7 +74,7 @@ record_text r = dollar ∷ r.algorithm ++ version_part r.version ++ params_part 
 
 -- a name and a value
 abbrev pub is_pair : List ℕ × List ℕ → Bool
-is_pair p = is_name p.0 && nat_le (length p.1) VALUE_MAX && has_value_bytes p.1
+is_pair p = is_name p.0 && nat_le (length p.1) value_max && has_value_bytes p.1
 
 -- what the types of the parts promise: a name, a number of 32 bits, names and values in at most 127 characters, 8 to
 -- 48 bytes, 10 to 64 bytes
@@ -82,9 +82,9 @@ pub record IsRecord (r : PasswordHash) : Type 0 where
   pub algorithm : is_name r.algorithm ≡ true
   pub version : IfSome r.version (λ n. n < 2 ^ 32)
   pub pairs : list_all is_pair r.params ≡ true
-  pub params : length (pairs_text r.params) ≤ PARAMS_MAX
-  pub salt : IfSome r.salt (λ b. EachBelow 256 b × (SALT_MIN ≤ length b) × (length b ≤ SALT_MAX))
-  pub hash : IfSome r.hash (λ b. EachBelow 256 b × (OUTPUT_MIN ≤ length b) × (length b ≤ OUTPUT_MAX))
+  pub params : length (pairs_text r.params) ≤ params_max
+  pub salt : IfSome r.salt (λ b. EachBelow 256 b × (salt_min ≤ length b) × (length b ≤ salt_max))
+  pub hash : IfSome r.hash (λ b. EachBelow 256 b × (output_min ≤ length b) × (length b ≤ output_max))
 
 -- one single pair named `v`
 abbrev pub is_lone_v : Pairs → Bool

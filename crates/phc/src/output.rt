@@ -9,7 +9,7 @@ ghost use Rattle.base64ct.specs.declared.errors.Error.TheVariants.{InvalidLength
 ghost use Rattle.base64ct.specs.Counts.{field_looks};
 ghost use Rattle.phc.specs.Encoded.{encoding};
 ghost use Rattle.phc.specs.Parts.{output_or_fault, output_of_bytes, after_init};
-ghost use Rattle.phc.specs.Limits.{OUTPUT_MAX, OUTPUT_MIN};
+ghost use Rattle.phc.specs.Limits.{output_max, output_min};
 
 use crate::{Error, Result};
 use base64ct::{Base64Unpadded, Counts, Encoding};
@@ -30,13 +30,13 @@ pub struct Output {
 
 impl Model for Output {
     ghost use Rattle.std.specs.Prelude.{◌≡◌, ◌≤◌, ℕ, List, length};
-    ghost use Rattle.phc.specs.Limits.{OUTPUT_MAX, OUTPUT_MIN};
+    ghost use Rattle.phc.specs.Limits.{output_max, output_min};
 
     ghost Value = { List ℕ };
 
     ghost view = { λ o. o.bytes };
 
-    ghost invariant = { λ o. (OUTPUT_MIN ≤ length o.bytes) × (length o.bytes ≤ OUTPUT_MAX) };
+    ghost invariant = { λ o. (output_min ≤ length o.bytes) × (length o.bytes ≤ output_max) };
 
     ghost inverse = { λ s. record { bytes = s } };
 }
@@ -89,10 +89,10 @@ impl Output {
     /// The output that `f` writes over `output_size` zeros. It refuses a size as [`new`](Output::new) does
     /// before `f` is called, and then as `f` does.
     pub fn init_with<F: FnOnce(&mut [u8]) -> Result<()>>(output_size: usize, f: F) -> Result<Output>
-        requires { OUTPUT_MIN ≤ output_size → output_size ≤ OUTPUT_MAX → FnOnceTakesAtMut F.FnOnce f (replicate output_size 0) }
-        ensures short { output_size < OUTPUT_MIN → result ≡ Err (Error.OutputSize Less OUTPUT_MIN) }
-        ensures long { OUTPUT_MAX < output_size → result ≡ Err (Error.OutputSize Greater OUTPUT_MAX) }
-        ensures filled { OUTPUT_MIN ≤ output_size → output_size ≤ OUTPUT_MAX → (answer : _) × (left : _)
+        requires { output_min ≤ output_size → output_size ≤ output_max → FnOnceTakesAtMut F.FnOnce f (replicate output_size 0) }
+        ensures short { output_size < output_min → result ≡ Err (Error.OutputSize Less output_min) }
+        ensures long { output_max < output_size → result ≡ Err (Error.OutputSize Greater output_max) }
+        ensures filled { output_min ≤ output_size → output_size ≤ output_max → (answer : _) × (left : _)
             × FnOnceReturnsAtMut F.FnOnce f (replicate output_size 0) answer left × (result ≡ after_init answer left) }
     {
         if output_size < Self::MIN_LENGTH {
@@ -111,8 +111,8 @@ impl Output {
     /// The bytes.
     pub fn as_bytes(&self) -> &[u8]
         ensures bytes { result.now ≡ self.now }
-        ensures least { OUTPUT_MIN ≤ length result.now }
-        ensures most { length result.now ≤ OUTPUT_MAX }
+        ensures least { output_min ≤ length result.now }
+        ensures most { length result.now ≤ output_max }
     {
         self.bytes.as_slice()
     }

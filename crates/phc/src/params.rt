@@ -12,7 +12,7 @@ ghost use Rattle.phc.specs.Grammar.{behind_name_fault, cut_pairs, decimal_value,
 ghost use Rattle.pieces.specs.Faults.{first_fault};
 ghost use Rattle.pieces.specs.Lists.{is_empty};
 ghost use Rattle.phc.specs.Params.{add, add_bytes, add_each, add_named, appended, added_or_kept, get, pairs_fault, pairs_text, params_or_fault, with_name};
-ghost use Rattle.phc.specs.Limits.{NAME_MAX, PARAMS_MAX, VALUE_MAX};
+ghost use Rattle.phc.specs.Limits.{name_max, params_max, value_max};
 
 use crate::ident::is_name;
 use crate::value::has_value_bytes;
@@ -55,7 +55,7 @@ impl Model for ParamsString {
 
 // Whether a text is a value.
 fn is_value(text: &str) -> bool
-    ensures { result ≡ (nat_le (length text.now) VALUE_MAX && has_value_bytes text.now) }
+    ensures { result ≡ (nat_le (length text.now) value_max && has_value_bytes text.now) }
 {
     text.len() <= Value::MAX_LENGTH && has_value_bytes(text.as_bytes())
 }
@@ -121,9 +121,9 @@ fn fault_of_text(s: &str) -> Option<Error>
 
 // A text with one more pair behind it, where that fits.
 fn appended(text: &ShortBytes<127>, name: &str, value: &str) -> Option<ShortBytes<127>>
-    requires name { length name.now ≤ NAME_MAX }
-    requires value { length value.now ≤ VALUE_MAX }
-    ensures { result ≡ (if nat_lt PARAMS_MAX (length (appended text.now name.now value.now)) then None
+    requires name { length name.now ≤ name_max }
+    requires value { length value.now ≤ value_max }
+    ensures { result ≡ (if nat_lt params_max (length (appended text.now name.now value.now)) then None
         else Some (appended text.now name.now value.now)) }
 {
     let mut longer = *text;

@@ -12,7 +12,7 @@ ghost use Rattle.pieces.specs.Faults.{value_or_fault};
 ghost use Rattle.phc.specs.Record.{IsRecord, bytes_part, hash_part, is_lone_v, is_printable, params_part, phc, phc_text, record_of_layout, record_text, version_part};
 ghost use Rattle.phc.specs.Encoded.{decoding};
 ghost use Rattle.phc.specs.Views.{parts_of};
-ghost use Rattle.phc.specs.Limits.{OUTPUT_MAX, OUTPUT_MIN, SALT_MAX, SALT_MIN};
+ghost use Rattle.phc.specs.Limits.{output_max, output_min, salt_max, salt_min};
 
 use crate::layout::{FormParts, layout};
 use crate::value::decimal;
@@ -249,7 +249,7 @@ fn promised_by_bytes(bytes: &[u8])
 
 // What the type of a salt promises.
 fn promised_by_salt(salt: Option<Salt>)
-    ensures { IfSome salt (λ b. EachBelow 256 b × (SALT_MIN ≤ length b) × (length b ≤ SALT_MAX)) }
+    ensures { IfSome salt (λ b. EachBelow 256 b × (salt_min ≤ length b) × (length b ≤ salt_max)) }
 {
     if let Some(salt) = &salt {
         promised_by_bytes(salt.as_bytes());
@@ -258,7 +258,7 @@ fn promised_by_salt(salt: Option<Salt>)
 
 // What the type of a hash promises.
 fn promised_by_hash(hash: Option<Output>)
-    ensures { IfSome hash (λ b. EachBelow 256 b × (OUTPUT_MIN ≤ length b) × (length b ≤ OUTPUT_MAX)) }
+    ensures { IfSome hash (λ b. EachBelow 256 b × (output_min ≤ length b) × (length b ≤ output_max)) }
 {
     if let Some(hash) = &hash {
         promised_by_bytes(hash.as_bytes());

@@ -8,7 +8,7 @@ ghost use Rattle.phc.specs.Encoded.{decoding, encoding};
 ghost use Rattle.phc.specs.Grammar.{salt_fault};
 ghost use Rattle.phc.specs.Parts.{salt_of_bytes, salt_or_fault, salt_text_or_fault};
 ghost use Rattle.pieces.specs.FaultCounts.{HasRisen};
-ghost use Rattle.phc.specs.Limits.{SALT_MAX, SALT_MIN};
+ghost use Rattle.phc.specs.Limits.{salt_max, salt_min};
 
 use crate::{Error, Result, TryFill};
 use base64ct::{Base64Unpadded, Counts, Encoding};
@@ -26,13 +26,13 @@ pub struct Salt {
 
 impl Model for Salt {
     ghost use Rattle.std.specs.Prelude.{◌≡◌, ◌≤◌, ℕ, List, length};
-    ghost use Rattle.phc.specs.Limits.{SALT_MAX, SALT_MIN};
+    ghost use Rattle.phc.specs.Limits.{salt_max, salt_min};
 
     ghost Value = { List ℕ };
 
     ghost view = { λ o. o.bytes };
 
-    ghost invariant = { λ o. (SALT_MIN ≤ length o.bytes) × (length o.bytes ≤ SALT_MAX) };
+    ghost invariant = { λ o. (salt_min ≤ length o.bytes) × (length o.bytes ≤ salt_max) };
 
     ghost inverse = { λ s. record { bytes = s } };
 }
@@ -128,8 +128,8 @@ impl Salt {
     /// The bytes.
     pub fn as_bytes(&self) -> &[u8]
         ensures bytes { result.now ≡ self.now }
-        ensures least { SALT_MIN ≤ length result.now }
-        ensures most { length result.now ≤ SALT_MAX }
+        ensures least { salt_min ≤ length result.now }
+        ensures most { length result.now ≤ salt_max }
     {
         self.bytes.as_slice()
     }
@@ -146,8 +146,8 @@ impl Salt {
 
 // The encoding of the bytes of a salt.
 fn encoded(bytes: &[u8]) -> ShortBytes<64>
-    requires least { SALT_MIN ≤ length bytes.now }
-    requires most { length bytes.now ≤ SALT_MAX }
+    requires least { salt_min ≤ length bytes.now }
+    requires most { length bytes.now ≤ salt_max }
     ensures text { result ≡ encoding bytes.now }
     ensures valid { salt_fault result ≡ None }
 {

@@ -2,9 +2,9 @@
 use Rattle.std.specs.Prelude.{ℕ}
 
 -- the most bytes of a text
-abbrev pub TEXT_MAX : ℕ
-TEXT_MAX = 1024
+abbrev pub text_max : ℕ
+text_max = 1024
 
 -- the most users
-abbrev pub USERS_MAX : ℕ
-USERS_MAX = 4096
+abbrev pub users_max : ℕ
+users_max = 4096

@@ -13,7 +13,7 @@ use Rattle.pw_file.specs.declared.error.FileError.TheVariants as refused
 use Rattle.pw_file.specs.declared.reply.Word.{Word}
 use Rattle.pw_file.specs.declared.reply.Word.TheVariants.{TooLong, BadCommand, Done, TextLong, BadText, Full, NoUser}
 use Rattle.pw_file.specs.declared.reply.Word.TheVariants.{BadSalt, Invalid, Match, Mismatch, Upgraded}
-use Rattle.line_io.specs.Limits.{LINE_MAX}
+use Rattle.line_io.specs.Limits.{line_max}
 
 -- ---- words
 
@@ -84,7 +84,7 @@ reply_to h c = reply_by (text h) (length (users h)) (rows h) c
 
 -- the reply to a line, over the lines before it
 unfoldable pub reply : History → List ℕ → Reply
-reply h line = if nat_lt LINE_MAX (length line) then Says TooLong else reply_to h (command line)
+reply h line = if nat_lt line_max (length line) then Says TooLong else reply_to h (command line)
 
 -- one more line, with its reply
 abbrev pub answered : History → List ℕ → History
@@ -124,4 +124,4 @@ command_is_costly h c = is_costly_by (text h) (length (users h)) c
 
 -- memory may be wanting for a line
 unfoldable pub is_costly : History → List ℕ → Bool
-is_costly h line = if nat_lt LINE_MAX (length line) then false else command_is_costly h (command line)
+is_costly h line = if nat_lt line_max (length line) then false else command_is_costly h (command line)

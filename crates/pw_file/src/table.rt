@@ -8,8 +8,8 @@ ghost use Rattle.pw_file.specs.Calls.{after_check, after_set, after_upgrade, row
 ghost use Rattle.pw_file.specs.History.{History, IsContentOf, text_in};
 ghost use Rattle.pw_file.specs.Replies.{row_line};
 ghost use Rattle.pw_file.specs.Verdicts.{fresh};
-ghost use Rattle.pw_file.specs.Limits.{TEXT_MAX, USERS_MAX};
-ghost use Rattle.stored_check.specs.Limits.{PASSWORD_MAX};
+ghost use Rattle.pw_file.specs.Limits.{text_max, users_max};
+ghost use Rattle.stored_check.specs.Limits.{password_max};
 
 use crate::FileError;
 use crate::names::checked;
@@ -46,13 +46,13 @@ pub struct Table {
 impl Model for Table {
     ghost use Rattle.std.specs.Prelude.{◌≡◌, ◌≤◌, ℕ, List, length, true};
     ghost use Rattle.pw_file.specs.Table.{are_short, rows_of};
-    ghost use Rattle.pw_file.specs.Limits.{USERS_MAX};
+    ghost use Rattle.pw_file.specs.Limits.{users_max};
 
     ghost Value = { List (List ℕ × List ℕ) };
 
     ghost view = { λ t. rows_of t.texts.entries };
 
-    ghost invariant = { λ t. (length t.texts.entries ≤ USERS_MAX) × (are_short t.texts.entries ≡ true) };
+    ghost invariant = { λ t. (length t.texts.entries ≤ users_max) × (are_short t.texts.entries ≡ true) };
 }
 
 // The encoding of a key of 32 bytes.
@@ -74,9 +74,9 @@ fn fresh(
     password: &str,
     salt: &SaltString,
 ) -> Result<String, AllocError>
-    requires short { length password.now ≤ PASSWORD_MAX }
+    requires short { length password.now ≤ password_max }
     ensures text { IfOk result (λ text. string_bytes text ≡ fresh password.now salt.now) }
-    ensures length { IfOk result (λ text. length (string_bytes text) ≤ TEXT_MAX) }
+    ensures length { IfOk result (λ text. length (string_bytes text) ≤ text_max) }
 {
     let mut key = [0; 32];
     kdf.scrypt_into(
@@ -98,7 +98,7 @@ fn fresh(
 
 // The command that sets the text of the user, with its line feed.
 fn line_of_row(user: Ident, text: &str) -> ShortBytes<ROW_LINE_MAX>
-    requires short { length text.now ≤ TEXT_MAX }
+    requires short { length text.now ≤ text_max }
     ensures line { result ≡ row_line (user, text.now) }
 {
     let name = user.as_str();
@@ -127,7 +127,7 @@ impl Table {
     /// How many users there are.
     pub fn len(&self) -> usize
         ensures len { result ≡ length self.now }
-        ensures most { result ≤ USERS_MAX }
+        ensures most { result ≤ users_max }
     {
         self.texts.len()
     }
@@ -155,7 +155,7 @@ impl Table {
     /// The user at a place and its text, which has at most 1,024 bytes.
     pub fn row(&self, i: usize) -> Option<(Ident, &str)>
         ensures row { option_map (λ row. (row.0, row.1.now)) result ≡ slice_get self.now i }
-        ensures short { IfSome result (λ row. length row.1.now ≤ TEXT_MAX) }
+        ensures short { IfSome result (λ row. length row.1.now ≤ text_max) }
     {
         match self.texts.get_index(i) {
             Some((user, text)) => Some((*user, text.as_str())),
@@ -183,7 +183,7 @@ impl Table {
     // Makes this the user's text. A new user goes last.
     fn put(&mut self, user: Ident, text: String) -> Result<(), AllocError>
         requires room { has_room (text_in self.old user) (length self.old) ≡ true }
-        requires short { length (string_bytes text) ≤ TEXT_MAX }
+        requires short { length (string_bytes text) ≤ text_max }
         ensures put { OnOk result (self.new ≡ with_text self.old user (string_bytes text)) }
         ensures err { OnErr result (self.new ≡ self.old) }
     {
@@ -212,7 +212,7 @@ impl Table {
     // Makes a copy of this the user's text.
     fn put_copy(&mut self, user: Ident, text: &str) -> Result<(), FileError>
         requires room { has_room (text_in self.old user) (length self.old) ≡ true }
-        requires short { length text.now ≤ TEXT_MAX }
+        requires short { length text.now ≤ text_max }
         ensures done { (result ≡ Ok tt) ⊎ (result ≡ Err FileError.OutOfMemory) }
         ensures rows { self.new ≡ rows_after_set self.old user text.now result }
     {
@@ -289,7 +289,7 @@ impl Table {
 
     // Makes the user's text, which there is, a new one.
     fn renew(&mut self, user: Ident, password: &str, salt: &SaltString) -> Result<bool, FileError>
-        requires short { length password.now ≤ PASSWORD_MAX }
+        requires short { length password.now ≤ password_max }
         requires user { is_some (text_in self.old user) ≡ true }
         ensures answer { (result ≡ Ok true) ⊎ (result ≡ Err FileError.OutOfMemory) }
         ensures rows { self.new ≡ rows_after_upgrade self.old user password.now salt.now result }

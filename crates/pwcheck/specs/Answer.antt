@@ -15,7 +15,7 @@ use Rattle.pwcheck.specs.declared.form.Form.{Form}
 use Rattle.pwcheck.specs.declared.form.Form.TheVariants.{Plain, Counted}
 use Rattle.line_program.specs.PlainOutput.{is_tab}
 use Rattle.line_program.specs.Rules.{LineRules, each_line}
-use Rattle.line_io.specs.Limits.{LINE_MAX}
+use Rattle.line_io.specs.Limits.{line_max}
 
 -- ---- words
 
@@ -48,7 +48,7 @@ text_answer text =
 
 -- The answer of a line, by the first that holds: more than 8,192 bytes; no UTF-8; no tab; else by its verdict.
 unfoldable pub answer : List ℕ → Answer
-answer line = if nat_lt LINE_MAX (length line) then TooLong else if is_utf8 line then text_answer line else BadLine
+answer line = if nat_lt line_max (length line) then TooLong else if is_utf8 line then text_answer line else BadLine
 
 -- the line is valid, its identifier is neither `5` nor `6`, and the derivation may need memory for its record
 abbrev pub text_may_lack : List ℕ → Bool
@@ -56,7 +56,7 @@ text_may_lack text =
     list_any is_tab text && may_lack_memory accepted needs_memory key (before_last is_tab text) (after_last is_tab text)
 
 unfoldable pub line_may_lack : List ℕ → Bool
-line_may_lack line = if nat_lt LINE_MAX (length line) then false else if is_utf8 line then text_may_lack line else false
+line_may_lack line = if nat_lt line_max (length line) then false else if is_utf8 line then text_may_lack line else false
 
 -- an answer is that of the line; or want of memory, where that may be
 abbrev pub IsTextAnswer : List ℕ → Answer → Type 0

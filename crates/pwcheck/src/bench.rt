@@ -8,7 +8,7 @@ ghost use Rattle.rand_chacha.specs.ChaCha.{of_seed};
 ghost use Rattle.rand_core.specs.Stream.{Stream, fill_bytes};
 ghost use Rattle.sha_crypt.specs.Simple.{characters, sha256_text, sha512_text};
 ghost use Rattle.pwcheck.specs.Bench.{is_match, is_mismatch, is_other, line_seed, line_verdict, made_text, matches, mismatches, others, scrypt_record, scrypt_text, summary, summary_text};
-ghost use Rattle.stored_check.specs.Limits.{PASSWORD_MAX};
+ghost use Rattle.stored_check.specs.Limits.{password_max};
 
 use line_io::{Failed, Sink, write_all};
 use line_program::status::{ALL_GOOD, NO_MEMORY, WRITE_FAULT};
@@ -35,7 +35,7 @@ fn line_rng(n: u64, i: u64) -> ChaCha20Rng
 
 // A text of SHA-256-crypt.
 fn sha256_line<R: Rng>(alloc: Global, rng: &mut R, password: &str) -> Option<String>
-    requires { length password.now ≤ PASSWORD_MAX }
+    requires { length password.now ≤ password_max }
     ensures { IfSome result (λ t. string_bytes t ≡ sha256_text password.now (characters 16 (R.stream rng.old)).0 1000) }
 {
     match Sha256Params::new(ROUNDS) {
@@ -49,7 +49,7 @@ fn sha256_line<R: Rng>(alloc: Global, rng: &mut R, password: &str) -> Option<Str
 
 // A text of SHA-512-crypt.
 fn sha512_line<R: Rng>(alloc: Global, rng: &mut R, password: &str) -> Option<String>
-    requires { length password.now ≤ PASSWORD_MAX }
+    requires { length password.now ≤ password_max }
     ensures { IfSome result (λ t. string_bytes t ≡ sha512_text password.now (characters 16 (R.stream rng.old)).0 1000) }
 {
     match Sha512Params::new(ROUNDS) {
@@ -85,7 +85,7 @@ fn scrypt_parts(salt: Salt, key: &[u8; 32]) -> PasswordHash
 
 // A record of scrypt, as text.
 fn scrypt_line<R: Rng>(alloc: Global, rng: &mut R, password: &str) -> Option<String>
-    requires { length password.now ≤ PASSWORD_MAX }
+    requires { length password.now ≤ password_max }
     ensures { IfSome result (λ t. string_bytes t ≡ scrypt_text password.now (fill_bytes 16 (R.stream rng.old)).0) }
 {
     let salt = Salt::from_rng(rng);
@@ -113,7 +113,7 @@ fn scrypt_line<R: Rng>(alloc: Global, rng: &mut R, password: &str) -> Option<Str
 // The stored text of line `i` for a password.
 #[tactic(auto, unfolding(crate::specs::Bench::made_text))]
 fn stored_text<R: Rng>(alloc: Global, i: u64, rng: &mut R, password: &str) -> Option<String>
-    requires { length password.now ≤ PASSWORD_MAX }
+    requires { length password.now ≤ password_max }
     ensures { IfSome result (λ t. string_bytes t ≡ made_text i password.now (R.stream rng.old)) }
 {
     if i % 3 == 0 {

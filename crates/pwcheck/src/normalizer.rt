@@ -3,7 +3,7 @@
 ghost use Rattle.std.specs.Prelude.{◌≡◌, ◌≤◌, ◌++◌, drop, length, take};
 ghost use Rattle.stored_check.specs.Normal.{normal};
 ghost use Rattle.pwcheck.specs.Normalize.{normal_line};
-ghost use Rattle.line_io.specs.Limits.{LINE_MAX};
+ghost use Rattle.line_io.specs.Limits.{line_max};
 
 use line_io::{OutputBuffer, Sink};
 use line_program::Responder;
@@ -38,7 +38,7 @@ fn write_line(line: &[u8], out: &mut [u8]) -> usize
 
 // What is written for a line of at most 8,192 bytes, at the front of `out`.
 fn normal_line<'o>(line: &[u8], out: &'o mut [u8; ROOM]) -> &'o [u8]
-    requires { length line.now ≤ LINE_MAX }
+    requires { length line.now ≤ line_max }
     ensures { result.now ≡ normal_line line.now }
 {
     let out = &mut out[..];

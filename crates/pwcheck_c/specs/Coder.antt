@@ -6,7 +6,7 @@ use Rattle.base64ct.specs.Alphabets.{base64, base64_unpadded, base64_url, base64
 use Rattle.base64ct.specs.Alphabets.{base64_bcrypt, base64_crypt, base64_pbkdf2, base64_sha_crypt}
 use Rattle.base64ct.specs.Decoding.{decoding}
 use Rattle.base64ct.specs.Encoding.{Alphabet, EachBelow, IsMisaligned, decoded_len, encoding, longest_input}
-use Rattle.pwcheck_c.specs.declared.statuses.TheConstants.{DONE, NO_ROOM, NOT_BASE64}
+use Rattle.pwcheck_c.specs.Statuses.{status_done, status_no_room, status_not_base64}
 
 -- the alphabets by number
 abbrev pub alphabets : List Alphabet
@@ -26,19 +26,19 @@ alphabet_of n = slice_get alphabets n
 
 -- decoding src into a buffer that was old and is new, with so many bytes
 pub record IsDecoded (a : Alphabet) (src old new : List ℕ) (n_old n_new : ℕ) (status : ℤ) : Type 0 where
-  pub misaligned : IsMisaligned a src → (status ≡ NOT_BASE64) × (new ≡ old)
-  pub no_room : (IsMisaligned a src → ⊥) → length old < decoded_len a src → (status ≡ NO_ROOM) × (new ≡ old)
-  pub decoded : decoded_len a src ≤ length old → MatchOption (decoding a src) (status ≡ NOT_BASE64)
-      (λ bytes. (status ≡ DONE) × (n_new ≡ length bytes) × (bytes ≡ take n_new new))
+  pub misaligned : IsMisaligned a src → (status ≡ status_not_base64) × (new ≡ old)
+  pub no_room : (IsMisaligned a src → ⊥) → length old < decoded_len a src → (status ≡ status_no_room) × (new ≡ old)
+  pub decoded : decoded_len a src ≤ length old → MatchOption (decoding a src) (status ≡ status_not_base64)
+      (λ bytes. (status ≡ status_done) × (n_new ≡ length bytes) × (bytes ≡ take n_new new))
   pub rest : drop (decoded_len a src) new ≡ drop (decoded_len a src) old
-  pub number : status ≢ DONE → n_new ≡ n_old
+  pub number : status ≢ status_done → n_new ≡ n_old
 
 -- encoding src into a buffer that was old and is new, with so many characters
 pub record IsEncoded (a : Alphabet) (src old new : List ℕ) (n_old n_new : ℕ) (status : ℤ) : Type 0 where
   pub refused : (longest_input < length src) ⊎ (length old < length (encoding a src))
-      → (status ≡ NO_ROOM) × (new ≡ old) × (n_new ≡ n_old)
+      → (status ≡ status_no_room) × (new ≡ old) × (n_new ≡ n_old)
   pub encoded : length src ≤ longest_input → length (encoding a src) ≤ length old
-      → (status ≡ DONE) × (n_new ≡ length (encoding a src)) × (new ≡ encoding a src ++ drop n_new old)
+      → (status ≡ status_done) × (n_new ≡ length (encoding a src)) × (new ≡ encoding a src ++ drop n_new old)
 
 -- so many characters encode n bytes; 0 where n bytes are never encoded
 pub record IsEncodedLen (a : Alphabet) (n characters : ℕ) : Type 0 where

@@ -3,7 +3,7 @@ use Rattle.std.specs.Prelude.{ℕ, ◌^◌, Bool, ◌&&◌, ◌||◌, nat_lt, na
 use Rattle.std.specs.Char.{is_ascii_alphanumeric}
 use Rattle.std.specs.List.{list_all}
 use Rattle.scrypt_plain.specs.Bounds.{in_bounds}
-use Rattle.sha_crypt.specs.Limits.{ROUNDS_MAX, ROUNDS_MIN, SALT_MAX_LEN}
+use Rattle.sha_crypt.specs.Limits.{rounds_max, rounds_min, salt_max_len}
 
 -- a password or salt that is taken
 abbrev pub is_short : List ℕ → Bool
@@ -16,7 +16,7 @@ scrypt_takes password salt ln r p n =
 
 -- SHA-crypt takes the password and the rounds
 abbrev pub rounds_taken : List ℕ → ℕ → Bool
-rounds_taken password rounds = is_short password && nat_le ROUNDS_MIN rounds && nat_le rounds ROUNDS_MAX
+rounds_taken password rounds = is_short password && nat_le rounds_min rounds && nat_le rounds rounds_max
 
 -- the same, for what has `size` bytes, in a buffer of n
 abbrev pub sha_takes : ℕ → List ℕ → ℕ → ℕ → Bool
@@ -28,7 +28,7 @@ is_salt_character c = is_ascii_alphanumeric c || c == 46 || c == 47
 
 -- a salt of a text: crypt(5), 1 to 16 of these characters
 abbrev pub is_salt : List ℕ → Bool
-is_salt salt = nat_le 1 (length salt) && nat_le (length salt) SALT_MAX_LEN && list_all is_salt_character salt
+is_salt salt = nat_le 1 (length salt) && nat_le (length salt) salt_max_len && list_all is_salt_character salt
 
 -- a text is made of these
 abbrev pub text_takes : List ℕ → List ℕ → ℕ → Bool

@@ -4,10 +4,10 @@ ghost use Rattle.std.specs.Prelude.{◌≡◌, length, true, false};
 ghost use Rattle.sha2.specs.Sha256.{sha256};
 ghost use Rattle.sha2.specs.Sha512.{sha512};
 ghost use Rattle.sha_crypt.specs.Digest.{sha_crypt_digest};
-ghost use Rattle.sha_crypt.specs.HashField.{hash_field};
-ghost use Rattle.sha_crypt.specs.declared.defs.TheConstants.{MAP_SHA256, MAP_SHA512};
+ghost use Rattle.sha_crypt.specs.HashField.{map_sha256, map_sha512, hash_field};
 ghost use Rattle.pwcheck_c.specs.Inputs.{sha_takes};
-ghost use Rattle.sha_crypt.specs.Limits.{PW_SIZE_SHA256, PW_SIZE_SHA512};
+ghost use Rattle.sha_crypt.specs.Limits.{pw_size_sha256, pw_size_sha512};
+ghost use Rattle.pwcheck_c.specs.Statuses.{status_done, status_out_of_range};
 
 use crate::statuses::{DONE, LONG, OUT_OF_RANGE};
 use sha_crypt::{
@@ -23,9 +23,9 @@ pub extern "C" fn pwcheck_sha256_crypt(
     out: &mut [u8],
 ) -> i32
     ensures digest { sha_takes 32 password.now rounds (length out.old) ≡ true
-        → (result ≡ DONE) × (out.new ≡ sha_crypt_digest sha256 password.now salt.now rounds) }
+        → (result ≡ status_done) × (out.new ≡ sha_crypt_digest sha256 password.now salt.now rounds) }
     ensures refused { sha_takes 32 password.now rounds (length out.old) ≡ false
-        → (result ≡ OUT_OF_RANGE) × (out.new ≡ out.old) }
+        → (result ≡ status_out_of_range) × (out.new ≡ out.old) }
 {
     if password.len() >= LONG || out.len() != 32 {
         return OUT_OF_RANGE;
@@ -48,9 +48,9 @@ pub extern "C" fn pwcheck_sha512_crypt(
     out: &mut [u8],
 ) -> i32
     ensures digest { sha_takes 64 password.now rounds (length out.old) ≡ true
-        → (result ≡ DONE) × (out.new ≡ sha_crypt_digest sha512 password.now salt.now rounds) }
+        → (result ≡ status_done) × (out.new ≡ sha_crypt_digest sha512 password.now salt.now rounds) }
     ensures refused { sha_takes 64 password.now rounds (length out.old) ≡ false
-        → (result ≡ OUT_OF_RANGE) × (out.new ≡ out.old) }
+        → (result ≡ status_out_of_range) × (out.new ≡ out.old) }
 {
     if password.len() >= LONG || out.len() != 64 {
         return OUT_OF_RANGE;
@@ -72,10 +72,10 @@ pub extern "C" fn pwcheck_sha256_crypt_b64(
     rounds: u32,
     out: &mut [u8],
 ) -> i32
-    ensures field { sha_takes PW_SIZE_SHA256 password.now rounds (length out.old) ≡ true
-        → (result ≡ DONE) × (out.new ≡ hash_field MAP_SHA256 (sha_crypt_digest sha256 password.now salt.now rounds)) }
-    ensures refused { sha_takes PW_SIZE_SHA256 password.now rounds (length out.old) ≡ false
-        → (result ≡ OUT_OF_RANGE) × (out.new ≡ out.old) }
+    ensures field { sha_takes pw_size_sha256 password.now rounds (length out.old) ≡ true
+        → (result ≡ status_done) × (out.new ≡ hash_field map_sha256 (sha_crypt_digest sha256 password.now salt.now rounds)) }
+    ensures refused { sha_takes pw_size_sha256 password.now rounds (length out.old) ≡ false
+        → (result ≡ status_out_of_range) × (out.new ≡ out.old) }
 {
     if password.len() >= LONG || out.len() != 43 {
         return OUT_OF_RANGE;
@@ -98,10 +98,10 @@ pub extern "C" fn pwcheck_sha512_crypt_b64(
     rounds: u32,
     out: &mut [u8],
 ) -> i32
-    ensures field { sha_takes PW_SIZE_SHA512 password.now rounds (length out.old) ≡ true
-        → (result ≡ DONE) × (out.new ≡ hash_field MAP_SHA512 (sha_crypt_digest sha512 password.now salt.now rounds)) }
-    ensures refused { sha_takes PW_SIZE_SHA512 password.now rounds (length out.old) ≡ false
-        → (result ≡ OUT_OF_RANGE) × (out.new ≡ out.old) }
+    ensures field { sha_takes pw_size_sha512 password.now rounds (length out.old) ≡ true
+        → (result ≡ status_done) × (out.new ≡ hash_field map_sha512 (sha_crypt_digest sha512 password.now salt.now rounds)) }
+    ensures refused { sha_takes pw_size_sha512 password.now rounds (length out.old) ≡ false
+        → (result ≡ status_out_of_range) × (out.new ≡ out.old) }
 {
     if password.len() >= LONG || out.len() != 86 {
         return OUT_OF_RANGE;

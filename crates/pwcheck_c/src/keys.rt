@@ -3,6 +3,7 @@
 ghost use Rattle.std.specs.Prelude.{◌≡◌, ◌⊎◌, ◌^◌, length, true, false};
 ghost use Rattle.scrypt_plain.specs.Scrypt.{scrypt};
 ghost use Rattle.pwcheck_c.specs.Inputs.{scrypt_takes};
+ghost use Rattle.pwcheck_c.specs.Statuses.{status_done, status_no_memory, status_out_of_range};
 
 use crate::statuses::{DONE, LONG, NO_MEMORY, OUT_OF_RANGE};
 use scrypt_plain::{in_bounds, scrypt};
@@ -20,10 +21,10 @@ pub extern "C" fn pwcheck_scrypt(
     out: &mut [u8],
 ) -> i32
     ensures taken { scrypt_takes password.now salt.now ln r p (length out.old) ≡ true
-        → (result ≡ DONE) ⊎ (result ≡ NO_MEMORY) }
-    ensures key { result ≡ DONE → out.new ≡ scrypt password.now salt.now (2 ^ ln) r p (length out.old) }
+        → (result ≡ status_done) ⊎ (result ≡ status_no_memory) }
+    ensures key { result ≡ status_done → out.new ≡ scrypt password.now salt.now (2 ^ ln) r p (length out.old) }
     ensures refused { scrypt_takes password.now salt.now ln r p (length out.old) ≡ false
-        → (result ≡ OUT_OF_RANGE) × (out.new ≡ out.old) }
+        → (result ≡ status_out_of_range) × (out.new ≡ out.old) }
 {
     if password.len() >= LONG || salt.len() >= LONG || out.len() < 1 || out.len() > 64 {
         return OUT_OF_RANGE;

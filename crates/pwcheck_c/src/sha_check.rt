@@ -4,6 +4,7 @@ ghost use Rattle.std.specs.Prelude.{◌≡◌, ◌^◌, ◌<◌, ◌≤◌, Some
 ghost use Rattle.sha_crypt.specs.Families.{sha256_answer, sha512_answer};
 ghost use Rattle.pwcheck_c.specs.Numbers.{answer_of};
 ghost use Rattle.pwcheck_c.specs.Verdicts.{family_answer, of_family};
+ghost use Rattle.pwcheck_c.specs.Statuses.{status_out_of_range};
 
 use crate::answer::Answer;
 use crate::check::text_of;
@@ -70,7 +71,7 @@ fn answer_of_sha512(password: &[u8], stored: &[u8]) -> Answer
 pub extern "C" fn pwcheck_sha256_check(password: &[u8], stored: &[u8]) -> i32
     ensures answer { length password.now < 2 ^ 30
         → answer_of result ≡ Some (family_answer sha256_answer password.now stored.now) }
-    ensures refused { 2 ^ 30 ≤ length password.now → result ≡ OUT_OF_RANGE }
+    ensures refused { 2 ^ 30 ≤ length password.now → result ≡ status_out_of_range }
 {
     if password.len() >= LONG {
         return OUT_OF_RANGE;
@@ -84,7 +85,7 @@ pub extern "C" fn pwcheck_sha256_check(password: &[u8], stored: &[u8]) -> i32
 pub extern "C" fn pwcheck_sha512_check(password: &[u8], stored: &[u8]) -> i32
     ensures answer { length password.now < 2 ^ 30
         → answer_of result ≡ Some (family_answer sha512_answer password.now stored.now) }
-    ensures refused { 2 ^ 30 ≤ length password.now → result ≡ OUT_OF_RANGE }
+    ensures refused { 2 ^ 30 ≤ length password.now → result ≡ status_out_of_range }
 {
     if password.len() >= LONG {
         return OUT_OF_RANGE;

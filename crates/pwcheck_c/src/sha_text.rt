@@ -6,7 +6,8 @@ ghost use Rattle.sha_crypt.specs.Records.{rounds_part};
 ghost use Rattle.sha_crypt.specs.Simple.{sha256_text, sha512_text};
 ghost use Rattle.pwcheck_c.specs.Inputs.{is_salt, is_salt_character, text_takes};
 ghost use Rattle.pwcheck_c.specs.Written.{IsPut};
-ghost use Rattle.sha_crypt.specs.Limits.{PW_SIZE_SHA512, ROUNDS_DEFAULT, SALT_MAX_LEN};
+ghost use Rattle.sha_crypt.specs.Limits.{pw_size_sha512, rounds_default, salt_max_len};
+ghost use Rattle.pwcheck_c.specs.Statuses.{status_out_of_range};
 
 use crate::statuses::{DONE, LONG, NO_ROOM, OUT_OF_RANGE};
 use pieces::short_bytes::ShortBytes;
@@ -35,7 +36,7 @@ fn are_salt_characters(salt: &[u8]) -> bool
 // Whether this is a salt.
 fn is_salt(salt: &[u8]) -> bool
     ensures test { result ≡ is_salt salt.now }
-    ensures short { result ≡ true → length salt.now ≤ SALT_MAX_LEN }
+    ensures short { result ≡ true → length salt.now ≤ salt_max_len }
 {
     1 <= salt.len() && salt.len() <= SALT_MAX_LEN && are_salt_characters(salt)
 }
@@ -43,7 +44,7 @@ fn is_salt(salt: &[u8]) -> bool
 // Appends what names the rounds, where they aren't the default.
 fn push_rounds(text: &mut ShortBytes<TEXT_MAX>, rounds: usize)
     requires room { length text.old + 28 ≤ 134 }
-    ensures appended { text.new ≡ text.old ++ rounds_part (not (rounds == ROUNDS_DEFAULT)) rounds }
+    ensures appended { text.new ≡ text.old ++ rounds_part (not (rounds == rounds_default)) rounds }
     ensures len { length text.new ≤ length text.old + 28 }
 {
     if rounds != ROUNDS_DEFAULT {
@@ -56,9 +57,9 @@ fn push_rounds(text: &mut ShortBytes<TEXT_MAX>, rounds: usize)
 // `$id$[rounds=N$]salt$hash`.
 fn joined(id: &[u8], rounds: usize, salt: &[u8], hash: &[u8]) -> ShortBytes<TEXT_MAX>
     requires id { length id.now ≤ 1 }
-    requires salt { length salt.now ≤ SALT_MAX_LEN }
-    requires hash { length hash.now ≤ PW_SIZE_SHA512 }
-    ensures { result ≡ codes "$" ++ id.now ++ codes "$" ++ rounds_part (not (rounds == ROUNDS_DEFAULT)) rounds
+    requires salt { length salt.now ≤ salt_max_len }
+    requires hash { length hash.now ≤ pw_size_sha512 }
+    ensures { result ≡ codes "$" ++ id.now ++ codes "$" ++ rounds_part (not (rounds == rounds_default)) rounds
         ++ salt.now ++ codes "$" ++ hash.now }
 {
     let mut text = ShortBytes::new();
@@ -88,7 +89,7 @@ fn put(text: &[u8], out: &mut [u8], len: &mut usize) -> i32
 #[tactic(auto, unfolding(sha_crypt::specs::Records::record_text))]
 fn sha256_text(password: &[u8], salt: &[u8], params: &Sha256Params) -> ShortBytes<TEXT_MAX>
     requires password { length password.now < 2 ^ 30 }
-    requires salt { length salt.now ≤ SALT_MAX_LEN }
+    requires salt { length salt.now ≤ salt_max_len }
     ensures { result ≡ sha256_text password.now salt.now params.now }
 {
     let hash = encode_sha256(&sha256_crypt(password, salt, params));
@@ -99,7 +100,7 @@ fn sha256_text(password: &[u8], salt: &[u8], params: &Sha256Params) -> ShortByte
 #[tactic(auto, unfolding(sha_crypt::specs::Records::record_text))]
 fn sha512_text(password: &[u8], salt: &[u8], params: &Sha512Params) -> ShortBytes<TEXT_MAX>
     requires password { length password.now < 2 ^ 30 }
-    requires salt { length salt.now ≤ SALT_MAX_LEN }
+    requires salt { length salt.now ≤ salt_max_len }
     ensures { result ≡ sha512_text password.now salt.now params.now }
 {
     let hash = encode_sha512(&sha512_crypt(password, salt, params));
@@ -119,7 +120,7 @@ pub extern "C" fn pwcheck_sha256_crypt_text(
     ensures text { text_takes password.now salt.now rounds ≡ true
         → IsPut (sha256_text password.now salt.now rounds) out.old out.new len.old len.new result }
     ensures refused { text_takes password.now salt.now rounds ≡ false
-        → (result ≡ OUT_OF_RANGE) × (out.new ≡ out.old) × (len.new ≡ len.old) }
+        → (result ≡ status_out_of_range) × (out.new ≡ out.old) × (len.new ≡ len.old) }
 {
     if password.len() >= LONG || !is_salt(salt) {
         return OUT_OF_RANGE;
@@ -143,7 +144,7 @@ pub extern "C" fn pwcheck_sha512_crypt_text(
     ensures text { text_takes password.now salt.now rounds ≡ true
         → IsPut (sha512_text password.now salt.now rounds) out.old out.new len.old len.new result }
     ensures refused { text_takes password.now salt.now rounds ≡ false
-        → (result ≡ OUT_OF_RANGE) × (out.new ≡ out.old) × (len.new ≡ len.old) }
+        → (result ≡ status_out_of_range) × (out.new ≡ out.old) × (len.new ≡ len.old) }
 {
     if password.len() >= LONG || !is_salt(salt) {
         return OUT_OF_RANGE;

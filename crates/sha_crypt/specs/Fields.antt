@@ -16,7 +16,7 @@ use Rattle.sha_crypt.specs.declared.errors.CheckError.TheVariants.{InvalidFormat
 use Rattle.sha_crypt.specs.declared.errors.CryptError.TheVariants.{RoundsError}
 use Rattle.sha_crypt.specs.declared.errors.FormatFault.TheVariants.{NoFields, NoSalt, RoundsNotNumber, NoHash, Trailing}
 use Rattle.sha_crypt.specs.declared.errors.FormatFault.TheVariants.{SaltTooLong, Base64}
-use Rattle.sha_crypt.specs.Limits.{ROUNDS_DEFAULT, ROUNDS_MAX, ROUNDS_MIN, SALT_MAX_LEN}
+use Rattle.sha_crypt.specs.Limits.{rounds_default, rounds_max, rounds_min, salt_max_len}
 
 -- ---- the number of rounds
 
@@ -46,7 +46,7 @@ pub record ShaFields : Type 0 where
 -- the rounds are in range
 abbrev pub fields_in_range : ℕ → Bool → List ℕ → List ℕ → Result ShaFields CheckError
 fields_in_range rounds written salt hash =
-    if nat_lt rounds ROUNDS_MIN || nat_lt ROUNDS_MAX rounds then Err (Crypt RoundsError)
+    if nat_lt rounds rounds_min || nat_lt rounds_max rounds then Err (Crypt RoundsError)
     else Ok (record { rounds = rounds; written = written; salt = salt; hash = hash })
 
 -- from the salt on: exactly a salt and a hash
@@ -63,7 +63,7 @@ with_rounds (Some rounds) pieces = from_salt rounds true pieces
 
 -- by what stands behind `rounds=` in the first piece; `number` reads the rounds
 abbrev pub by_rounds : (List ℕ → Option ℕ) → Option (List ℕ) → List ℕ → List (List ℕ) → Result ShaFields CheckError
-by_rounds number None first pieces = from_salt ROUNDS_DEFAULT false (first ∷ pieces)
+by_rounds number None first pieces = from_salt rounds_default false (first ∷ pieces)
 by_rounds number (Some digits) first pieces =
     if is_empty pieces then Err (InvalidFormat NoSalt) else with_rounds (number digits) pieces
 
@@ -77,7 +77,7 @@ split_fields number (first ∷ pieces) = by_rounds number (behind first (codes "
 -- the salt has at most 16 bytes
 abbrev pub short_salt : Result ShaFields CheckError → Result ShaFields CheckError
 short_salt (Err e) = Err e
-short_salt (Ok f) = if nat_lt SALT_MAX_LEN (length f.salt) then Err (InvalidFormat SaltTooLong) else Ok f
+short_salt (Ok f) = if nat_lt salt_max_len (length f.salt) then Err (InvalidFormat SaltTooLong) else Ok f
 
 -- the text of the hash is a hash field
 abbrev pub checked_hash : (List ℕ → Bool) → Result ShaFields CheckError → Result ShaFields CheckError
@@ -100,4 +100,4 @@ old_fields is_hash_field pieces = checked_hash is_hash_field (split_fields old_n
 
 -- the fields with the bytes of the salt that count
 abbrev pub cut_salt : ShaFields → ShaFields
-cut_salt f = record f { salt = take SALT_MAX_LEN f.salt }
+cut_salt f = record f { salt = take salt_max_len f.salt }

@@ -1,10 +1,27 @@
 -- The hash field of a digest: Drepper's text, step 22.
-use Rattle.std.specs.Prelude.{◌≡◌, ℕ, zero, suc, true, ◌&&◌, Bool, List, ◌==◌, length, map, slice_index, Option, Some}
-use Rattle.std.specs.Prelude.{None, is_some, if◌then◌else◌, nat_lt}
+use Rattle.std.specs.Prelude.{◌≡◌, ℕ, zero, suc, true, ◌&&◌, Bool, List, [], ◌∷◌, ◌==◌, length, map, slice_index, Option}
+use Rattle.std.specs.Prelude.{None, Some, is_some, if◌then◌else◌, nat_lt}
 use Rattle.std.specs.List.{list_all}
 use Rattle.base64ct.specs.Encoding.{encoding, EachBelow}
 use Rattle.base64ct.specs.Decoding.{decoding}
 use Rattle.base64ct.specs.Alphabets.{base64_sha_crypt}
+
+-- which byte of a digest stands at each place of its hash field: the groups of step 22, the last byte of each first
+abbrev pub map_sha256 : List ℕ
+map_sha256 =
+    20 ∷ 10 ∷ 0 ∷ 11 ∷ 1 ∷ 21 ∷ 2 ∷ 22 ∷ 12 ∷ 23 ∷ 13 ∷ 3
+    ∷ 14 ∷ 4 ∷ 24 ∷ 5 ∷ 25 ∷ 15 ∷ 26 ∷ 16 ∷ 6 ∷ 17 ∷ 7 ∷ 27
+    ∷ 8 ∷ 28 ∷ 18 ∷ 29 ∷ 19 ∷ 9 ∷ 30 ∷ 31 ∷ []
+
+-- the same of SHA-512-crypt
+abbrev pub map_sha512 : List ℕ
+map_sha512 =
+    42 ∷ 21 ∷ 0 ∷ 1 ∷ 43 ∷ 22 ∷ 23 ∷ 2 ∷ 44 ∷ 45 ∷ 24 ∷ 3
+    ∷ 4 ∷ 46 ∷ 25 ∷ 26 ∷ 5 ∷ 47 ∷ 48 ∷ 27 ∷ 6 ∷ 7 ∷ 49 ∷ 28
+    ∷ 29 ∷ 8 ∷ 50 ∷ 51 ∷ 30 ∷ 9 ∷ 10 ∷ 52 ∷ 31 ∷ 32 ∷ 11 ∷ 53
+    ∷ 54 ∷ 33 ∷ 12 ∷ 13 ∷ 55 ∷ 34 ∷ 35 ∷ 14 ∷ 56 ∷ 57 ∷ 36 ∷ 15
+    ∷ 16 ∷ 58 ∷ 37 ∷ 38 ∷ 17 ∷ 59 ∷ 60 ∷ 39 ∷ 18 ∷ 19 ∷ 61 ∷ 40
+    ∷ 41 ∷ 20 ∷ 62 ∷ 63 ∷ []
 
 -- each is the place of one of n bytes
 abbrev pub are_places : ℕ → List ℕ → Bool

@@ -1,26 +1,27 @@
--- The limits of SHA-crypt (Drepper, 'Unix crypt using SHA-256 and SHA-512': the salt string, its prefix `rounds=<N>$`, and the output).
+-- The limits of SHA-crypt (U. Drepper, 'Unix crypt using SHA-256 and SHA-512': the salt string and its prefix
+-- `rounds=<N>$`, the output).
 use Rattle.std.specs.Prelude.{ℕ}
 
 -- the rounds where none are named
-abbrev pub ROUNDS_DEFAULT : ℕ
-ROUNDS_DEFAULT = 5000
+abbrev pub rounds_default : ℕ
+rounds_default = 5000
 
 -- the fewest rounds
-abbrev pub ROUNDS_MIN : ℕ
-ROUNDS_MIN = 1000
+abbrev pub rounds_min : ℕ
+rounds_min = 1000
 
 -- the most rounds
-abbrev pub ROUNDS_MAX : ℕ
-ROUNDS_MAX = 999999999
+abbrev pub rounds_max : ℕ
+rounds_max = 999999999
 
 -- the most bytes of a salt that count
-abbrev pub SALT_MAX_LEN : ℕ
-SALT_MAX_LEN = 16
+abbrev pub salt_max_len : ℕ
+salt_max_len = 16
 
 -- the characters of a hash field of SHA-256-crypt
-abbrev pub PW_SIZE_SHA256 : ℕ
-PW_SIZE_SHA256 = 43
+abbrev pub pw_size_sha256 : ℕ
+pw_size_sha256 = 43
 
 -- the same of SHA-512-crypt
-abbrev pub PW_SIZE_SHA512 : ℕ
-PW_SIZE_SHA512 = 86
+abbrev pub pw_size_sha512 : ℕ
+pw_size_sha512 = 86

@@ -11,7 +11,7 @@ use Rattle.sha_crypt.specs.HashField.{hash_field}
 use Rattle.sha_crypt.specs.Records.{family_scheme, record_text}
 use Rattle.sha_crypt.specs.declared.errors.Family.{Family}
 use Rattle.sha_crypt.specs.declared.errors.Family.TheVariants.{Sha256, Sha512}
-use Rattle.sha_crypt.specs.Limits.{ROUNDS_DEFAULT}
+use Rattle.sha_crypt.specs.Limits.{rounds_default}
 
 -- ---- salts
 
@@ -35,7 +35,7 @@ abbrev pub made_fields : Scheme → List ℕ → List ℕ → ℕ → ShaFields
 made_fields s password salt rounds =
     record {
       rounds = rounds;
-      written = not (rounds == ROUNDS_DEFAULT);
+      written = not (rounds == rounds_default);
       salt = salt;
       hash = hash_field s.places (sha_crypt_digest s.hash password salt rounds);
     }

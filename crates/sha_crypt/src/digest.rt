@@ -2,7 +2,7 @@
 
 ghost use Rattle.std.specs.Prelude.{◌≡◌, ℕ, ◌+◌, ◌<◌, ◌≤◌, List, ◌++◌, length, take};
 ghost use Rattle.sha_crypt.specs.Digest.{by_digits, copies, repeated_to, sha_crypt_digest, start_digest};
-ghost use Rattle.sha_crypt.specs.Limits.{SALT_MAX_LEN};
+ghost use Rattle.sha_crypt.specs.Limits.{salt_max_len};
 
 use crate::SALT_MAX_LEN;
 use crate::hasher::Hasher;
@@ -53,8 +53,8 @@ fn feed_by_digits<const N: usize, H: Hasher<N>>(
 
 // The part of a salt that counts.
 fn used_salt(salt: &[u8]) -> &[u8]
-    ensures value { result.now ≡ take SALT_MAX_LEN salt.now }
-    ensures short { length result.now ≤ SALT_MAX_LEN }
+    ensures value { result.now ≡ take salt_max_len salt.now }
+    ensures short { length result.now ≤ salt_max_len }
 {
     if salt.len() > SALT_MAX_LEN {
         &salt[..SALT_MAX_LEN]

@@ -10,7 +10,7 @@ ghost use Rattle.sha2.specs.Sha512.{sha512};
 ghost use Rattle.sha_crypt.specs.Check.{is_verdict};
 ghost use Rattle.sha_crypt.specs.Digest.{sha_crypt_digest};
 ghost use Rattle.sha_crypt.specs.Families.{sha256_answer, sha512_answer};
-ghost use Rattle.sha_crypt.specs.HashField.{hash_field, IsHashFieldOf};
+ghost use Rattle.sha_crypt.specs.HashField.{map_sha256, map_sha512, hash_field, IsHashFieldOf};
 ghost use Rattle.sha_crypt.specs.Simple.{characters, sha256_text, sha512_text};
 
 pub mod b64;
@@ -65,7 +65,7 @@ pub fn sha256_crypt_b64(
 ) -> Result<String, CryptError>
     requires short { length password.now < 2 ^ 30 }
     ensures field { IfOk result (λ t. string_bytes t
-        ≡ hash_field MAP_SHA256 (sha_crypt_digest sha256 password.now salt.now params.now)) }
+        ≡ hash_field map_sha256 (sha_crypt_digest sha256 password.now salt.now params.now)) }
     ensures fault { IsOkUnless result CryptError.OutOfMemory }
 {
     simple::crypt_b64::<32, Sha256>(alloc, &MAP_SHA256, password, salt, params.rounds())
@@ -132,7 +132,7 @@ pub fn sha256_check_counted(
 
 /// The hash field of a SHA-256-crypt digest: 43 characters.
 pub fn encode_sha256(source: &[u8; 32]) -> [u8; 43]
-    ensures field { result ≡ hash_field MAP_SHA256 source.now }
+    ensures field { result ≡ hash_field map_sha256 source.now }
 {
     b64::encode::<32, 43>(&MAP_SHA256, source)
 }
@@ -140,8 +140,8 @@ pub fn encode_sha256(source: &[u8; 32]) -> [u8; 43]
 /// The SHA-256-crypt digest whose hash field `source` is.
 pub fn decode_sha256(source: &[u8]) -> Result<[u8; 32], DecodeError>
     ensures found { MatchResult result
-        (λ digest. IsHashFieldOf 32 MAP_SHA256 source.now digest)
-        (λ _. (digest : List ℕ) → IsHashFieldOf 32 MAP_SHA256 source.now digest → ⊥) }
+        (λ digest. IsHashFieldOf 32 map_sha256 source.now digest)
+        (λ _. (digest : List ℕ) → IsHashFieldOf 32 map_sha256 source.now digest → ⊥) }
 {
     b64::decode::<32>(&MAP_SHA256, &BACK_SHA256, source)
 }
@@ -166,7 +166,7 @@ pub fn sha512_crypt_b64(
 ) -> Result<String, CryptError>
     requires short { length password.now < 2 ^ 30 }
     ensures field { IfOk result (λ t. string_bytes t
-        ≡ hash_field MAP_SHA512 (sha_crypt_digest sha512 password.now salt.now params.now)) }
+        ≡ hash_field map_sha512 (sha_crypt_digest sha512 password.now salt.now params.now)) }
     ensures fault { IsOkUnless result CryptError.OutOfMemory }
 {
     simple::crypt_b64::<64, Sha512>(alloc, &MAP_SHA512, password, salt, params.rounds())
@@ -233,7 +233,7 @@ pub fn sha512_check_counted(
 
 /// The hash field of a SHA-512-crypt digest: 86 characters.
 pub fn encode_sha512(source: &[u8; 64]) -> [u8; 86]
-    ensures field { result ≡ hash_field MAP_SHA512 source.now }
+    ensures field { result ≡ hash_field map_sha512 source.now }
 {
     b64::encode::<64, 86>(&MAP_SHA512, source)
 }
@@ -241,8 +241,8 @@ pub fn encode_sha512(source: &[u8; 64]) -> [u8; 86]
 /// The SHA-512-crypt digest whose hash field `source` is.
 pub fn decode_sha512(source: &[u8]) -> Result<[u8; 64], DecodeError>
     ensures found { MatchResult result
-        (λ digest. IsHashFieldOf 64 MAP_SHA512 source.now digest)
-        (λ _. (digest : List ℕ) → IsHashFieldOf 64 MAP_SHA512 source.now digest → ⊥) }
+        (λ digest. IsHashFieldOf 64 map_sha512 source.now digest)
+        (λ _. (digest : List ℕ) → IsHashFieldOf 64 map_sha512 source.now digest → ⊥) }
 {
     b64::decode::<64>(&MAP_SHA512, &BACK_SHA512, source)
 }

@@ -1,7 +1,7 @@
 //! The number of rounds.
 
 ghost use Rattle.std.specs.Prelude.{◌≡◌, ◌≤◌, ◌<◌, ◌⊎◌, Ok, Err};
-ghost use Rattle.sha_crypt.specs.Limits.{ROUNDS_MAX, ROUNDS_MIN};
+ghost use Rattle.sha_crypt.specs.Limits.{rounds_max, rounds_min};
 
 use crate::CryptError;
 use std::marker::Model;
@@ -23,13 +23,13 @@ pub struct Sha256Params {
 
 impl Model for Sha256Params {
     ghost use Rattle.std.specs.Prelude.{ℕ, ◌≤◌};
-    ghost use Rattle.sha_crypt.specs.Limits.{ROUNDS_MAX, ROUNDS_MIN};
+    ghost use Rattle.sha_crypt.specs.Limits.{rounds_max, rounds_min};
 
     ghost Value = { ℕ };
 
     ghost view = { λ p. p.rounds };
 
-    ghost invariant = { λ p. (ROUNDS_MIN ≤ p.rounds) × (p.rounds ≤ ROUNDS_MAX) };
+    ghost invariant = { λ p. (rounds_min ≤ p.rounds) × (p.rounds ≤ rounds_max) };
 
     ghost inverse = { λ n. record { rounds = n } };
 }
@@ -37,8 +37,8 @@ impl Model for Sha256Params {
 impl Sha256Params {
     /// Parameters with this number of rounds.
     pub fn new(rounds: usize) -> Result<Sha256Params, CryptError>
-        ensures inside { ROUNDS_MIN ≤ rounds → rounds ≤ ROUNDS_MAX → result ≡ Ok rounds }
-        ensures outside { (rounds < ROUNDS_MIN) ⊎ (ROUNDS_MAX < rounds) → result ≡ Err CryptError.RoundsError }
+        ensures inside { rounds_min ≤ rounds → rounds ≤ rounds_max → result ≡ Ok rounds }
+        ensures outside { (rounds < rounds_min) ⊎ (rounds_max < rounds) → result ≡ Err CryptError.RoundsError }
     {
         if rounds < ROUNDS_MIN || rounds > ROUNDS_MAX {
             return Err(CryptError::RoundsError);
@@ -49,8 +49,8 @@ impl Sha256Params {
     /// The rounds.
     pub fn rounds(&self) -> usize
         ensures number { result ≡ self.now }
-        ensures least { ROUNDS_MIN ≤ result }
-        ensures most { result ≤ ROUNDS_MAX }
+        ensures least { rounds_min ≤ result }
+        ensures most { result ≤ rounds_max }
     {
         self.rounds
     }
@@ -74,13 +74,13 @@ pub struct Sha512Params {
 
 impl Model for Sha512Params {
     ghost use Rattle.std.specs.Prelude.{ℕ, ◌≤◌};
-    ghost use Rattle.sha_crypt.specs.Limits.{ROUNDS_MAX, ROUNDS_MIN};
+    ghost use Rattle.sha_crypt.specs.Limits.{rounds_max, rounds_min};
 
     ghost Value = { ℕ };
 
     ghost view = { λ p. p.rounds };
 
-    ghost invariant = { λ p. (ROUNDS_MIN ≤ p.rounds) × (p.rounds ≤ ROUNDS_MAX) };
+    ghost invariant = { λ p. (rounds_min ≤ p.rounds) × (p.rounds ≤ rounds_max) };
 
     ghost inverse = { λ n. record { rounds = n } };
 }
@@ -88,8 +88,8 @@ impl Model for Sha512Params {
 impl Sha512Params {
     /// Parameters with this number of rounds.
     pub fn new(rounds: usize) -> Result<Sha512Params, CryptError>
-        ensures inside { ROUNDS_MIN ≤ rounds → rounds ≤ ROUNDS_MAX → result ≡ Ok rounds }
-        ensures outside { (rounds < ROUNDS_MIN) ⊎ (ROUNDS_MAX < rounds) → result ≡ Err CryptError.RoundsError }
+        ensures inside { rounds_min ≤ rounds → rounds ≤ rounds_max → result ≡ Ok rounds }
+        ensures outside { (rounds < rounds_min) ⊎ (rounds_max < rounds) → result ≡ Err CryptError.RoundsError }
     {
         if rounds < ROUNDS_MIN || rounds > ROUNDS_MAX {
             return Err(CryptError::RoundsError);
@@ -100,8 +100,8 @@ impl Sha512Params {
     /// The rounds.
     pub fn rounds(&self) -> usize
         ensures number { result ≡ self.now }
-        ensures least { ROUNDS_MIN ≤ result }
-        ensures most { result ≤ ROUNDS_MAX }
+        ensures least { rounds_min ≤ result }
+        ensures most { result ≤ rounds_max }
     {
         self.rounds
     }

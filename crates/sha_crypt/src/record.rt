@@ -7,7 +7,7 @@ ghost use Rattle.std.specs.Io.BufRead.{Rests};
 ghost use Rattle.std.specs.Fmt.{HasWritten, IsPlainFormatter};
 ghost use Rattle.sha_crypt.specs.HashField.{is_hash_field};
 ghost use Rattle.sha_crypt.specs.Records.{family_id, family_scheme, old_record_of, record_of, rounds_part};
-ghost use Rattle.sha_crypt.specs.Limits.{PW_SIZE_SHA512, SALT_MAX_LEN};
+ghost use Rattle.sha_crypt.specs.Limits.{pw_size_sha512, salt_max_len};
 
 use crate::b64::field_bytes;
 use crate::fields::{Reading, text_parts};
@@ -58,7 +58,7 @@ fn is_hash_field(family: Family, text: &str) -> bool
 // The bytes of a salt that count.
 fn cut_salt(salt: &str) -> &str
     requires { IsAscii salt.now }
-    ensures { result.now ≡ take SALT_MAX_LEN salt.now }
+    ensures { result.now ≡ take salt_max_len salt.now }
 {
     if salt.len() > SALT_MAX_LEN {
         &salt[..SALT_MAX_LEN]
@@ -148,7 +148,7 @@ impl<'a> ShaRecord<'a> {
     /// The salt: at most 16 bytes.
     pub fn salt(&self) -> &'a str
         ensures salt { result.now ≡ (fields_of_record self.now).salt }
-        ensures short { length result.now ≤ SALT_MAX_LEN }
+        ensures short { length result.now ≤ salt_max_len }
     {
         self.salt
     }
@@ -156,7 +156,7 @@ impl<'a> ShaRecord<'a> {
     /// The hash field: 43 or 86 characters.
     pub fn hash(&self) -> &'a str
         ensures hash { result.now ≡ (fields_of_record self.now).hash }
-        ensures short { length result.now ≤ PW_SIZE_SHA512 }
+        ensures short { length result.now ≤ pw_size_sha512 }
     {
         self.hash
     }

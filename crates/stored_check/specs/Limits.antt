@@ -2,5 +2,5 @@
 use Rattle.std.specs.Prelude.{ℕ}
 
 -- the most bytes of a password
-abbrev pub PASSWORD_MAX : ℕ
-PASSWORD_MAX = 4096
+abbrev pub password_max : ℕ
+password_max = 4096

@@ -7,7 +7,7 @@ ghost use Rattle.phc.specs.Encoded.{encoding};
 ghost use Rattle.phc.specs.Record.{phc_text};
 ghost use Rattle.stored_check.specs.Counts.{hash_length, record_hash_length, verdict_comparisons, verdict_looks};
 ghost use Rattle.stored_check.specs.Verdict.{IsVerdict, key_answer, may_lack_memory, phc_answer, record_needs, same_text, verdict};
-ghost use Rattle.stored_check.specs.Limits.{PASSWORD_MAX};
+ghost use Rattle.stored_check.specs.Limits.{password_max};
 
 use crate::family::{check_family, named_family};
 use crate::names::{mcf_name, phc_name, sha_verdict};
@@ -40,7 +40,7 @@ fn check_record<K: PhcKdf>(
     parsed: &phc::PasswordHash,
     counts: &mut Counts,
 ) -> Result<bool, StoredError>
-    requires short { length password.now ≤ PASSWORD_MAX }
+    requires short { length password.now ≤ password_max }
     requires sames { counts.old.sames ≤ 2 ^ 62 + 8 }
     ensures answer { IsVerdict
         (key_answer (K.accepted kdf.now) (K.tag kdf.now) password.now parsed.now parsed.now.salt parsed.now.hash)
@@ -80,7 +80,7 @@ fn check_phc<K: PhcKdf>(
     stored: &str,
     counts: &mut Counts,
 ) -> Result<bool, StoredError>
-    requires short { length password.now ≤ PASSWORD_MAX }
+    requires short { length password.now ≤ password_max }
     requires looks { counts.old.looks ≤ 2 ^ 62 }
     requires sames { counts.old.sames ≤ 2 ^ 62 }
     ensures answer { IsVerdict

@@ -2,7 +2,7 @@
 
 ghost use Rattle.std.specs.Prelude.{◌≡◌, ◌≤◌, ℕ, List, Bool, OnErr, OnOk, length, true};
 ghost use Rattle.phc.specs.declared.password_hash.PasswordHash.{PasswordHash};
-ghost use Rattle.stored_check.specs.Limits.{PASSWORD_MAX};
+ghost use Rattle.stored_check.specs.Limits.{password_max};
 
 use std::alloc::{AllocError, Global};
 
@@ -38,7 +38,7 @@ pub trait PhcKdf {
         out: &mut [u8],
     ) -> Result<(), AllocError>
         requires taken { accepted self.now parsed.now salt.now (length out.old) ≡ true }
-        requires short_password { length password.now ≤ PASSWORD_MAX }
+        requires short_password { length password.now ≤ password_max }
         requires short_salt { length salt.now ≤ 48 }
         ensures key { OnOk result (out.new ≡ tag self.now password.now parsed.now salt.now (length out.old)) }
         ensures memory { OnErr result (needs_memory self.now parsed.now ≡ true) };

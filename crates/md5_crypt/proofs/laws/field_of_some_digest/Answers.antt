@@ -1,12 +1,13 @@
 use Rattle.std.proofs.Common.{refl}
-use Rattle.md5_crypt.specs.declared.field.TheConstants.{MAP_MD5, BACK_MD5}
+use Rattle.md5_crypt.specs.Field.{map_md5}
+use Rattle.md5_crypt.specs.declared.field.TheConstants.{BACK_MD5}
 use Rattle.sha_crypt.proofs.HashFields.{field_found, field_is_found}
 use Rattle.md5_crypt.proofs.laws.field_of_some_digest.Goals as goal
 
 pub returns : goal.returns
 returns c = record {
   told = λ text. (
-    λ h. field_found 16 MAP_MD5 BACK_MD5 text _ refl h refl refl refl refl,
-    λ h. field_is_found 16 MAP_MD5 text _ refl refl h,
+    λ h. field_found 16 map_md5 BACK_MD5 text _ refl h refl refl refl refl,
+    λ h. field_is_found 16 map_md5 text _ refl refl h,
   );
 }

@@ -1,11 +1,12 @@
 use Rattle.std.proofs.Common.{refl, ap, Some, ℕ, List}
-use Rattle.md5_crypt.specs.declared.field.TheConstants.{MAP_MD5, BACK_MD5}
+use Rattle.md5_crypt.specs.Field.{map_md5}
+use Rattle.md5_crypt.specs.declared.field.TheConstants.{BACK_MD5}
 use Rattle.sha_crypt.proofs.HashFields.{decoded_again}
 use Rattle.md5_crypt.proofs.laws.round_trip_md5.Goals as goal
 
 pub returns-in-Some : goal.returns-in-Some
 returns-in-Some c = record {
-  digest = ap (λ (x : List ℕ). Some x) (decoded_again 16 MAP_MD5 BACK_MD5 c.args.tag.now c.in-Some.again
+  digest = ap (λ (x : List ℕ). Some x) (decoded_again 16 map_md5 BACK_MD5 c.args.tag.now c.in-Some.again
       c.encode_md5.result refl refl refl refl
       c.told-tag c.fits-tag c.encode_md5.ensures.field c.in-Some.ensures.found);
 }

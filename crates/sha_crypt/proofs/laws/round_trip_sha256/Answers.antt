@@ -1,12 +1,13 @@
 use Rattle.std.proofs.Common.{refl, ap, Ok, ℕ, List}
-use Rattle.sha_crypt.specs.declared.defs.TheConstants.{MAP_SHA256, BACK_SHA256}
+use Rattle.sha_crypt.specs.HashField.{map_sha256}
+use Rattle.sha_crypt.specs.declared.defs.TheConstants.{BACK_SHA256}
 use Rattle.sha_crypt.proofs.HashFields.{decoded_again}
 use Rattle.sha_crypt.proofs.laws.round_trip_sha256.Goals as goal
 
 pub returns-in-Ok : goal.returns-in-Ok
 returns-in-Ok c = record {
   digest = ap (λ (x : List ℕ). Ok x)
-      (decoded_again 32 MAP_SHA256 BACK_SHA256 c.args.digest.now c.in-Ok.again c.encode_sha256.result refl refl refl
+      (decoded_again 32 map_sha256 BACK_SHA256 c.args.digest.now c.in-Ok.again c.encode_sha256.result refl refl refl
       refl
       c.told-digest c.fits-digest c.encode_sha256.ensures.field c.in-Ok.ensures.found);
 }
