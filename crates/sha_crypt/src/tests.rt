@@ -1,10 +1,11 @@
 //! Texts and digests of libxcrypt and openssl, and texts that are refused.
 
 use crate::{
-    CheckError, CryptError, DecodeError, Family, FormatFault, Sha256Params, Sha512Params,
-    ShaRecord, decode_sha256, decode_sha512, encode_sha256, encode_sha512, laws, old_record,
-    sha256_check, sha256_check_counted, sha256_crypt, sha256_crypt_b64, sha256_simple,
-    sha512_check, sha512_check_counted, sha512_crypt, sha512_crypt_b64, sha512_simple,
+    BLOCK_SIZE_SHA256, BLOCK_SIZE_SHA512, CheckError, CryptError, DecodeError, Family, FormatFault,
+    PW_SIZE_SHA256, PW_SIZE_SHA512, Sha256Params, Sha512Params, ShaRecord, decode_sha256,
+    decode_sha512, encode_sha256, encode_sha512, laws, old_record, sha256_check,
+    sha256_check_counted, sha256_crypt, sha256_crypt_b64, sha256_simple, sha512_check,
+    sha512_check_counted, sha512_crypt, sha512_crypt_b64, sha512_simple,
 };
 use base64ct::Counts;
 use rand_chacha::ChaCha20Rng;
@@ -13,7 +14,13 @@ use std::process::Abort;
 use std::test::Fail;
 
 // A password, a salt, the rounds, the digest and its hash field.
-const DIGESTS_256: [(&str, &str, usize, [u8; 32], [u8; 43]); 3] = [
+const DIGESTS_256: [(
+    &str,
+    &str,
+    usize,
+    [u8; BLOCK_SIZE_SHA256],
+    [u8; PW_SIZE_SHA256],
+); 3] = [
     (
         "Hello world!",
         "saltstring",
@@ -37,7 +44,13 @@ const DIGESTS_256: [(&str, &str, usize, [u8; 32], [u8; 43]); 3] = [
     ),
 ];
 
-const DIGESTS_512: [(&str, &str, usize, [u8; 64], [u8; 86]); 3] = [
+const DIGESTS_512: [(
+    &str,
+    &str,
+    usize,
+    [u8; BLOCK_SIZE_SHA512],
+    [u8; PW_SIZE_SHA512],
+); 3] = [
     (
         "Hello world!",
         "saltstring",
