@@ -1,63 +1,141 @@
 #!/usr/bin/env bash
-# Runs the recipes of docs/RECIPES.md over files of its own, and compares what is printed.
+# Runs the recipes of docs/RECIPES.md, and compares what is printed. The files are made by the system's own tools:
+# a shadow file by chpasswd (in a folder of its own, which wants root), else by mkpasswd; htpasswd files by htpasswd.
 #
 #     examples/recipes.sh      (the programs are those on PATH, else crates/*/out/*)
 set -u
 top=$(cd "$(dirname "$0")/.." && pwd)
-PATH=$PATH:$top/crates/pwcheck/out:$top/crates/pwfile/out:$top/crates/pwlegacy/out:$top/crates/pwkdf/out
+PATH=$PATH:$top/crates/pwcheck/out:$top/crates/pwfile/out:$top/crates/pwlegacy/out:$top/crates/pwkdf/out:/usr/sbin:/sbin
 folder=$(mktemp -d)
 trap 'rm -rf "$folder"' EXIT
 cd "$folder" || exit 2
 bad=0
-hash='5B8vYYiY.CVt1RlTTf8KbXBH3hsxY/GNooZaBBGWEc5'
-ann="\$5\$saltstring\$$hash"
 
 same() { # NAME WANTED GOT
   if [ "$2" = "$3" ]; then echo "$1: as written"; else echo "$1: DIFFERS: $3"; bad=1; fi
 }
-for program in pwcheck; do
-  command -v "$program" >/dev/null || { echo "recipes.sh: $program isn't built: skipped"; exit 77; }
+has() { command -v "$1" >/dev/null 2>&1; }
+skipped() { echo "$1: skipped, as $2 is missing"; }
+
+for program in pwcheck pwfile pwlegacy; do
+  has "$program" || { echo "recipes.sh: $program isn't built: skipped"; exit 77; }
 done
 
-printf 'ann:%s\nbob:%s\n' "$ann" "\$5\$rounds=+05000\$saltstring\$$hash" > texts
-printf 'bob:wrong\nann:Hello world!\n' > passwords
+# ---- a shadow file with users as real systems have them
+users='root ann web_adm Joe bob old'
+by_chpasswd() {
+  [ "$(id -u)" = 0 ] && has chpasswd || return 1
+  mkdir -p root/etc
+  for user in $users; do
+    echo "$user:x:1000:1000::/:/bin/sh" >> root/etc/passwd
+    echo "$user:*:20000:0:99999:7:::" >> root/etc/shadow
+  done
+  printf 'ann:Hello world!\n' | chpasswd -R "$folder/root" -c SHA256 || return 1
+  printf 'web_adm:secret\nbob:with:colons:\n' | chpasswd -R "$folder/root" -c SHA512 || return 1
+  printf 'Joe:pass word\n' | chpasswd -R "$folder/root" -c YESCRYPT || return 1
+  printf 'old:legacy\n' | chpasswd -R "$folder/root" -c MD5 || return 1
+  cp root/etc/shadow shadow
+}
+by_mkpasswd() {
+  has mkpasswd || return 1
+  {
+    echo 'root:*:20000:0:99999:7:::'
+    for row in 'ann:sha256crypt:Hello world!' 'web_adm:sha512crypt:secret' 'Joe:yescrypt:pass word' \
+      'bob:sha512crypt:with:colons:' 'old:md5crypt:legacy'; do
+      user=${row%%:*}; rest=${row#*:}
+      echo "$user:$(printf '%s' "${rest#*:}" | mkpasswd -s -m "${rest%%:*}"):20000:0:99999:7:::"
+    done
+  } > shadow
+}
+if by_chpasswd; then echo 'shadow file: by chpasswd'
+elif by_mkpasswd; then echo 'shadow file: by mkpasswd'
+else echo 'recipes.sh: neither chpasswd (as root) nor mkpasswd is here: skipped'; exit 77; fi
+printf 'root:x\nann:Hello world!\nweb_adm:wrong\nJoe:pass word\nbob:with:colons:\nold:legacy\n' > passwords
 
-LC_ALL=C sort -t: -k1,1 texts > texts.sorted
+# ---- joined by user
+cut -d: -f1,2 shadow | LC_ALL=C sort -t: -k1,1 > texts.sorted
 LC_ALL=C sort -t: -k1,1 passwords > passwords.sorted
 LC_ALL=C join -t: -j1 passwords.sorted texts.sorted > joined
 cut -d: -f1 joined > users
-same 'joined by user' "$(printf 'ann\tmatch\nbob\tsha-format')" \
+same 'joined by user' \
+  "$(printf '%s\t%s\n' Joe phc-salt-short ann match bob match old phc-salt-short root mcf-delimiter web_adm mismatch)" \
   "$(sed 's/^[^:]*://; s/:\([^:]*\)$/\t\1/' joined | pwcheck check | paste users -)"
 
-printf 'eve:$2b$12$R9h/cIPz0gi.URNNX3kh2OPST9/PgBkqquzi.Ss7KIUgO2t0jWMUW\n' > more
-same 'words counted' "$(printf '1 mismatch\n1 phc-salt-short\n1 sha-format')" \
-  "$(cat texts more | sed 's/^[^:]*:/\t/' | pwcheck check | sort | uniq -c | sed 's/^ *//')"
+# ---- schemes counted
+same 'schemes counted' "$(printf '%s\n' '1 $1$' '1 $5$' '1 $y$' '1 none' '2 $6$')" \
+  "$(cut -d: -f2 shadow | sed 's/^\(\$[^$]*\$\).*/\1/; /^\$/!s/.*/none/' | sort | uniq -c | sort -rn | sed 's/^ *//' | LC_ALL=C sort)"
 
-cut -d: -f2 texts | pwcheck normalize > new-texts
-cut -d: -f1 texts | paste -d: - new-texts > texts.new
-same 'normalized' "$(printf 'ann:%s\nbob:%s' "$ann" "\$5\$rounds=5000\$saltstring\$$hash")" "$(cat texts.new)"
-
-if command -v pwfile >/dev/null; then
-  same 'upgraded' "$(printf 'ok\nok\nupgraded\nset\tann\t$scrypt$ln=14,r=8,p=1$\nset\tbob\t$5$rounds=+05000$saltstring$%s' "$hash")" "$({
-      sed 's/:/\t/; s/^/set\t/' texts
-      printf 'upgrade\tann\t%s\t%s\n' "$(head -c 16 /dev/urandom | base64 | tr -d '=')" 'Hello world!'
-      printf 'list\n'
-    } | pwfile | sed 's/\(p=1\$\).*/\1/')"
+# ---- the table of words: one text of each tool
+if has mkpasswd && has htpasswd; then
+  {
+    for method in sha256crypt sha512crypt md5crypt bcrypt bcrypt-a yescrypt gost-yescrypt scrypt nt sunmd5 descrypt; do
+      printf 'pw\t%s\n' "$(printf 'pw' | mkpasswd -s -m "$method")"
+    done
+    for option in '' -B -s -5; do
+      printf 'pw\t%s\n' "$(printf 'pw' | htpasswd -ni $option u | sed -n 's/^u://p')"
+    done
+    printf 'pw\t%s\n' '$pbkdf2-sha256$29000$N2YMIWQsBWBMae09x1jrPQ$1t8iyB2A.WF/Z5JZv.lfCIhXXN33N23OSgQYThBYRfk' '!' ''
+  } > each
+  same 'words of each tool' \
+    'match match phc-salt-short phc-salt-short phc-salt-short phc-salt-short phc-salt-short phc-b64 mcf-field mcf-identifier mcf-delimiter phc-salt-short phc-salt-short mcf-delimiter match phc-salt-short mcf-delimiter mcf-delimiter' \
+    "$(pwcheck check < each | paste -sd ' ')"
 else
-  echo 'upgraded: pwfile is not built: skipped'
+  skipped 'words of each tool' 'mkpasswd or htpasswd'
 fi
 
+# ---- brought to the new form: a sign is put before the rounds of one user's text
+ann=$(sed -n 's/^ann:\([^:]*\):.*/\1/p' shadow)
+sed 's/^\(ann:\$5\$\)/\1rounds=+05000$/' shadow > earlier
+cut -d: -f2 earlier | pwcheck normalize > new-texts
+awk -F: -v OFS=: 'NR == FNR { text[FNR] = $0; next } { $2 = text[FNR]; print }' new-texts earlier > shadow.new
+same 'normalized' "$(sed 's/^\(ann:\$5\$\)/\1rounds=5000$/' shadow)" "$(cat shadow.new)"
+same 'verdicts before and after' 'sha-format match' "$(for file in earlier shadow.new; do
+    printf 'Hello world!\t%s\n' "$(sed -n 's/^ann:\([^:]*\):.*/\1/p' "$file")"; done | pwcheck check | paste -sd ' ')"
+
+# ---- migration to scrypt
+migrate() { # PASSWORD
+  cut -d: -f1,2 shadow > texts
+  grep -E '^[a-z0-9-]{1,32}:\$' texts > taken
+  grep -vE '^[a-z0-9-]{1,32}:\$' texts | cut -d: -f1 > left-out
+  {
+    sed 's/:/\t/; s/^/set\t/' taken
+    printf 'upgrade\tann\t%s\t%s\n' "$(head -c 16 /dev/urandom | base64 | tr -d '=')" "$1"
+    printf 'list\n'
+  } | pwfile > replies || { echo "pwfile ended with $?: nothing is made"; return 1; }
+  sed -n 's/^set\t\([^\t]*\)\t/\1:/p' replies > texts.new
+  sed 's/$/: stays in the old file alone/' left-out
+}
+same 'left out' "$(printf '%s: stays in the old file alone\n' root web_adm Joe)" "$(migrate 'Hello world!')"
+same 'upgraded' "$(printf 'ann:$scrypt$ln=14,r=8,p=1$\n'; grep -E '^(bob|old):' texts)" \
+  "$(sed 's/^\(ann:.*p=1\$\).*/\1/' texts.new)"
+same 'upgraded text' match "$(printf 'Hello world!\t%s\n' "$(sed -n 's/^ann://p' texts.new)" | pwcheck check)"
+rm texts.new
+same 'a wrong password stops it' 'pwfile ended with 1: nothing is made' "$(migrate wrong)"
+same 'and nothing is made' 'none' "$(ls texts.new 2>/dev/null || echo none)"
+same 'the old file' "$ann" "$(sed -n 's/^ann:\([^:]*\):.*/\1/p' shadow)"
+
+# ---- htpasswd
+if has htpasswd; then
+  same 'htpasswd' match "$(printf '%s\t%s\n' 'secret' "$(htpasswd -nb ann secret | sed -n 's/^ann://p')" | pwlegacy)"
+else
+  skipped htpasswd htpasswd
+fi
+
+# ---- other tools' texts
 same 'another tool' kdf \
   "$(printf 'secret\t$argon2id$v=19$m=65536,t=3,p=4$c29tZXNhbHRzb21lc2FsdA$AcmqasQgW/wI6wAHAMk4aQ\n' | pwcheck check)"
-if python3 -c 'from passlib.hash import scrypt' 2>/dev/null || /usr/bin/python3 -c 'from passlib.hash import scrypt' 2>/dev/null; then
-  python=python3
-  python3 -c 'import passlib' 2>/dev/null || python=/usr/bin/python3
+python=
+for each in python3 /usr/bin/python3; do
+  [ -z "$python" ] && "$each" -c 'from passlib.hash import scrypt' 2>/dev/null && python=$each
+done
+if [ -n "$python" ]; then
   text=$("$python" -c 'from passlib.hash import scrypt; print(scrypt.using(rounds=10).hash("secret"))')
   same "passlib's scrypt" match "$(printf 'secret\t%s\n' "$text" | pwcheck check)"
 else
-  echo "passlib's scrypt: passlib is not installed: skipped"
+  skipped "passlib's scrypt" passlib
 fi
 
+# ---- statuses
 printf 'Hello world!\t%s\nwrong\t%s\n' "$ann" "$ann" > lines
 same 'status' 'some do not' "$(set -e
   status=0
@@ -67,5 +145,9 @@ same 'status' 'some do not' "$(set -e
     1) echo 'some do not' ;;
     *) echo "no whole answer: $status"; exit "$status" ;;
   esac)"
-same 'parts by parallel' "$(cat words)" "$("$top/scale/parallel.sh" lines 2>/dev/null || [ $? -lt 77 ] || cat words)"
+if has parallel; then
+  same 'parts by parallel' "$(cat words)" "$("$top/scale/parallel.sh" lines 2>/dev/null)"
+else
+  skipped 'parts by parallel' 'GNU parallel'
+fi
 exit $bad
