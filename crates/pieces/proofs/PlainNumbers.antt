@@ -60,7 +60,7 @@ decimal_back bound s n within h =
     let f = found bound s n h in
     ap decimal (sym f.value)
     ∙ decimal-digits_value own s f.plain.digits f.plain.some (lone_zero s f.plain.lead)
-      (omega (arith, within, f.value, f.below))
+    (omega (arith, within, f.value, f.below))
 
 zero_alone : has_leading_zero (decimal 0) ≡ false
 unfolding digits
