@@ -429,10 +429,8 @@ fn front<'a, R: Abort>(rt: &R, bytes: &'a [u8], len: usize) -> &'a [u8] {
 
 // Bytes that come again only after 251.
 fn fill_counting(bytes: &mut [u8]) {
-    let mut next = 0u8;
-    for byte in bytes {
-        *byte = next;
-        next = if next == 250 { 0 } else { next + 1 };
+    for i in 0..bytes.len() {
+        bytes[i] = (i % 251) as u8;
     }
 }
 
