@@ -222,7 +222,7 @@ fn kept_texts(rt: HostRuntime) -> Result<(), AllocError> {
     assert!(&rt; read.is_printable() && other.is_printable());
     let kept = PasswordHashString::new(alloc, ARGON2).expect(&rt, "a record");
     kept_as(&rt, alloc, &kept, &read)?;
-    kept_as(&rt, alloc, &kept.try_clone(alloc)?, &read)?;
+    kept_as(&rt, alloc, &kept.try_clone()?, &read)?;
     kept_as(
         &rt,
         alloc,
