@@ -60,8 +60,15 @@ pub call_bounded : (answer : Line) (left left_mid left_now : Option (List ℕ)) 
     (done : List (List ℕ)) → (s : LinesGiven left left_mid before max done)
     → (c : IsCall answer left_mid left_now before now) → length (s.bytes ++ c.takes.bytes) ≤ max + 1
 call_bounded answer left left_mid left_now before now max done s c =
-    omega (arith, now.one_past, s.counted, c.takes.counted, c.max_same, s.max_same,
-    length-append s.bytes c.takes.bytes)
+    omega (
+      arith,
+      now.one_past,
+      s.counted,
+      c.takes.counted,
+      c.max_same,
+      s.max_same,
+      length-append s.bytes c.takes.bytes,
+    )
 
 -- a line and its feed are whole lines
 whole_line : (l : List ℕ) → NoFeed l → whole_lines (l ++ 10 ∷ []) ≡ l ++ 10 ∷ []

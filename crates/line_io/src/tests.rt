@@ -334,14 +334,7 @@ const GATHERED: [(usize, &[u64], bool, &[&[u8]], &[u8], &[u8]); 3] = [
         b"match\nmismatch\n",
         b"match\nmismatch\nx",
     ),
-    (
-        64,
-        &[],
-        true,
-        &[b"match", b""],
-        b"match\n\n",
-        b"match\n\nx",
-    ),
+    (64, &[], true, &[b"match", b""], b"match\n\n", b"match\n\nx"),
     // Behind a failed write nothing is written.
     (4, &[1], false, &[b"match\n"], b"matc", b"matc"),
 ];
