@@ -191,11 +191,7 @@ fn plain_lines(rt: HostRuntime) {
 }
 
 // The lines of one read and the writes: one behind each line with a verdict, and one for all others.
-const FLUSHES: [(&[u8], usize); 3] = [
-    (b"a\ta\nb\tc\n", 2),
-    (b"a\nb\n", 1),
-    (b"a\na\ta\nb\n", 2),
-];
+const FLUSHES: [(&[u8], usize); 3] = [(b"a\ta\nb\tc\n", 2), (b"a\nb\n", 1), (b"a\na\ta\nb\n", 2)];
 
 #[test]
 fn written_behind_a_verdict(rt: HostRuntime) {
