@@ -43,14 +43,14 @@ has_verdict BadLine = false
 
 -- the answer of a line that is UTF-8: what stands before the last tab, the password, has a verdict with the stored text
 -- behind it, or the first cause that it has none
-abbrev pub text_answer : List ℕ → Answer
-text_answer text =
+abbrev pub utf8_answer : List ℕ → Answer
+utf8_answer text =
     if list_any is_tab text then Checked (verdict accepted key (before_last is_tab text) (after_last is_tab text)) else
     BadLine
 
 -- The answer of a line, by the first that holds: more than 8,192 bytes; no UTF-8; no tab; else by its verdict.
 unfoldable pub answer : List ℕ → Answer
-answer line = if nat_lt line_max (length line) then TooLong else if is_utf8 line then text_answer line else BadLine
+answer line = if nat_lt line_max (length line) then TooLong else if is_utf8 line then utf8_answer line else BadLine
 
 -- the line is valid, its identifier is neither `5` nor `6`, and the derivation may need memory for its record
 abbrev pub text_may_lack : List ℕ → Bool
@@ -63,7 +63,7 @@ line_may_lack line = if nat_lt line_max (length line) then false else if is_utf8
 
 -- an answer is that of a line that is UTF-8; or want of memory, where that may be
 abbrev pub IsTextAnswer : List ℕ → Answer → Type 0
-IsTextAnswer text a = (a ≡ text_answer text) ⊎ ((a ≡ Checked (Err of_stored.OutOfMemory)) × (text_may_lack text ≡ true))
+IsTextAnswer text a = (a ≡ utf8_answer text) ⊎ ((a ≡ Checked (Err of_stored.OutOfMemory)) × (text_may_lack text ≡ true))
 
 -- the same of any line
 abbrev pub IsAnswer : List ℕ → Answer → Type 0

@@ -65,19 +65,19 @@ line_verdict n i = verdict accepted key (asked_password i (drawn n i).0) (made_t
 -- ---- the counts
 
 -- the verdict is a match
-abbrev pub is_match : Result Bool StoredError → Bool
-is_match (Ok b) = b
-is_match (Err e) = false
+abbrev pub says_match : Result Bool StoredError → Bool
+says_match (Ok b) = b
+says_match (Err e) = false
 
 -- the verdict is a mismatch
-abbrev pub is_mismatch : Result Bool StoredError → Bool
-is_mismatch (Ok b) = not b
-is_mismatch (Err e) = false
+abbrev pub says_mismatch : Result Bool StoredError → Bool
+says_mismatch (Ok b) = not b
+says_mismatch (Err e) = false
 
 -- there is no verdict
-abbrev pub is_other : Result Bool StoredError → Bool
-is_other (Ok b) = false
-is_other (Err e) = true
+abbrev pub says_neither : Result Bool StoredError → Bool
+says_neither (Ok b) = false
+says_neither (Err e) = true
 
 -- of how many of the first k lines among n the verdict passes a test
 unfoldable pub count_lines : (Result Bool StoredError → Bool) → ℕ → ℕ → ℕ
@@ -86,15 +86,15 @@ count_lines test n (suc k) = count_lines test n k + (if test (line_verdict n k) 
 
 -- how many of n lines match
 abbrev pub matches : ℕ → ℕ
-matches n = count_lines is_match n n
+matches n = count_lines says_match n n
 
 -- how many do not
 abbrev pub mismatches : ℕ → ℕ
-mismatches n = count_lines is_mismatch n n
+mismatches n = count_lines says_mismatch n n
 
 -- how many have no verdict
 abbrev pub others : ℕ → ℕ
-others n = count_lines is_other n n
+others n = count_lines says_neither n n
 
 -- ---- what is written
 

@@ -4,6 +4,7 @@ use Rattle.std.specs.Prelude.{replicate, Option, Some, None, is_none, codes}
 use Rattle.std.specs.Option.{option_and_then}
 use Rattle.std.specs.Cmp.Lexicographic.{pointwise}
 use Rattle.phc.specs.Grammar.{decimal_value}
+use Rattle.phc.specs.Limits.{output_max, output_min}
 use Rattle.phc.specs.Params.{get}
 use Rattle.phc.specs.declared.password_hash.PasswordHash.{PasswordHash}
 use Rattle.scrypt_plain.specs.Bounds.{in_bounds}
@@ -34,7 +35,7 @@ is_cost_in_bounds (Some cost) = in_bounds cost.ln cost.r cost.p
 unfoldable pub scrypt_accepts : PasswordHash → ℕ → Bool
 scrypt_accepts parsed n =
     pointwise nat_eq parsed.algorithm (codes "scrypt") && is_none parsed.version && length parsed.params == 3
-    && is_cost_in_bounds (cost_of parsed) && nat_le 10 n && nat_le n 64
+    && is_cost_in_bounds (cost_of parsed) && nat_le output_min n && nat_le n output_max
 
 -- the key of n bytes at a cost; without a cost, which no accepted record has, n zeros
 abbrev pub key_at : Option Cost → List ℕ → List ℕ → ℕ → List ℕ
