@@ -27,10 +27,11 @@ use Rattle.phc.specs.Limits.{name_max, output_min, output_text_max, params_max, 
 abbrev pub is_name : List ℕ → Bool
 is_name s = nat_le 1 (length s) && nat_le (length s) name_max && list_all is_name_byte s
 
--- characters of A-Z a-z 0-9 `/` `+` `.` `-`
+-- a character of a value: one of A-Z, a-z, 0-9, `/`, `+`, `.` and `-`
 abbrev pub is_value_byte : ℕ → Bool
 is_value_byte b = is_ascii_alphanumeric b || list_any (λ c. c == b) (codes "/+.-")
 
+-- all characters are those of values
 abbrev pub has_value_bytes : List ℕ → Bool
 has_value_bytes s = list_all is_value_byte s
 
@@ -66,6 +67,7 @@ pub record Layout : Type 0 where
   pub hash : Option (List ℕ)
   pub rest : List (List ℕ)
 
+-- the byte c stands in the text
 abbrev pub has_byte : ℕ → List ℕ → Bool
 has_byte c s = list_any (λ b. b == c) s
 
@@ -130,12 +132,15 @@ pair_of (name ∷ (value ∷ more)) = (name, value)
 pair_of (name ∷ []) = (name, [])
 pair_of [] = ([], [])
 
+-- the fault of a version, behind `v=`: more than 64 characters, or no number below 2 ^ 32. The format has no bound on
+-- the digits of a version: phc 0.6.1 reads it as a value, and so 65 digits are ParamValueTooLong
 abbrev pub version_fault : List ℕ → Option Error
 version_fault s = first_fault
     (unless (nat_le (length s) value_max) ParamValueTooLong
     ∷ (unless (is_some (decimal_value s)) ParamValueInvalid
     ∷ []))
 
+-- the fault of parameters: more than 127 characters, else the first fault of a pair, in their order
 abbrev pub params_fault : List ℕ → Option Error
 params_fault s = first_fault
     (unless (nat_le (length s) params_max) ParamsMaxExceeded ∷ map pair_fault (cut_pairs s))
@@ -148,6 +153,7 @@ text_fault s = if is_empty s then None else params_fault s
 abbrev pub text_pairs : List ℕ → List (List ℕ × List ℕ)
 text_pairs s = if is_empty s then [] else map pair_of (cut_pairs s)
 
+-- the fault of a salt: fewer than 11 or more than 64 characters, else no encoding of bytes
 abbrev pub salt_fault : List ℕ → Option Error
 salt_fault s = first_fault
     (unless (nat_le salt_text_min (length s)) SaltTooShort
@@ -176,6 +182,7 @@ fault_of_layout id l = first_fault
     ∷ (unless (is_empty l.rest) TrailingData
     ∷ []))))))
 
+-- the pairs of parameters that may be absent
 abbrev pub pairs_of : Option (List ℕ) → List (List ℕ × List ℕ)
 pairs_of None = []
 pairs_of (Some s) = text_pairs s
