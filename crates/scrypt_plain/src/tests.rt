@@ -12,14 +12,7 @@ const SHORT_KEY: [u8; 64] =
 
 // A password, a salt, ln, r, p and the key of 64 bytes: RFC 7914, section 12.
 const KEYS: [(&[u8], &[u8], u32, u32, u32, [u8; 64]); 2] = [
-    (
-        b"",
-        b"",
-        4,
-        1,
-        1,
-        SHORT_KEY,
-    ),
+    (b"", b"", 4, 1, 1, SHORT_KEY),
     (
         b"password",
         b"NaCl",
