@@ -323,8 +323,8 @@ fn pieces_are_written_whole(rt: HostRuntime) {
     assert_eq!(rt; sink.bytes(), b"abcdefghij".as_slice());
 }
 
-// A sink's bytes of a write, the write that fails, whether the pieces are lines, the pieces, what is written at a flush,
-// and what is written once a byte more was put and flushed.
+// A sink's bytes of a write, the write that fails, whether the pieces are lines, the pieces, what is written at a
+// flush, and what is written once a byte more was put and flushed.
 const GATHERED: [(usize, &[u64], bool, &[&[u8]], &[u8], &[u8]); 3] = [
     (
         64,

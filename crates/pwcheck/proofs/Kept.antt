@@ -1,5 +1,6 @@
 -- Runs that keep their input whole.
-use Rattle.std.proofs.Common.{◌≡◌, ◌≢◌, ℕ, ◌<◌, ◌≤◌, ◌+◌, List, [], ◌∷◌, ◌++◌, length, take, drop, refl, sym, ap, ◌∙◌, subst}
+use Rattle.std.proofs.Common.{◌≡◌, ◌≢◌, ℕ, ◌<◌, ◌≤◌, ◌+◌, List, [], ◌∷◌, ◌++◌, length, take, drop, refl, sym, ap, ◌∙◌}
+use Rattle.std.proofs.Common.{subst}
 use Rattle.std.proofs.Common.{arith, Option, Some}
 use Rattle.std.specs.Io.KnownBytes.{Consumes, Appends, IsAtEnd}
 use Rattle.std.proofs.lemmas.List.{length-append, length-take, nil_from_length}
@@ -24,7 +25,8 @@ use Rattle.pwcheck.specs.Streams.{Wraps, Unwraps, KeptOutcome}
 
 -- nothing is written, as the input isn't there whole, or memory is wanting
 pub kept_stopped : (Gives : List ℕ → List ℕ → Type 0) (status max : ℕ) (a b c d : Option (List ℕ)) (taken : List ℕ)
-    → Consumes a b taken → d ≡ c → length taken ≤ max + 1 → 3 ≤ status → status ≤ 6 → status ≢ 4 → (status ≡ 6 → max < length taken)
+    → Consumes a b taken → d ≡ c → length taken ≤ max + 1
+    → 3 ≤ status → status ≤ 6 → status ≢ 4 → (status ≡ 6 → max < length taken)
     → WhereTold a b c d (λ held taken added. KeptOutcome Gives status max held taken added)
 kept_stopped Gives status max a b c d taken took same bounded low high other over =
     subst (λ (e : Option (List ℕ)).

@@ -162,14 +162,15 @@ step k m mm o v h none all most = by_answer h.0 h.1 h.2
         ] in
         rw is (omega (arith, none), omega (arith, all), omega (arith, most, at))
 
-counted : (n k : ℕ) → (count_lines says_neither n k ≡ 0) × (count_lines says_match n k + count_lines says_mismatch n k ≡ k)
+counted : (n k : ℕ) → (count_lines says_neither n k ≡ 0)
+    × (count_lines says_match n k + count_lines says_mismatch n k ≡ k)
     × (k - k / 4 ≤ count_lines says_match n k)
 unfolding count_lines
 counted n zero = (refl, refl, omega arith)
 counted n (suc k) =
     let before = counted n k in
-    step k (count_lines says_match n k) (count_lines says_mismatch n k) (count_lines says_neither n k) (line_verdict n k)
-    (line_answered n k) before.0 before.1 before.2
+    step k (count_lines says_match n k) (count_lines says_mismatch n k) (count_lines says_neither n k)
+    (line_verdict n k) (line_answered n k) before.0 before.1 before.2
 
 -- no line is invalid, and of each four lines three match
 pub bench_counted : (n : ℕ) → IsCounted n

@@ -269,7 +269,8 @@ const LENGTHS: [(&str, usize, &str, &str); 5] = [
     (LINE, 20_000, "\n", "match\ntoolong\nmatch\n"),
 ];
 
-// An input, the writes that fail, the output and the status. A line with a verdict is written at once; other words wait.
+// An input, the writes that fail, the output and the status. A line with a verdict is written at once; other words
+// wait.
 const WRITES: [(&str, &[u64], &str, u8); 5] = [
     (TWO_LINES, &[], "match\nmismatch\n", 1),
     (TWO_LINES, &[1], "match\n", 4),

@@ -46,7 +46,8 @@ pub(crate) fn sha_verdict(answer: Result<(), CheckError>) -> Result<bool, Stored
     }
 }
 
-/// The name of a fault of a PHC text. Of a text that begins with `$` these are all: names that stand twice are no fault.
+/// The name of a fault of a PHC text. Of a text that begins with `$` these are all: names that stand twice are no
+/// fault.
 pub(crate) fn phc_name(e: phc::Error) -> PhcFault
     ensures { result ≡ phc_name e }
 {
