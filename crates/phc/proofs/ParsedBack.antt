@@ -324,7 +324,7 @@ leading : (n : ℕ) → n < 2 ^ 32 → has_leading_zero (decimal n) ≡ false
 leading zero h = zero_alone
 leading (suc n) h = no_leading_zero (decimal (suc n)) (first_decimal (suc n) (omega arith) (omega (arith, h)))
 
-decimal_read : (n : ℕ) → n < 2 ^ 32 → decimal_value (decimal n) ≡ Some n
+pub decimal_read : (n : ℕ) → n < 2 ^ 32 → decimal_value (decimal n) ≡ Some n
 decimal_read n h =
     let value : number_after 0 (decimal n) ≡ n = digits_value-decimal own n (omega (arith, h)) in
     let some : 0 < length (decimal n) = decimal_nonempty n (omega (arith, h)) in

@@ -1,18 +1,15 @@
 //! What the check of a stored text costs.
 
-ghost use Rattle.std.specs.Prelude.{◌≡◌, ◌≤◌, ◌^◌, true};
-ghost use Rattle.scrypt_plain.specs.Bounds.{in_bounds};
-ghost use Rattle.scrypt_plain.specs.Profile.{scrypt_accepts};
-ghost use Rattle.pwcheck_c.specs.Costs.{is_over, mixed_bytes, over_cost, phc_cost, record_cost, stored_cost};
+ghost use Rattle.std.specs.Prelude.{◌≡◌, true};
 ghost use Rattle.phc.specs.Record.{phc_text};
+ghost use Rattle.scrypt_plain.specs.Bounds.{in_bounds};
 ghost use Rattle.sha_crypt.specs.Records.{record_of};
-ghost use Rattle.pwcheck_c.specs.Costs.{fields_cost};
-ghost use Rattle.scrypt_plain.specs.declared.profile.Cost as scrypt;
+ghost use Rattle.pwcheck_c.specs.Costs.{fields_cost, is_over, mixed_bytes, over_cost, phc_cost, record_cost, stored_cost};
 
 use crate::check::text_of;
 use mcf::PasswordHashRef;
 use phc::PasswordHash;
-use scrypt_plain::{ScryptPlain, cost_of, in_bounds};
+use scrypt_plain::{ScryptPlain, taken_cost};
 use sha_crypt::{Family, ShaRecord};
 use stored_check::{PASSWORD_MAX, PhcKdf, named_family};
 
@@ -49,7 +46,7 @@ fn record_cost(parsed: &PasswordHash) -> Option<Cost>
     if !ScryptPlain.accepts(parsed, salt.as_bytes(), hash.len()) {
         return None;
     }
-    Some(mixed_bytes(cost_of(parsed)?))
+    Some(mixed_bytes(taken_cost(parsed, hash.len())))
 }
 
 // The cost of a PHC text.

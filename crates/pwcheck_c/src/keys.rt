@@ -5,7 +5,7 @@ ghost use Rattle.scrypt_plain.specs.Scrypt.{scrypt};
 ghost use Rattle.pwcheck_c.specs.Inputs.{scrypt_takes};
 ghost use Rattle.pwcheck_c.specs.Statuses.{status_done, status_no_memory, status_out_of_range};
 
-use crate::statuses::{DONE, TOO_LONG, NO_MEMORY, OUT_OF_RANGE};
+use crate::statuses::{DONE, NO_MEMORY, OUT_OF_RANGE, TOO_LONG};
 use scrypt_plain::{in_bounds, scrypt};
 use std::alloc::Global;
 

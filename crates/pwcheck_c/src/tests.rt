@@ -69,7 +69,7 @@ fn limited(rt: HostRuntime) {
     assert!(rt; pwcheck_check_limited(rt.alloc(), b"\xff", TEXT_COSTLY, 0, 0) == 2);
     assert!(rt; pwcheck_check_limited(rt.alloc(), &LONG, TEXT_COSTLY, 0, 0) == 4);
     assert!(rt; pwcheck_check_limited(rt.alloc(), b"", b"$5$rounds=999999999$x$y", 0, 0) == 17);
-    assert!(rt; pwcheck_check_limited(rt.alloc(), b"", &TEXT_SCRYPT[..44], 0, 0) == 28);
+    assert!(rt; pwcheck_check_limited(rt.alloc(), b"", &TEXT_SCRYPT[..43], 0, 0) == 28);
     assert!(rt; pwcheck_check_limited(rt.alloc(), b"", b"$", 0, 0) == 5);
 }
 
@@ -127,7 +127,10 @@ fn all_words(rt: HostRuntime) {
     for (i, word) in WORDS.iter().enumerate() {
         let mut out = [b'x'; 18];
         let n = pwcheck_word(i as i32, &mut out);
-        assert!(rt; n < 18 && &out[..n] == word.as_bytes() && out[n] == 0, "{i}");
+        assert!(rt;
+            n < 18 && &out[..n] == word.as_bytes() && out[n] == 0,
+            "{i}"
+        );
     }
 }
 
@@ -209,9 +212,15 @@ fn texts(rt: HostRuntime) {
     );
     assert!(rt; pwcheck_sha512_crypt_text(b"", b"x", 999, &mut short, &mut len) == OUT_OF_RANGE);
     // A text is made only of a password that a check can match.
-    assert!(rt; pwcheck_sha256_crypt_text(b"p\xe4", b"x", 1_000, &mut short, &mut len) == OUT_OF_RANGE);
-    assert!(rt; pwcheck_sha512_crypt_text(b"p\xe4", b"x", 1_000, &mut long, &mut len) == OUT_OF_RANGE);
-    assert!(rt; pwcheck_sha256_crypt_text(&LONG, b"x", 1_000, &mut short, &mut len) == OUT_OF_RANGE);
+    assert!(rt;
+        pwcheck_sha256_crypt_text(b"p\xe4", b"x", 1_000, &mut short, &mut len) == OUT_OF_RANGE
+    );
+    assert!(rt;
+        pwcheck_sha512_crypt_text(b"p\xe4", b"x", 1_000, &mut long, &mut len) == OUT_OF_RANGE
+    );
+    assert!(rt;
+        pwcheck_sha256_crypt_text(&LONG, b"x", 1_000, &mut short, &mut len) == OUT_OF_RANGE
+    );
     assert!(rt; pwcheck_sha512_crypt_text(&LONG, b"x", 1_000, &mut long, &mut len) == OUT_OF_RANGE);
 }
 
@@ -221,19 +230,36 @@ fn scrypt_texts(rt: HostRuntime) {
     let mut len = 99;
     let size = TEXT_SCRYPT.len();
     assert!(rt;
-        pwcheck_scrypt_text(rt.alloc(), b"password", SALT, 4, 8, 1, &mut out[..size - 1], &mut len)
-            == NO_ROOM
+        pwcheck_scrypt_text(
+            rt.alloc(),
+            b"password",
+            SALT,
+            4,
+            8,
+            1,
+            &mut out[..size - 1],
+            &mut len
+        ) == NO_ROOM
     );
     assert!(rt; len == 99 && out[0] == b'x');
     assert!(rt;
-        pwcheck_scrypt_text(rt.alloc(), b"password", SALT, 4, 8, 1, &mut out[..size], &mut len)
-            == DONE
+        pwcheck_scrypt_text(
+            rt.alloc(),
+            b"password",
+            SALT,
+            4,
+            8,
+            1,
+            &mut out[..size],
+            &mut len
+        ) == DONE
     );
     assert_eq!(rt; len, size);
     assert_eq!(rt; &out[..size], TEXT_SCRYPT);
     assert!(rt; pwcheck_check(rt.alloc(), b"password", &out[..len]) == 0);
     assert!(rt;
-        pwcheck_scrypt_text(rt.alloc(), b"", &SALT[..15], 4, 8, 1, &mut out, &mut len) == OUT_OF_RANGE
+        pwcheck_scrypt_text(rt.alloc(), b"", &SALT[..15], 4, 8, 1, &mut out, &mut len)
+            == OUT_OF_RANGE
     );
     assert!(rt;
         pwcheck_scrypt_text(rt.alloc(), b"", SALT, 0, 8, 1, &mut out, &mut len) == OUT_OF_RANGE
