@@ -1,5 +1,6 @@
 #!/usr/bin/env python3
-"""Compares each number of include/pwcheck.h with the definitions under crates/*/specs, and the version where it stands.
+"""Compares each number of include/pwcheck.h and of the bindings with the definitions under crates/*/specs, and the
+version where it stands.
 
     bindings/numbers.py [HEADER]
     bindings/numbers.py swaps        swaps each two numbers of the header in turn, and finds each such header refused
@@ -161,6 +162,41 @@ def wanted_numbers():
             **places(ALPHABETS, entries(specs("pwcheck_c", "Coder"), "alphabets")), **versions()}
 
 
+def python_numbers():
+    """The numbers of the Python binding, under the names of the header."""
+    text, found = read("bindings", "python", "pwcheck.py"), {}
+    for names, values in re.findall(r"^([A-Z][A-Z0-9_, ]*) = ([0-9, ]+)$", text, re.M):
+        found.update(zip(names.split(", "), (int(value) for value in values.split(", "))))
+    found.update((name, int(n)) for name, n in re.findall(r"^    ([A-Z0-9_]+) = (-?[0-9]+)$", text, re.M))
+    return found
+
+
+def rust_numbers():
+    """The numbers of the Rust binding, by the same names: answers by their places, alphabets and lengths as written."""
+    text = read("bindings", "rust", "src", "lib.rs")
+    table = re.search(r"^pub const ANSWERS: .* = \[\n(.*?)^\];$", text, re.M | re.S).group(1)
+
+    def upper(name):
+        return {"NotUtf8": "NOT_UTF8", "PhcB64": "PHC_B64", "NotBase64": "NOT_BASE64", "ShaBase64": "SHA_BASE64"}.get(
+            name, re.sub(r"(?<!^)(?=[A-Z])", "_", name).upper())
+
+    found = {upper(name): place for place, name in enumerate(re.findall(r"Answer::([A-Za-z0-9]+),", table))}
+    found.update((upper(name), int(n)) for name, n in re.findall(r"^    (Base64[A-Za-z]*) = ([0-9]+),$", text, re.M))
+    found.update((upper(name), int(n)) for n, name in re.findall(r"^ +(-[0-9]) => Err\(Error::(\w+)\),$", text, re.M))
+    found.update((name, int(n)) for name, n in re.findall(r"^const ([A-Z0-9_]+): usize = ([0-9]+);$", text, re.M))
+    return found
+
+
+def bindings_agree(wanted):
+    """Each number of the bindings is that of the definitions; Python has all of them, Rust each answer and status."""
+    for name, found, own in [("Python", python_numbers(), set(wanted)),
+                             ("Rust", rust_numbers(), {n for n in wanted if not n.endswith(("_SIZE", "_MAX", "OR"))})]:
+        need(own - {"DONE"} <= set(found), f"{name} lacks {' '.join(sorted(own - set(found)))}")
+        other = sorted(n for n in found if found[n] != wanted.get(n))
+        need(not other, f"{name} has other numbers than the definitions: {' '.join(other)}")
+    print("numbers.py: the numbers of the Python and Rust bindings are those of the definitions")
+
+
 def differences(wanted, header):
     """The names that the header has otherwise than the definitions."""
     found = header_numbers(header)
@@ -193,6 +229,7 @@ def main():
     other = differences(wanted, header)
     need(not other, f"the header has other numbers than the definitions: {' '.join(other)}")
     print(f"numbers.py: {len(wanted)} numbers of the header are those of the definitions")
+    bindings_agree(wanted)
     if swaps:
         try_swaps(wanted, header)
 
