@@ -181,7 +181,7 @@ def rust_numbers():
             name, re.sub(r"(?<!^)(?=[A-Z])", "_", name).upper())
 
     found = {upper(name): place for place, name in enumerate(re.findall(r"Answer::([A-Za-z0-9]+),", table))}
-    found.update((upper(name), int(n)) for name, n in re.findall(r"^    (Base64[A-Za-z]*) = ([0-9]+),$", text, re.M))
+    found.update((upper(name), int(n)) for name, n in re.findall(r"^    (Base64\w*) = ([0-9]+),$", text, re.M))
     found.update((upper(name), int(n)) for n, name in re.findall(r"^ +(-[0-9]) => Err\(Error::(\w+)\),$", text, re.M))
     found.update((name, int(n)) for name, n in re.findall(r"^const ([A-Z0-9_]+): usize = ([0-9]+);$", text, re.M))
     return found

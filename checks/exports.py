@@ -4,8 +4,9 @@ shared one is protected.
 
     checks/exports.py FOLDER
 
-The static and the shared library define the functions that the header declares, and no other name; the shared one has them
-under the version PWCHECK_1.0, the soname libpwcheck.so.1, links to its full name, full RELRO and no executable stack.
+The static and the shared library define the functions that the header declares, and no other name; the shared one has
+them under the version PWCHECK_1.0, the soname libpwcheck.so.1, links to its full name, full RELRO and no executable
+stack.
 """
 import os
 import re

@@ -1,6 +1,6 @@
 #!/usr/bin/env bash
-# Installs under prefixes with a blank, `&`, `|`, a quotation mark, under a relative one and below DESTDIR, builds a caller
-# by pkg-config, runs it, and takes everything away again.
+# Installs under prefixes with a blank, `&`, `|`, a quotation mark, under a relative one and below DESTDIR, builds a
+# caller by pkg-config, runs it, and takes everything away again.
 #
 #     checks/prefixes.sh FOLDER
 set -eu
@@ -21,11 +21,11 @@ try_prefix() { # PREFIX
   prefix=$(realpath -m -- "$prefix")
   options=$(PKG_CONFIG_PATH="$prefix/lib/pkgconfig" pkg-config --cflags --libs pwcheck)
   eval "gcc -o caller $(printf %q "$top/bindings/c/check_lines.c") $options"
-  [ "$(LD_LIBRARY_PATH="$prefix/lib" ./caller <"$top/examples/passwords.txt" | sort | uniq -c | wc -l)" -gt 2 ] ||
-    fail "the caller under $prefix doesn't answer"
-  [ "$("$prefix/bin/pwcheck" check <"$top/examples/passwords.txt" | wc -l)" -gt 2 ] || fail "pwcheck isn't under $prefix"
+  LD_LIBRARY_PATH="$prefix/lib" ./caller <"$top/examples/passwords.txt" >answers
+  "$prefix/bin/pwcheck" check <"$top/examples/passwords.txt" >words || true
+  cmp -s answers words || fail "the caller and pwcheck under $prefix answer otherwise"
   "$top/uninstall.sh" "$1" >"$folder/log"
-  [ -z "$(find "$prefix" -not -type d)" ] || fail "uninstall.sh $prefix leaves $(find "$prefix" -not -type d | head -n 1)"
+  [ -z "$(find "$prefix" -not -type d)" ] || fail "uninstall.sh leaves $(find "$prefix" -not -type d | head -n 1)"
 }
 
 command -v pkg-config >/dev/null 2>&1 || { echo "prefixes.sh: no pkg-config, so nothing was tried"; exit 0; }

@@ -14,7 +14,7 @@ trap 'rm -rf "$work"' EXIT
 python3 bindings/library.py "$work/lib"
 python3 checks/exports.py "$work/lib"
 python3 bindings/try.py "$work/try"
-gcc -std=c99 -g -O1 -Wall -Wextra -Werror -fsanitize=address,undefined -fno-sanitize-recover=all -I "$work/lib/include" \
-  checks/c_calls.c "$work/lib/lib/libpwcheck.a" -o "$work/c_calls"
+gcc -std=c99 -g -O1 -Wall -Wextra -Werror -fsanitize=address,undefined -fno-sanitize-recover=all \
+  -I "$work/lib/include" checks/c_calls.c "$work/lib/lib/libpwcheck.a" -o "$work/c_calls"
 "$work/c_calls"
 checks/prefixes.sh "$work/prefixes"
