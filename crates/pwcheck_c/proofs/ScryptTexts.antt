@@ -114,8 +114,8 @@ joined_is ln r p salt tag text is =
     ∙ regroup (codes "$scrypt$ln=") (decimal ln) (codes ",r=") (decimal r) (codes ",p=") (decimal p) (codes "$")
     (encoding salt) (codes "$") (encoding tag)
     ∙ ap (λ (t : List ℕ). codes "$scrypt$ln=" ++ t) (
-      sym (append_assoc (decimal ln) (44 ∷ 114 ∷ 61 ∷ (decimal r ++ last)) tail
-      ∙ ap (λ (t : List ℕ). decimal ln ++ 44 ∷ 114 ∷ 61 ∷ t) (append_assoc (decimal r) last tail)))
+    sym (append_assoc (decimal ln) (44 ∷ 114 ∷ 61 ∷ (decimal r ++ last)) tail
+    ∙ ap (λ (t : List ℕ). decimal ln ++ 44 ∷ 114 ∷ 61 ∷ t) (append_assoc (decimal r) last tail)))
     ∙ sym (append_assoc (codes "$scrypt" ++ 36 ∷ pairs_text (made_params (decimal ln) (decimal r) (decimal p)))
     (36 ∷ encoding salt) (36 ∷ encoding tag))
 

@@ -73,8 +73,9 @@ fn family_cost(stored: &str, family: Family) -> Option<Cost>
 fn stored_cost(stored: &str) -> Option<Cost>
     ensures cost { result ≡ stored_cost stored.now }
 {
-    let Ok(text) = PasswordHashRef::new(stored) else {
-        return None;
+    let text = match PasswordHashRef::new(stored) {
+        Ok(text) => text,
+        Err(_) => return None,
     };
     match named_family(text.id()) {
         Some(family) => family_cost(stored, family),
