@@ -34,7 +34,8 @@ static uint8_t *copy(const char *text, size_t n)
     return p;
 }
 
-/* A stored text, and what each check answers a password that is UTF-8 and not too long, and isn't its own. */
+/* A stored text, and what each check answers a password that is UTF-8, not too long, and isn't its own. The first two
+ * texts are those of the empty password. */
 struct row {
     const char *text;
     int any, sha256, sha512;
@@ -52,12 +53,14 @@ static const struct row ROWS[] = {
     {"", 5, 9, 9},
 };
 
-enum { TEXT = 1, NO_TEXT = 0 };
+enum { TEXT = 1, NO_TEXT = 0, OF_EMPTY = 2 };
 
-/* What a check answers: UTF-8 first, then the length, then the text's own. */
-static int wanted(int is_text, size_t n, int own)
+/* What a check answers: UTF-8 first, then the length, then what the row says. */
+static int wanted(size_t row, int is_text, size_t n, int other)
 {
-    return !is_text ? PWCHECK_NOT_UTF8 : n > PWCHECK_PASSWORD_MAX ? PWCHECK_PASSWORD_TOO_LONG : own;
+    if (!is_text) return PWCHECK_NOT_UTF8;
+    if (n > PWCHECK_PASSWORD_MAX) return PWCHECK_PASSWORD_TOO_LONG;
+    return row < OF_EMPTY && !n && other == PWCHECK_MISMATCH ? PWCHECK_MATCH : other;
 }
 
 /* All checks of a password. `costly` rows, whose digest is computed, are tried where `all` says so. */
@@ -69,12 +72,12 @@ static void check_all(const uint8_t *password, size_t n, int is_text, int all)
         uint8_t *stored = copy(row->text, m);
         int computes = row->any == PWCHECK_MISMATCH && is_text && n <= PWCHECK_PASSWORD_MAX;
         if (!computes || all) {
-            NEED(pwcheck_check(password, n, stored, m) == wanted(is_text, n, row->any));
-            NEED(pwcheck_sha256_check(password, n, stored, m) == wanted(is_text, n, row->sha256));
-            NEED(pwcheck_sha512_check(password, n, stored, m) == wanted(is_text, n, row->sha512));
+            NEED(pwcheck_check(password, n, stored, m) == wanted(i, is_text, n, row->any));
+            NEED(pwcheck_sha256_check(password, n, stored, m) == wanted(i, is_text, n, row->sha256));
+            NEED(pwcheck_sha512_check(password, n, stored, m) == wanted(i, is_text, n, row->sha512));
         }
         NEED(pwcheck_check_limited(password, n, stored, m, 0, 0)
-             == (computes ? PWCHECK_OVER_COST : wanted(is_text, n, row->any)));
+             == (computes ? PWCHECK_OVER_COST : wanted(i, is_text, n, row->any)));
         give_back(stored, m);
     }
 }
