@@ -6,7 +6,7 @@ ghost use Rattle.base64ct.specs.Encoding.{encoding, IsLenient};
 ghost use Rattle.base64ct.specs.Decoding.{decoding};
 ghost use Rattle.base64ct.specs.Answers.{OnMisaligned, OnNoRoom, OnReadable, OnRoom, IsNoEncoding};
 ghost use Rattle.base64ct.specs.Tables.{shaped, Passes};
-ghost use Rattle.base64ct.specs.Counts.{look_count, comparison_count};
+ghost use Rattle.base64ct.specs.Counts.{look_count, comparison_count, spell_count};
 
 use crate::{CodeTable, Encoding, Error, Shape, decode_with_into};
 use std::marker::{Model, PhantomData};
@@ -47,7 +47,8 @@ pub fn decode_with<'d, T: CodeTable, C: SameByte>(
         T.looks table.new ≡ T.looks table.old + look_count a src.now (length dst.old) }
     ensures sames { let a = shaped (T.characters table.old) shape in
         C.count cmp.new ≡ C.count cmp.old + comparison_count a src.now (length dst.old) }
-    ensures spells { (T.spells table.old ≤ T.spells table.new) × (T.spells table.new ≤ T.spells table.old + 5) }
+    ensures spells { let a = shaped (T.characters table.old) shape in
+        T.spells table.new ≡ T.spells table.old + spell_count a src.now (length dst.old) }
     ensures characters { T.characters table.new ≡ T.characters table.old }
 {
     let n = decode_with_into(table, cmp, shape, src, dst)?;

@@ -5,7 +5,8 @@ ghost use Rattle.std.specs.List.{after_last, before_last, list_any};
 ghost use Rattle.line_io.specs.Devices.{WhereTold};
 ghost use Rattle.pieces.specs.FaultCounts.{HasRisen};
 ghost use Rattle.line_program.specs.Outcome.{Outcome};
-ghost use Rattle.line_program.specs.PlainOutput.{answer_rules, is_plain_match, is_tab, line_answer, line_may_lack, plain_word};
+ghost use Rattle.line_program.specs.PlainOutput.{answer_rules, is_plain_match, line_answer, line_may_lack, plain_word};
+ghost use Rattle.pieces.specs.Characters.{is_tab};
 ghost use Rattle.line_io.specs.Limits.{line_max};
 
 use crate::Responder;

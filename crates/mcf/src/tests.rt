@@ -101,15 +101,24 @@ fn order_and_copies(rt: HostRuntime) -> Result<(), AllocError> {
     assert!(rt; fields.next() == again.next());
     assert!(rt; fields.next() == Field::new("c").ok());
     assert!(rt; Field::new("B").expect(&rt, "a field") < Field::new("a").expect(&rt, "a field"));
-    assert!(rt; Base64::B64 < Base64::Bcrypt && Base64::Crypt < Base64::Pbkdf2);
+    let order = [Base64::B64, Base64::Bcrypt, Base64::Crypt, Base64::Pbkdf2];
+    for i in 1..4 {
+        assert!(rt; order[i - 1] < order[i]);
+    }
     Ok(())
 }
 
 fn decoded_as(rt: &impl Abort, alloc: Global, text: &str, bytes: &[u8]) -> Result<(), AllocError> {
     let field = Field::new(text).expect(rt, "a field");
-    let mut room = [0; 64];
+    assert!(rt; 1 <= bytes.len() && bytes.len() <= 64);
+    let mut room = [7; 65];
+    let no_room = Err(Error::Base64(base64ct::Error::InvalidLength));
+    let short = field.decode_base64_into(Base64::Crypt, &mut room[..bytes.len() - 1]);
+    assert!(rt; short == no_room);
+    assert!(rt; room == [7; 65]);
     let part = field.decode_base64_into(Base64::Crypt, &mut room);
     assert!(rt; part.expect(rt, "an encoding") == bytes);
+    assert!(rt; room.starts_with(bytes) && room[bytes.len()..].iter().all(|b| *b == 7));
     match field.decode_base64(alloc, Base64::Crypt) {
         Ok(vec) => assert!(rt; vec.as_slice() == bytes),
         Err(e) => {
@@ -150,6 +159,12 @@ const ENCODINGS: [(&[u8], [&str; 4]); 4] = [
     ),
 ];
 
+// A buffer of sevens into whose front these bytes were written.
+fn holds(rt: &impl Abort, room: &[u8], front: &[u8]) {
+    assert!(rt; room.starts_with(front) && front.len() <= room.len());
+    assert!(rt; room[front.len()..].iter().all(|b| *b == 7));
+}
+
 fn encoded_as(
     rt: &impl Abort,
     alloc: Global,
@@ -157,20 +172,19 @@ fn encoded_as(
     bytes: &[u8],
     text: &str,
 ) -> Result<(), AllocError> {
-    let mut room = [7; 8];
+    let mut room = [7; 9];
     assert!(rt; variant.encoded_len(bytes) == text.len());
     assert!(rt; variant.encode(bytes, &mut room).expect(rt, "room") == text);
+    holds(rt, &room, text.as_bytes());
     assert!(rt; variant.encode_into(bytes, &mut room) == Ok(text.len()));
-    assert!(rt; room.starts_with(text.as_bytes()));
+    holds(rt, &room, text.as_bytes());
     assert!(rt; variant.encode_string(alloc, bytes)?.as_str() == text);
-    assert!(rt;
-        variant
-            .decode(text.as_bytes(), &mut room)
-            .expect(rt, "an encoding")
-            == bytes
-    );
+    let mut room = [7; 9];
+    let part = variant.decode(text.as_bytes(), &mut room);
+    assert!(rt; part.expect(rt, "an encoding") == bytes);
+    holds(rt, &room, bytes);
     assert!(rt; variant.decode_into(text.as_bytes(), &mut room) == Ok(bytes.len()));
-    assert!(rt; room.starts_with(bytes));
+    holds(rt, &room, bytes);
     match variant.decode_vec(alloc, text) {
         Ok(vec) => assert!(rt; vec.as_slice() == bytes),
         Err(e) => {
@@ -191,8 +205,12 @@ fn encodings(rt: HostRuntime) -> Result<(), AllocError> {
         encoded_as(&rt, alloc, Base64::Pbkdf2, bytes, texts[3])?;
     }
     let no_room = base64ct::Error::InvalidLength;
-    assert!(rt; Base64::B64.encode(b"x", &mut []) == Err(no_room));
-    assert!(rt; Base64::Crypt.decode(b"J/", &mut []) == Err(no_room));
+    for variant in [Base64::B64, Base64::Bcrypt, Base64::Crypt, Base64::Pbkdf2] {
+        let mut room = [7; 3];
+        assert!(rt; variant.encode(b"abc", &mut room) == Err(no_room));
+        assert!(rt; variant.decode(b"AQIDBA", &mut room) == Err(no_room));
+        assert!(rt; room == [7; 3]);
+    }
     Ok(())
 }
 
@@ -275,6 +293,9 @@ fn pushes(rt: HostRuntime) -> Result<(), AllocError> {
     let mut hash = PasswordHash::from_id(alloc, "6").expect(&rt, "a password hash");
     assert!(rt; PasswordHash::from_id(alloc, "-a") == Err(Error::IdentifierInvalid));
     assert!(rt; PasswordHash::new(alloc, "$6$") == Err(Error::DelimiterInvalid));
+    hash.push_displayable("rounds=100000").expect(&rt, "memory");
+    assert_eq!(rt; hash.as_str(), "$6$rounds=100000");
+    let mut hash = PasswordHash::from_id(alloc, "6").expect(&rt, "a password hash");
     assert!(rt; hash.push_displayable("$$$") == Err(Error::EncodingInvalid));
     assert!(rt; hash.push_base64(b"", Base64::B64) == Err(Error::FieldInvalid));
     assert!(rt; hash.push_str("") == Err(Error::FieldInvalid));

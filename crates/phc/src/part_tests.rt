@@ -86,11 +86,14 @@ fn values(rt: HostRuntime) -> Result<(), AllocError> {
 
 #[test]
 fn decoded_values(rt: HostRuntime) {
-    let mut room = [0; 3];
-    assert!(rt; value(&rt, "BAUG").b64_decode(&mut room) == Ok([4, 5, 6].as_slice()));
-    assert!(rt; value(&rt, "AgM").b64_decode(&mut room) == Ok([2, 3].as_slice()));
+    let mut room = [7; 4];
     let no_room = Err(Error::Base64(base64ct::Error::InvalidLength));
     assert!(rt; value(&rt, "BAUG").b64_decode(&mut room[..2]) == no_room);
+    assert!(rt; room == [7; 4]);
+    assert!(rt; value(&rt, "AgM").b64_decode(&mut room) == Ok([2, 3].as_slice()));
+    assert!(rt; room == [2, 3, 7, 7]);
+    assert!(rt; value(&rt, "BAUG").b64_decode(&mut room) == Ok([4, 5, 6].as_slice()));
+    assert!(rt; room == [4, 5, 6, 7]);
     let encoding = Err(Error::Base64(base64ct::Error::InvalidEncoding));
     for text in ["Mi", "A", "AA-", "...."] {
         assert!(rt; value(&rt, text).b64_decode(&mut room) == encoding);
@@ -162,6 +165,7 @@ const CHACHA: [u8; 32] = [
 struct Given<'a> {
     left: &'a [u8],
     refusals: u64,
+    calls: u64,
 }
 
 impl TryFill for Given<'_> {
@@ -174,6 +178,7 @@ impl TryFill for Given<'_> {
     ghost coming = { λ g. Some g.left.now };
 
     fn try_fill(&mut self, out: &mut [u8]) -> Result<(), &'static str> {
+        self.calls = self.calls.saturating_add(1);
         if self.refusals == 0 || self.left.len() < out.len() {
             self.refusals = self.refusals.saturating_add(1);
             return Err("not yet");
@@ -202,6 +207,7 @@ fn salts_of_a_generator_that_refuses(rt: HostRuntime) {
     let mut rng = Given {
         left: &CHACHA,
         refusals: 0,
+        calls: 0,
     };
     assert!(rt; Salt::try_from_rng(&mut rng) == Err("not yet"));
     assert!(rt; Salt::try_from_rng(&mut rng) == Ok(Salt::new(&CHACHA[..16]).expect(&rt, "a salt")));
@@ -209,6 +215,7 @@ fn salts_of_a_generator_that_refuses(rt: HostRuntime) {
     assert_eq!(rt; text.as_str(), "vdIZuKCN7RqoNu/Mi3cNxw");
     assert!(rt; SaltString::try_from_rng(&mut rng) == Err("not yet"));
     assert_eq!(rt; rng.refusals, 2);
+    assert_eq!(rt; rng.calls, 4);
 }
 
 // ---- outputs
@@ -248,12 +255,17 @@ fn outputs(rt: HostRuntime) -> Result<(), AllocError> {
     assert!(rt; Output::decode(COUNTED_TEXT) == Ok(most));
     assert_eq!(rt; most.encoded_len(), Output::B64_MAX_LENGTH);
     assert_eq!(rt; most.b64_len(), Output::B64_MAX_LENGTH);
-    let mut room = [0; 86];
-    assert!(rt; most.encode(&mut room) == Ok(COUNTED_TEXT));
-    assert!(rt; most.b64_encode(&mut room) == Ok(COUNTED_TEXT));
+    assert_eq!(rt; Output::B64_MAX_LENGTH, 86);
+    let mut room = [7; 88];
     let no_room = Err(Error::Base64(base64ct::Error::InvalidLength));
-    let mut shorter = [0; 85];
-    assert!(rt; most.encode(&mut shorter) == no_room);
+    assert!(rt; most.encode(&mut room[..85]) == no_room);
+    assert!(rt; most.b64_encode(&mut room[..85]) == no_room);
+    assert!(rt; room == [7; 88]);
+    assert!(rt; most.encode(&mut room) == Ok(COUNTED_TEXT));
+    assert!(rt; room.starts_with(COUNTED_TEXT.as_bytes()) && room.ends_with(&[7, 7]));
+    let mut room = [7; 88];
+    assert!(rt; most.b64_encode(&mut room) == Ok(COUNTED_TEXT));
+    assert!(rt; room.starts_with(COUNTED_TEXT.as_bytes()) && room.ends_with(&[7, 7]));
     assert_eq!(rt; format!(in rt.alloc(); "{most}")?.as_str(), COUNTED_TEXT);
     assert!(rt; bool::from(ten.ct_eq(&ten)) && !bool::from(ten.ct_eq(&most)));
     let other = Output::new(&COUNTED[2..12]).expect(&rt, "an output");

@@ -222,7 +222,7 @@ fn kept_texts(rt: HostRuntime) -> Result<(), AllocError> {
     assert!(&rt; read.is_printable() && other.is_printable());
     let kept = PasswordHashString::new(alloc, ARGON2).expect(&rt, "a record");
     kept_as(&rt, alloc, &kept, &read)?;
-    kept_as(&rt, alloc, &kept.try_clone(alloc)?, &read)?;
+    kept_as(&rt, alloc, &kept.try_clone()?, &read)?;
     kept_as(
         &rt,
         alloc,
@@ -244,7 +244,7 @@ fn kept_texts(rt: HostRuntime) -> Result<(), AllocError> {
 // ---- names
 
 #[test]
-fn names(rt: HostRuntime) {
+fn names(rt: HostRuntime) -> Result<(), AllocError> {
     for text in ["", "A", "a b", "é", "012345678911234567892123456789312"] {
         assert!(&rt; Ident::new(text) == Err(Error::ParamNameInvalid), "{text}");
     }
@@ -257,6 +257,7 @@ fn names(rt: HostRuntime) {
     ] {
         let name = Ident::new(text).expect(&rt, "a name");
         assert!(&rt; name.as_str() == text);
+        assert!(&rt; format!(in rt.alloc(); "{name}")?.as_str() == text);
         assert!(&rt; name == Ident::new_unwrap(text));
         assert!(&rt; text.parse::<Ident>() == Ok(name));
     }
@@ -267,6 +268,7 @@ fn names(rt: HostRuntime) {
         assert!(&rt; before < behind && before.cmp(&behind) == Ordering::Less);
         assert!(&rt; before != behind);
     }
+    Ok(())
 }
 
 // ---- errors

@@ -28,7 +28,8 @@ use Rattle.pw_file.specs.Verdicts.{fresh, fresh_key, verdict_on}
 use Rattle.pieces.specs.Faults.{first_fault, unless}
 use Rattle.pw_file.specs.Answers.{IsAnswer, bad_text, check_answer, check_may_lack, checked, has_room, set_fault}
 use Rattle.pw_file.specs.Answers.{upgrade_answer, is_match, upgrade_may_lack}
-use Rattle.pw_file.specs.Commands.{by_cut, command, cut_at_tab, is_tab}
+use Rattle.pw_file.specs.Commands.{by_cut, command, cut_at_tab}
+use Rattle.pieces.specs.Characters.{is_tab}
 use Rattle.pw_file.specs.History.{Rows, text_in}
 use Rattle.pw_file.specs.Table.{rows_of}
 use Rattle.pw_file.specs.declared.error.FileError.{FileError}

@@ -8,7 +8,7 @@ use Rattle.stored_check.specs.Verdict.{verdict}
 use Rattle.stored_check.specs.declared.error.StoredError.TheVariants.{OutOfMemory}
 use Rattle.stored_check.proofs.Causes.{never_memory}
 use Rattle.scrypt_plain.specs.Profile.{accepted, key}
-use Rattle.line_program.specs.PlainOutput.{is_tab}
+use Rattle.pieces.specs.Characters.{is_tab}
 use Rattle.pwcheck.specs.Answer.{IsAnswer, IsTextAnswer, answer, answer_text, answer_word, counts_text, has_verdict}
 use Rattle.pwcheck.specs.Answer.{line_may_lack, text_answer}
 use Rattle.pwcheck.specs.declared.answer.Answer.{Answer}

@@ -13,7 +13,7 @@ use Rattle.pwcheck.specs.declared.answer.Answer.{Answer}
 use Rattle.pwcheck.specs.declared.answer.Answer.TheVariants.{TooLong, BadLine, Checked}
 use Rattle.pwcheck.specs.declared.form.Form.{Form}
 use Rattle.pwcheck.specs.declared.form.Form.TheVariants.{Plain, Counted}
-use Rattle.line_program.specs.PlainOutput.{is_tab}
+use Rattle.pieces.specs.Characters.{is_tab}
 use Rattle.line_program.specs.Rules.{LineRules, each_line}
 use Rattle.line_io.specs.Limits.{line_max}
 

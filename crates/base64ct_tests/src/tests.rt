@@ -2,7 +2,7 @@
 
 ghost use Rattle.std.specs.Prelude.{◌≡◌, ◌+◌, ◌<◌, ◌≤◌, ◌^◌, ℕ, length, true, false};
 
-use crate::{
+use base64ct::{
     Base64, Base64Bcrypt, Base64Crypt, Base64Pbkdf2, Base64ShaCrypt, Base64Unpadded, Base64Url,
     Base64UrlUnpadded, Counted, Counts, DecodeVecError, Encoding, Error, InvalidEncodingError,
     InvalidLengthError, LineEnding, Shape, decode_with, decode_with_into, laws,
@@ -114,6 +114,10 @@ fn without_room(rt: HostRuntime) {
     assert!(&rt; Base64::encode_into(b"x", &mut short) == Err(InvalidLengthError));
     assert!(&rt; Base64::encode(b"x", &mut short).is_err());
     assert!(&rt; short == [5; 3]);
+    let mut counts = Counts::new();
+    assert!(&rt; counts.decode::<Base64>(b"AAA", &mut short) == Err(Error::InvalidEncoding));
+    assert!(&rt; counts.decode::<Base64>(b"AAAAAAAA", &mut short) == Err(Error::InvalidLength));
+    assert!(&rt; short == [5; 3]);
 }
 
 #[test]
@@ -124,18 +128,24 @@ fn short_inputs(rt: HostRuntime) {
     assert!(&rt; Base64Bcrypt::encode(&[1, 2, 3, 4], &mut dst).expect(&rt, "room") == ".OGB/.");
 }
 
+// A text of four bytes is decoded within its buffer, at whose front the bytes then stand.
+fn lenient<E: Encoding>(rt: &impl Abort, text: [u8; 4], wanted: Option<&[u8]>) {
+    let mut buf = text;
+    let answer = E::decode_in_place(&mut buf);
+    assert!(rt; answer.ok() == wanted);
+    if let Some(bytes) = wanted {
+        assert!(rt; buf.starts_with(bytes));
+    }
+}
+
 #[test]
 fn in_place(rt: HostRuntime) {
-    let mut spare = *b"Mi";
-    assert!(&rt;
-        Base64Pbkdf2::decode_in_place(&mut spare).expect(&rt, "lenient") == [0x32].as_slice()
-    );
-    let mut padded = *b"AA/=";
-    assert!(&rt;
-        Base64::decode_in_place(&mut padded).expect(&rt, "lenient") == [0, 0xf].as_slice()
-    );
-    let mut short = *b"AAA";
-    assert!(&rt; Base64::decode_in_place(&mut short).is_err());
+    lenient::<Base64Pbkdf2>(&rt, *b"AAMi", Some(&[0, 3, 0x22]));
+    lenient::<Base64>(&rt, *b"Mi==", Some(&[0x32]));
+    lenient::<Base64>(&rt, *b"AA==", Some(&[0]));
+    lenient::<Base64>(&rt, *b"AA/=", Some(&[0, 0xf]));
+    lenient::<Base64>(&rt, *b"A===", None);
+    lenient::<Base64Unpadded>(&rt, *b"AA==", None);
     let mut single = *b"AAAAA";
     assert!(&rt; Base64Unpadded::decode_in_place(&mut single).is_err());
 }
@@ -178,6 +188,14 @@ fn printed(rt: HostRuntime) -> Result<(), AllocError> {
 }
 
 #[test]
+fn numbers_of_errors(rt: HostRuntime) {
+    assert!(&rt; Error::InvalidEncoding as u8 == 1);
+    assert!(&rt; Error::InvalidLength as u8 == 2);
+    assert!(&rt; DecodeVecError::InvalidEncoding as u8 == 1);
+    assert!(&rt; DecodeVecError::OutOfMemory as u8 == 2);
+}
+
+#[test]
 fn line_endings(rt: HostRuntime) {
     assert!(&rt; LineEnding::default() == LineEnding::LF);
     assert!(&rt; LineEnding::CR < LineEnding::LF);
@@ -185,7 +203,9 @@ fn line_endings(rt: HostRuntime) {
     assert!(&rt; LineEnding::CR.as_bytes() == b"\r".as_slice());
     assert!(&rt; LineEnding::LF.as_bytes() == b"\n".as_slice());
     assert!(&rt; LineEnding::CRLF.as_bytes() == b"\r\n".as_slice());
-    assert!(&rt; LineEnding::CRLF.len() == 2);
+    for (ending, len) in [(LineEnding::CR, 1), (LineEnding::LF, 1), (LineEnding::CRLF, 2)] {
+        assert!(&rt; ending.len() == len);
+    }
 }
 
 // A relation of no pair.
@@ -227,30 +247,45 @@ const UNPADDED: Shape = Shape {
     low_first: false,
 };
 
-// Decodes with the table of `Base64Unpadded` and equality, and tells what was counted.
-fn counted(rt: &impl Abort, text: &[u8], dst: &mut [u8], ok: bool, looks: u64, sames: u64)
+// Decodes into the first `len` of eight nines, by the table of `Base64Unpadded` and equality, and tells what was
+// counted and how many of the nines were written over at most.
+fn counted(
+    rt: &impl Abort,
+    text: &[u8],
+    len: usize,
+    ok: bool,
+    asked: (u64, u64, u64),
+    written: usize,
+)
     requires { length text.now ≤ 16 }
 {
+    assert!(rt; len <= 8 && written <= 8);
     let mut table = Counted::<Base64Unpadded>::new();
     let mut cmp = Counting::new();
-    let answer = decode_with_into(&mut table, &mut cmp, UNPADDED, text, dst);
+    let mut room = [9u8; 8];
+    let answer = decode_with_into(&mut table, &mut cmp, UNPADDED, text, &mut room[..len]);
     assert!(rt; answer.is_ok() == ok);
-    assert!(rt; table.looks() == looks);
-    assert!(rt; cmp.count() == sames);
-    assert!(rt; table.spells() <= 5);
+    assert!(rt; (table.looks(), cmp.count(), table.spells()) == asked);
+    let mut lent = [9u8; 8];
+    let answer = decode_with(&mut table, &mut cmp, UNPADDED, text, &mut lent[..len]);
+    assert!(rt; answer.is_ok() == ok);
+    assert!(rt; table.looks() == 2 * asked.0);
+    let mut own = [9u8; 8];
     let mut counts = Counts::new();
-    assert!(rt; counts.decode::<Base64Unpadded>(text, dst).is_ok() == ok);
-    assert!(rt; counts.looks() == looks);
-    assert!(rt; counts.sames() == sames);
+    let answer = counts.decode::<Base64Unpadded>(text, &mut own[..len]);
+    assert!(rt; answer.is_ok() == ok);
+    assert!(rt; (counts.looks(), counts.sames()) == (asked.0, asked.1));
+    assert!(rt; lent == room && own == room);
+    assert!(rt; room[written..].iter().all(|b| *b == 9));
 }
 
 #[test]
 fn counts_of_decoding(rt: HostRuntime) {
-    let mut room = [0u8; 8];
-    counted(&rt, b"AAAAAAAA", &mut room, true, 12, 4);
-    counted(&rt, b"*AAAAAAA", &mut room, false, 12, 4);
-    counted(&rt, b"", &mut room, true, 4, 0);
-    counted(&rt, b"AAAA", &mut [], false, 0, 0);
+    counted(&rt, b"AAAAAAAA", 8, true, (12, 4, 5), 6);
+    counted(&rt, b"*AAAAAAA", 8, false, (12, 4, 5), 6);
+    counted(&rt, b"AAA", 7, true, (4, 4, 5), 2);
+    counted(&rt, b"", 8, true, (4, 0, 1), 0);
+    counted(&rt, b"AAAA", 2, false, (0, 0, 0), 0);
 }
 
 #[test]

@@ -1,80 +1,92 @@
 //! Encoders and decoders.
 
-use crate::{
+use base64ct::{
     Base64, Base64Unpadded, DecodeVecError, Decoder, Encoder, Encoding, Error, LineEnding,
 };
+use std::alloc::{AllocError, Global};
 use std::io::{ErrorKind, Read, Write};
 use std::process::Abort;
 use std::test::Fail;
 
-// Six zeros, in a buffer of this length.
-fn six_zeros<R: Abort>(rt: &R, buf: &mut [u8], text: &str, rest: usize) {
-    let len = buf.len();
-    let mut e = Encoder::<Base64>::new_wrapped(buf, 4, LineEnding::LF).expect(rt, "made");
-    assert_eq!(rt; e.encode(&[0; 6]), Ok(()));
-    assert_eq!(rt; e.position(), text.len());
-    let (t, r) = e.finish_with_remaining().expect(rt, "fits");
-    assert_eq!(rt; t, text);
-    assert_eq!(rt; r.len(), rest);
-    assert_eq!(rt; text.len() + rest, len);
+// Feeds these parts into a buffer of `len` bytes, in lines of `width`: how many bytes more are refused, the
+// position then, and the text or a refusal of it.
+fn fed<E: Encoding, R: Abort>(
+    rt: &R,
+    len: usize,
+    width: usize,
+    ending: LineEnding,
+    parts: &[&[u8]],
+    last: (&[u8], bool),
+    position: usize,
+    text: Option<&str>,
+) {
+    assert!(rt; len <= 64);
+    let mut buf = [7u8; 64];
+    let mut e = Encoder::<E>::new_wrapped(&mut buf[..len], width, ending).expect(rt, "made");
+    for part in parts {
+        assert_eq!(rt; e.encode(part), Ok(()));
+    }
+    assert_eq!(rt; e.encode(last.0).is_ok(), last.1);
+    assert_eq!(rt; e.position(), position);
+    match e.finish_with_remaining() {
+        Ok((written, rest)) => {
+            assert_eq!(rt; Some(written), text);
+            assert_eq!(rt; written.len() + rest.len(), len);
+            rest.fill(9);
+        }
+        Err(error) => assert!(rt; error == Error::InvalidLength && text.is_none()),
+    }
+    stands(rt, &buf, len, text);
+}
+
+// A text stands at the front of a buffer of `len` bytes, with nines behind it; what follows them is as it was.
+fn stands<R: Abort>(rt: &R, buf: &[u8], len: usize, text: Option<&str>) {
+    assert!(rt; len <= buf.len());
+    assert!(rt; buf[len..].iter().all(|b| *b == 7));
+    if let Some(text) = text {
+        assert!(rt; text.len() <= len);
+        assert_eq!(rt; &buf[..text.len()], text.as_bytes());
+        assert!(rt; buf[text.len()..len].iter().all(|b| *b == 9));
+    }
 }
 
 #[test]
 fn encoder_rows(rt: HostRuntime) {
-    let mut buf = [0u8; 9];
-    six_zeros(&rt, &mut buf, "AAAA\nAAAA", 0);
-    let mut buf = [0u8; 12];
-    six_zeros(&rt, &mut buf, "AAAA\nAAAA", 3);
+    let six: [&[u8]; 1] = [&[0; 6]];
+    let rows: [(usize, &[&[u8]], (&[u8], bool), usize, Option<&str>); 9] = [
+        (9, &six, (&[], true), 9, Some("AAAA\nAAAA")),
+        (12, &six, (&[], true), 9, Some("AAAA\nAAAA")),
+        (9, &six, (&[0; 3], false), 9, Some("AAAA\nAAAA")),
+        (9, &six, (&[0; 1], true), 9, None),
+        (8, &[], (&[0; 6], false), 0, Some("")),
+        (8, &[&[0; 3]], (&[0; 3], false), 4, Some("AAAA")),
+        (64, &[&[1, 2], &[3], &[]], (&[4], true), 4, Some("AQID\nBA==")),
+        (9, &[&[1]], (&[2], true), 0, Some("AQI=")),
+        (3, &[&[1]], (&[], true), 0, None),
+    ];
+    for (len, parts, last, position, text) in rows {
+        fed::<Base64, HostRuntime>(&rt, len, 4, LineEnding::LF, parts, last, position, text);
+    }
+    let parts: [&[u8]; 3] = [&[1, 2], &[3], &[]];
+    let text = Some("AQIDB\rAUGBw");
+    let last: (&[u8], bool) = (&[4, 5, 6, 7], true);
+    fed::<Base64Unpadded, HostRuntime>(&rt, 32, 5, LineEnding::CR, &parts, last, 9, text);
+    let zeros = "AAAAAAAAAAAAAAAAAAAAAAAAAAAAAAAAAAAAAAAAAAAAAAAAAAAAAAAAAAAAAAAA";
+    fed::<Base64, HostRuntime>(&rt, 64, 64, LineEnding::CRLF, &[], (&[0; 48], true), 64, Some(zeros));
+}
 
-    let mut buf = [0u8; 9];
-    let mut e = Encoder::<Base64>::new_wrapped(&mut buf, 4, LineEnding::LF).expect(&rt, "made");
-    assert_eq!(rt; e.encode(&[0; 6]), Ok(()));
-    assert_eq!(rt; e.encode(&[0; 3]), Err(Error::InvalidLength));
-    assert_eq!(rt; e.position(), 9);
-    assert_eq!(rt; e.finish(), Ok("AAAA\nAAAA"));
-
-    let mut buf = [0u8; 9];
-    let mut e = Encoder::<Base64>::new_wrapped(&mut buf, 4, LineEnding::LF).expect(&rt, "made");
-    assert_eq!(rt; e.encode(&[0; 6]), Ok(()));
-    assert_eq!(rt; e.encode(&[0; 3]), Err(Error::InvalidLength));
-    assert_eq!(rt; e.encode(&[0; 1]), Ok(()));
-    assert_eq!(rt; e.finish(), Err(Error::InvalidLength));
-
-    let mut buf = [0u8; 8];
-    let mut e = Encoder::<Base64>::new_wrapped(&mut buf, 4, LineEnding::LF).expect(&rt, "made");
-    assert_eq!(rt; e.encode(&[0; 6]), Err(Error::InvalidLength));
-    assert_eq!(rt; e.position(), 0);
-
-    let mut buf = [0u8; 64];
-    let mut e = Encoder::<Base64>::new_wrapped(&mut buf, 64, LineEnding::CRLF).expect(&rt, "made");
-    assert_eq!(rt; e.encode(&[0; 48]), Ok(()));
-    let text = e.finish().expect(&rt, "fits");
-    assert!(rt; text.len() == 64 && text.bytes().all(|c| c == b'A'));
-
-    let mut none: [u8; 0] = [];
-    assert!(rt; Encoder::<Base64>::new(&mut none).err() == Some(Error::InvalidLength));
-    let mut buf = [0u8; 8];
+#[test]
+fn encoders_in_one_line(rt: HostRuntime) {
+    assert!(rt; Encoder::<Base64>::new(&mut []).err() == Some(Error::InvalidLength));
+    let mut buf = [7u8; 16];
     assert!(rt;
         Encoder::<Base64>::new_wrapped(&mut buf, 3, LineEnding::CR).err()
             == Some(Error::InvalidLength)
     );
-
-    let mut buf = [0u8; 32];
-    let mut e = Encoder::<Base64Unpadded>::new_wrapped(&mut buf, 5, LineEnding::CR).expect(
-        &rt, "made",
-    );
-    assert_eq!(rt; e.encode(&[1, 2]), Ok(()));
-    assert_eq!(rt; e.encode(&[3]), Ok(()));
-    assert_eq!(rt; e.encode(&[]), Ok(()));
-    assert_eq!(rt; e.encode(&[4, 5, 6, 7]), Ok(()));
-    assert_eq!(rt; e.finish(), Ok("AQIDB\rAUGBw"));
-
-    let mut buf = [0u8; 12];
     let mut e = Encoder::<Base64>::new(&mut buf).expect(&rt, "made");
     assert_eq!(rt; e.encode(&[1, 2, 3, 4]), Ok(()));
-    let (text, rest) = e.finish_with_remaining().expect(&rt, "fits");
-    assert_eq!(rt; text, "AQIDBA==");
-    assert_eq!(rt; rest.len(), 4);
+    assert_eq!(rt; e.finish(), Ok("AQIDBA=="));
+    assert_eq!(rt; &buf, b"AQIDBA==\x07\x07\x07\x07\x07\x07\x07\x07");
 }
 
 #[test]
@@ -168,33 +180,37 @@ fn decoder_rows(rt: HostRuntime) {
     assert_eq!(rt; bytes, [1, 2, 3, 4, 5, 6].as_slice());
 }
 
+// What is left of a text behind its first `cut` bytes is appended to a vector that holds one byte.
+fn appended<R: Abort>(
+    rt: &R,
+    alloc: Global,
+    text: &[u8],
+    cut: usize,
+    wanted: Result<&[u8], DecodeVecError>,
+) {
+    let mut v: Vec<u8> = Vec::new(alloc);
+    assert_eq!(rt; v.push(7), Ok(()));
+    let mut room = [0u8; 8];
+    assert!(rt; cut <= 8);
+    let mut d = Decoder::<Base64>::new_wrapped(text, 4).expect(rt, "made");
+    d.decode(&mut room[..cut]).expect(rt, "the front");
+    let left = d.remaining_len();
+    assert!(rt; d.decode_to_end(&mut v) == wanted);
+    let (bytes, more) = match wanted {
+        Ok(bytes) => (bytes, 0),
+        Err(_) => ([].as_slice(), left),
+    };
+    assert_eq!(rt; d.remaining_len(), more);
+    assert!(rt; v.starts_with(&[7]) && v.len() == 1 + bytes.len() && v.ends_with(bytes));
+}
+
 #[test]
-fn decoders_end(rt: HostRuntime) -> Result<(), Fail> {
-    let mut v: Vec<u8> = Vec::new(rt.alloc());
-    v.push(7)?;
-    let mut d = Decoder::<Base64>::new_wrapped(b"AAAA\r\nAAAA\n", 4).expect(&rt, "made");
-    match d.decode_to_end(&mut v) {
-        Ok(bytes) => assert_eq!(rt; bytes, [0; 6].as_slice()),
-        Err(e) => {
-            assert!(rt; e == DecodeVecError::OutOfMemory);
-            assert_eq!(rt; v.as_slice(), [7].as_slice());
-            assert_eq!(rt; d.remaining_len(), 6);
-            return Ok(());
-        }
-    }
-    assert!(rt; d.is_finished());
-    assert_eq!(rt; v.as_slice(), [7, 0, 0, 0, 0, 0, 0].as_slice());
-    let mut d = Decoder::<Base64>::new(b"AAAAAA*AAAAA\r\n").expect(&rt, "made");
-    let mut one = [9u8; 2];
-    d.decode(&mut one).expect(&rt, "two");
-    match d.decode_to_end(&mut v) {
-        Ok(_) => assert!(rt; false),
-        Err(DecodeVecError::OutOfMemory) => return Ok(()),
-        Err(e) => assert!(rt; e == DecodeVecError::InvalidEncoding),
-    }
-    assert_eq!(rt; v.as_slice(), [7, 0, 0, 0, 0, 0, 0].as_slice());
-    assert_eq!(rt; d.remaining_len(), 7);
-    Ok(())
+fn decoders_end(rt: HostRuntime) {
+    let alloc = rt.alloc();
+    appended(&rt, alloc, b"AAAA\r\nAAAA\n", 0, Ok(&[0; 6]));
+    appended(&rt, alloc, b"AAAA\nAQID\nBA==\n", 4, Ok(&[2, 3, 4]));
+    appended(&rt, alloc, b"AAAA\nAQIDBA==", 0, Err(DecodeVecError::InvalidEncoding));
+    appended(&rt, alloc, b"AAAA\nAA*A\nAAAA\r\n", 2, Err(DecodeVecError::InvalidEncoding));
 }
 
 // RFC 4648, table 1.
@@ -202,7 +218,7 @@ const CHARACTERS: [u8; 64] = *b"ABCDEFGHIJKLMNOPQRSTUVWXYZabcdefghijklmnopqrstuv
 
 // The character at place `i` of the padded encoding of `bytes`, taken bit by bit.
 fn character_at(bytes: &[u8], i: usize) -> u8 {
-    let first = 6 * (i % 1000);
+    let first = 6 * (i % 10_000);
     if first / 8 >= bytes.len() {
         return b'=';
     }
@@ -233,7 +249,7 @@ fn write_lines<R: Abort>(
     ending: &[u8],
     out: &mut [u8],
 ) -> usize {
-    assert!(rt; width >= 4 && bytes.len() <= 50);
+    assert!(rt; width >= 4 && bytes.len() <= 6_000);
     let mut at = 0;
     for i in 0..(bytes.len() + 2) / 3 * 4 {
         if i > 0 && i % width == 0 {
@@ -313,11 +329,93 @@ fn texts_cut_at_every_place(rt: HostRuntime) {
     }
 }
 
+// An encoder of `text` that is fed `step` bytes a call.
+fn fed_in_steps<R: Abort>(
+    rt: &R,
+    bytes: &[u8],
+    width: usize,
+    ending: LineEnding,
+    step: usize,
+    text: &[u8],
+    room: &mut [u8],
+) {
+    assert!(rt; step > 0);
+    let mut e = Encoder::<Base64>::new_wrapped(room, width, ending).expect(rt, "made");
+    for part in bytes.chunks(step) {
+        assert_eq!(rt; e.encode(part), Ok(()));
+    }
+    assert_eq!(rt; e.finish().expect(rt, "fits").as_bytes(), text);
+}
+
+// A decoder of `text` of which `step` bytes are asked a call.
+fn read_in_steps<R: Abort>(
+    rt: &R,
+    bytes: &[u8],
+    width: usize,
+    step: usize,
+    text: &[u8],
+    room: &mut [u8],
+) {
+    assert!(rt; step > 0);
+    let mut d = Decoder::<Base64>::new_wrapped(text, width).expect(rt, "made");
+    for part in bytes.chunks(step) {
+        assert!(rt; part.len() <= room.len());
+        assert_eq!(rt; d.decode(&mut room[..part.len()]).expect(rt, "a part"), part);
+    }
+    assert!(rt; d.is_finished());
+}
+
+// A text with one character outside the alphabet before its last block is refused, and the vector is as it was.
+fn refused_whole<R: Abort>(rt: &R, alloc: Global, text: &[u8], width: usize) {
+    let mut v: Vec<u8> = Vec::new(alloc);
+    match Decoder::<Base64>::new_wrapped(text, width) {
+        Ok(mut d) => assert!(rt;
+            d.decode_to_end(&mut v).err() == Some(DecodeVecError::InvalidEncoding)
+        ),
+        Err(e) => assert!(rt; e == Error::InvalidEncoding),
+    }
+    assert!(rt; v.is_empty());
+}
+
+#[test]
+fn long_texts(rt: HostRuntime) -> Result<(), AllocError> {
+    let alloc = rt.alloc();
+    let mut bytes = vec![in alloc; 0u8; 6_000]?;
+    for i in 0..bytes.len() {
+        bytes[i] = (i % 1_000 * 91 % 251) as u8;
+    }
+    let mut text = vec![in alloc; 0u8; 12_000]?;
+    let mut room = vec![in alloc; 0u8; 12_000]?;
+    // How many bytes, the width and the ending of lines, how many bytes a call, and the place of a bad character.
+    let rows: [(usize, usize, LineEnding, usize, usize); 10] = [
+        (600, 4, LineEnding::LF, 193, 0),
+        (601, 64, LineEnding::CRLF, 600, 3),
+        (1_000, 65, LineEnding::CR, 257, 700),
+        (2_000, 76, LineEnding::CRLF, 1_999, 1_000),
+        (2_999, 77, LineEnding::LF, 500, 77),
+        (3_000, 1_000, LineEnding::CR, 1_500, 1_000),
+        (4_001, 7, LineEnding::CRLF, 4_000, 4_444),
+        (5_000, 4_096, LineEnding::LF, 3_333, 5_000),
+        (5_999, 5, LineEnding::CR, 256, 7_000),
+        (6_000, 100_000, LineEnding::LF, 4_000, 7_990),
+    ];
+    for (count, width, ending, step, bad) in rows {
+        let bytes = &bytes[..count];
+        let len = write_lines(&rt, bytes, width, ending.as_bytes(), &mut text);
+        assert!(&rt; len <= text.len() && bad < len);
+        fed_in_steps(&rt, bytes, width, ending, step, &text[..len], &mut room);
+        read_in_steps(&rt, bytes, width, step, &text[..len], &mut room);
+        text[bad] = b'*';
+        refused_whole(&rt, alloc, &text[..len], width);
+    }
+    Ok(())
+}
+
 #[test]
 fn laws_of_runs() {
-    crate::laws::encoded_in_parts();
-    crate::laws::opened_in_lines::<Base64>();
-    crate::laws::decoded_in_parts::<Base64>();
-    crate::laws::decoded_to_end::<Base64>();
-    crate::laws::decoding_tells();
+    base64ct::laws::encoded_in_parts();
+    base64ct::laws::opened_in_lines::<Base64>();
+    base64ct::laws::decoded_in_parts::<Base64>();
+    base64ct::laws::decoded_to_end::<Base64>();
+    base64ct::laws::decoding_tells();
 }
