@@ -128,7 +128,7 @@ fn refusals(rt: HostRuntime) {
 #[test]
 fn laws_are_calls(_rt: HostRuntime) {
     laws::own_pairs();
-    laws::fresh_matches();
+    laws::upgraded_matches();
     laws::listed_again();
 }
 

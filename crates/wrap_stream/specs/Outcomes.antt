@@ -37,7 +37,7 @@ pub record UnwrapOutcome (w status max : ℕ) (held taken added : List ℕ) : Ty
       × IsPrefix added bytes
   -- 6: the source holds more than `max` bytes; the front of the first of these is written
   pub budget : status ≡ 6 → (max < length held) × IsFront w (take max held) added
-  -- 7: the first `max` bytes are the beginning of no wrapped encoding, or all was taken and is none
+  -- 7: what was taken, or its first `max` bytes, is the beginning of no wrapped encoding; or all was taken and is none
   pub bad_text : status ≡ 7 → IsFront w taken added
       × ((BeginsWrapped w (take max taken) → ⊥)
       ⊎ ((length held ≤ max) × (taken ≡ held) × (held ≢ []) × NotWrapped w held))

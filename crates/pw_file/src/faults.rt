@@ -1,4 +1,4 @@
-//! What `check` answers, by the answer of the crate below.
+//! Why there is no verdict, with want of memory told apart from the faults of a stored text.
 
 ghost use Rattle.std.specs.Prelude.{◌≡◌};
 ghost use Rattle.pw_file.specs.Answers.{checked, stored_fault};

@@ -1,9 +1,9 @@
 use Rattle.std.proofs.Common.{rules, ◌≡◌, ◌^◌}
 use Rattle.std.specs.Prelude.{string_bytes}
 use Rattle.scrypt_plain.specs.Scrypt.{scrypt}
-use Rattle.pw_file.proofs.Fresh.{fresh_short}
+use Rattle.pw_file.proofs.UpgradedTexts.{fresh_short}
 use Rattle.pw_file.proofs.TableAnswers.{fresh_text}
-use Rattle.pw_file.proofs.table.fresh.Goals as goal
+use Rattle.pw_file.proofs.table.upgraded_text.Goals as goal
 
 pub returns : goal.returns
 returns c =
