@@ -23,8 +23,8 @@ use Rattle.pwcheck_c.proofs.ScryptTexts.{scrypt_verdict}
 sha_verdict_on : (family : Family) (password salt : List ℕ) (rounds : ℕ) → IsTaken password salt rounds
     → verdict accepted key password (made_text family password salt rounds) ≡ as_verdict true
 sha_verdict_on family password salt rounds taken =
-    let plain = plain_salt salt taken.salt in
-    let made = sha_made accepted key family password salt rounds taken.least taken.most (salt_for_text salt taken.salt)
+    let plain = plain_salt salt taken.good in
+    let made = sha_made accepted key family password salt rounds taken.least taken.most (salt_for_text salt taken.good)
     plain.0 plain.1 in
     made.1 password taken.fits ∙ ap as_verdict made.2
 
@@ -34,7 +34,7 @@ sha256_matches password salt rounds is =
     family_match sha256_answer password (sha256_text password salt rounds) taken.short taken.text
     (text_of_verdict password (sha256_text password salt rounds) true taken.fits
     (sha_verdict_on Sha256 password salt rounds taken))
-    (made_answer Sha256 password salt rounds taken.least taken.most (salt_for_text salt taken.salt))
+    (made_answer Sha256 password salt rounds taken.least taken.most (salt_for_text salt taken.good))
 
 pub sha512_matches : Sha512Matches
 sha512_matches password salt rounds is =
@@ -42,7 +42,7 @@ sha512_matches password salt rounds is =
     family_match sha512_answer password (sha512_text password salt rounds) taken.short taken.text
     (text_of_verdict password (sha512_text password salt rounds) true taken.fits
     (sha_verdict_on Sha512 password salt rounds taken))
-    (made_answer Sha512 password salt rounds taken.least taken.most (salt_for_text salt taken.salt))
+    (made_answer Sha512 password salt rounds taken.least taken.most (salt_for_text salt taken.good))
 
 pub sha_matches : ShaMatches
 sha_matches family password salt rounds is =

@@ -56,7 +56,7 @@ pub record IsTaken (password salt : List ℕ) (rounds : ℕ) : Type 0 where
   pub short : is_password password ≡ true
   pub fits : length password ≤ 4096
   pub text : is_utf8 password ≡ true
-  pub salt : is_salt salt ≡ true
+  pub good : is_salt salt ≡ true
 
 pub taken_parts : (password salt : List ℕ) (rounds : ℕ) → text_takes password salt rounds ≡ true
     → IsTaken password salt rounds
@@ -72,7 +72,7 @@ taken_parts password salt rounds is =
       short = one.0;
       fits = grind (arith, nat_tests, one.0);
       text = first.1;
-      salt = parts.1;
+      good = parts.1;
     }
 
 -- parameters that are made with these rounds have them
