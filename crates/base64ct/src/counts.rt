@@ -12,7 +12,7 @@ use crate::{CodeTable, Encoding, Error, Shape, decode_with_into};
 use std::marker::{Model, PhantomData};
 use subtle::{Choice, Counting, SameByte, eq_with};
 
-/// Decodes as [`decode_with_into`], and gives the bytes at the front of `dst`.
+/// Decodes as [`decode_with_into`], and gives the bytes. What `dst` holds then is told by the clauses of that twin alone.
 pub fn decode_with<'d, T: CodeTable, C: SameByte>(
     table: &mut T,
     cmp: &mut C,
@@ -174,7 +174,8 @@ impl Counts {
         answer
     }
 
-    /// Decodes as [`Encoding::decode`] of `E`, by [`decode_with`] with a table and a test of its own.
+    /// Answers as [`Encoding::decode`] of `E`, by [`decode_with`] with a table and a test of its own. No clause tells what
+    /// `dst` holds then.
     pub fn decode<'d, E: Encoding>(
         &mut self,
         src: &[u8],

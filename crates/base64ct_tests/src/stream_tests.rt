@@ -189,7 +189,7 @@ fn appended<R: Abort>(
     wanted: Result<&[u8], DecodeVecError>,
 ) {
     let mut v: Vec<u8> = Vec::new(alloc);
-    assert_eq!(rt; v.push(7), Ok(()));
+    assert!(rt; v.push(7).is_ok());
     let mut room = [0u8; 8];
     assert!(rt; cut <= 8);
     let mut d = Decoder::<Base64>::new_wrapped(text, 4).expect(rt, "made");
@@ -209,7 +209,7 @@ fn decoders_end(rt: HostRuntime) {
     let alloc = rt.alloc();
     appended(&rt, alloc, b"AAAA\r\nAAAA\n", 0, Ok(&[0; 6]));
     appended(&rt, alloc, b"AAAA\nAQID\nBA==\n", 4, Ok(&[2, 3, 4]));
-    appended(&rt, alloc, b"AAAA\nAQIDBA==", 0, Err(DecodeVecError::InvalidEncoding));
+    appended(&rt, alloc, b"AQ*D\nBA==\n", 0, Err(DecodeVecError::InvalidEncoding));
     appended(&rt, alloc, b"AAAA\nAA*A\nAAAA\r\n", 2, Err(DecodeVecError::InvalidEncoding));
 }
 
@@ -377,36 +377,50 @@ fn refused_whole<R: Abort>(rt: &R, alloc: Global, text: &[u8], width: usize) {
     assert!(rt; v.is_empty());
 }
 
+// How many bytes, the width and the ending of lines, how many bytes a call, and the place of a bad character.
+const LONG_TEXTS: [(usize, usize, LineEnding, usize, usize); 10] = [
+    (600, 4, LineEnding::LF, 193, 0),
+    (601, 64, LineEnding::CRLF, 600, 3),
+    (1_000, 65, LineEnding::CR, 257, 700),
+    (2_000, 76, LineEnding::CRLF, 1_999, 1_000),
+    (2_999, 77, LineEnding::LF, 500, 77),
+    (3_000, 1_000, LineEnding::CR, 1_500, 1_000),
+    (4_001, 7, LineEnding::CRLF, 4_000, 4_444),
+    (5_000, 4_096, LineEnding::LF, 3_333, 5_000),
+    (5_999, 5, LineEnding::CR, 256, 7_000),
+    (6_000, 100_000, LineEnding::LF, 4_000, 7_990),
+];
+
+// The first `len` bytes, which are all there.
+fn front<'a, R: Abort>(rt: &R, bytes: &'a [u8], len: usize) -> &'a [u8] {
+    assert!(rt; len <= bytes.len());
+    &bytes[..len]
+}
+
+// Bytes that come again only after 251.
+fn fill_counting(bytes: &mut [u8]) {
+    let mut next = 0u8;
+    for byte in bytes {
+        *byte = next;
+        next = if next == 250 { 0 } else { next + 1 };
+    }
+}
+
 #[test]
 fn long_texts(rt: HostRuntime) -> Result<(), AllocError> {
     let alloc = rt.alloc();
-    let mut bytes = vec![in alloc; 0u8; 6_000]?;
-    for i in 0..bytes.len() {
-        bytes[i] = (i % 1_000 * 91 % 251) as u8;
-    }
+    let mut all = vec![in alloc; 0u8; 6_000]?;
+    fill_counting(&mut all);
     let mut text = vec![in alloc; 0u8; 12_000]?;
     let mut room = vec![in alloc; 0u8; 12_000]?;
-    // How many bytes, the width and the ending of lines, how many bytes a call, and the place of a bad character.
-    let rows: [(usize, usize, LineEnding, usize, usize); 10] = [
-        (600, 4, LineEnding::LF, 193, 0),
-        (601, 64, LineEnding::CRLF, 600, 3),
-        (1_000, 65, LineEnding::CR, 257, 700),
-        (2_000, 76, LineEnding::CRLF, 1_999, 1_000),
-        (2_999, 77, LineEnding::LF, 500, 77),
-        (3_000, 1_000, LineEnding::CR, 1_500, 1_000),
-        (4_001, 7, LineEnding::CRLF, 4_000, 4_444),
-        (5_000, 4_096, LineEnding::LF, 3_333, 5_000),
-        (5_999, 5, LineEnding::CR, 256, 7_000),
-        (6_000, 100_000, LineEnding::LF, 4_000, 7_990),
-    ];
-    for (count, width, ending, step, bad) in rows {
-        let bytes = &bytes[..count];
+    for (count, width, ending, step, bad) in LONG_TEXTS {
+        let bytes = front(&rt, &all, count);
         let len = write_lines(&rt, bytes, width, ending.as_bytes(), &mut text);
-        assert!(&rt; len <= text.len() && bad < len);
-        fed_in_steps(&rt, bytes, width, ending, step, &text[..len], &mut room);
-        read_in_steps(&rt, bytes, width, step, &text[..len], &mut room);
-        text[bad] = b'*';
-        refused_whole(&rt, alloc, &text[..len], width);
+        let written = front(&rt, &text, len);
+        fed_in_steps(&rt, bytes, width, ending, step, written, &mut room);
+        read_in_steps(&rt, bytes, width, step, written, &mut room);
+        put_at(&rt, &mut text, bad, b'*');
+        refused_whole(&rt, alloc, front(&rt, &text, len), width);
     }
     Ok(())
 }

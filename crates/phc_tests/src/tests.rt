@@ -1,6 +1,6 @@
 //! Records: rows that say what is refused, texts from outside, and one call of each kind.
 
-use crate::{
+use phc::{
     Error, Ident, Output, ParamsString, PasswordHash, PasswordHashString, PhcStringError, Salt,
     laws,
 };

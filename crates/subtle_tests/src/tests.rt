@@ -1,7 +1,7 @@
 //! Worked values, and each call once, the generic ones through their bounds.
 ghost use Rattle.std.specs.Prelude.{◌≡◌};
 
-use crate::{
+use subtle::{
     BlackBox, Choice, ConditionallyNegatable, ConditionallySelectable, ConstantTimeEq,
     ConstantTimeGreater, ConstantTimeLess, Counting, CtOption, SameByte, ct_eq_slices, eq_with,
     laws,

@@ -2,7 +2,7 @@
 
 ghost use Rattle.std.specs.Prelude.{[], ◌∷◌, true};
 
-use crate::{
+use mcf::{
     Base64, DELIMITER, Error, Field, FieldText, PasswordHash, PasswordHashRef, ShowFailed, laws,
 };
 use base64ct::DecodeVecError;

@@ -1,7 +1,7 @@
 //! Values, parameters, salts and outputs: rows that say what is refused, texts from outside, and one call of
 //! each kind.
 
-use crate::{Error, Ident, Output, ParamsString, Salt, SaltString, TryFill, Value};
+use phc::{Error, Ident, Output, ParamsString, Salt, SaltString, TryFill, Value};
 use rand_chacha::ChaCha20Rng;
 use rand_core::SeedableRng;
 use std::alloc::AllocError;
