@@ -183,29 +183,29 @@ const PHC_CAUSES: [(&str, &str, usize, &str, &str); 15] = [
 ];
 
 // An input of `check --count`, the output and the status. Each line has fresh counts.
-const COUNTED: [(&[u8], &str, u8); 5] = [
+const COUNTED: [(&str, &str, u8); 5] = [
     (
-        TWO_LINES.as_bytes(),
+        TWO_LINES,
         "match looks=44 sames=36\nmismatch looks=44 sames=36\n",
         1,
     ),
     (
-        b"Hello world!\t$5$saltstring$5B8vYYiY.CVt1RlTTf8KbXBH3hsxY/GNooZaBBGWEc5\n",
+        "Hello world!\t$5$saltstring$5B8vYYiY.CVt1RlTTf8KbXBH3hsxY/GNooZaBBGWEc5\n",
         "match looks=44 sames=36\n",
         0,
     ),
     (
-        b"Hello world!\t$5$saltstring$5B8vYYiY.CVt1RlTTf8KbXBH3hsxY/GNooZaBBGWEcL\n",
+        "Hello world!\t$5$saltstring$5B8vYYiY.CVt1RlTTf8KbXBH3hsxY/GNooZaBBGWEcL\n",
         "sha-format\n",
         1,
     ),
     (
-        b"Hello world!\t$6$saltstring$svn8UoSVapNtMuq1ukKS4tPQd8iKwSMHWjl/O817G3uBnIFNjnQJuesI68u4OTLiBFdcbYEdFCoEOfaS35inz1\n",
+        "Hello world!\t$6$saltstring$svn8UoSVapNtMuq1ukKS4tPQd8iKwSMHWjl/O817G3uBnIFNjnQJuesI68u4OTLiBFdcbYEdFCoEOfaS35inz1\n",
         "match looks=88 sames=68\n",
         0,
     ),
     (
-        b"password\t$scrypt$ln=16,r=8,p=1$aM15713r3Xsvxbi31lqr1Q$nFNh2CVHVjNldFVKDHDlm4CbdRSCdEBsjjJxD+iCs5E\nx\n",
+        "password\t$scrypt$ln=16,r=8,p=1$aM15713r3Xsvxbi31lqr1Q$nFNh2CVHVjNldFVKDHDlm4CbdRSCdEBsjjJxD+iCs5E\nx\n",
         "match looks=68 sames=40\nbadline\n",
         1,
     ),
@@ -342,6 +342,7 @@ fn causes_of_phc_texts(rt: HostRuntime) -> Result<(), Fail> {
 fn lines_and_their_counts(rt: HostRuntime) -> Result<(), Fail> {
     let words = words(rt.alloc(), &["check", "--count"])?;
     for (input, output, status) in COUNTED {
+        let input = input.as_bytes();
         let got = run_over(&rt, rt.alloc(), &words, input, ONE_CALL, output.as_bytes());
         assert_eq!(rt; got, status, "{output:?}");
     }
