@@ -1,5 +1,5 @@
 -- What decoding by a table and a test answers, over plain lists.
-use Rattle.std.proofs.Common.{◌≡◌, ◌≢◌, ℕ, ◌-◌, ◌*◌, ◌/◌, ◌%◌, ◌==◌, ◌<◌, ◌≤◌, Bool, true, false, cond, not, ◌&&◌}
+use Rattle.std.proofs.Common.{◌≡◌, ◌≢◌, ℕ, ◌-◌, ◌*◌, ◌/◌, ◌%◌, ◌==◌, ◌<◌, ◌≤◌, Bool, true, false, cond, not, ◌&&◌, ◌+◌}
 use Rattle.std.proofs.Common.{◌||◌, List, [], ◌∷◌, length, map, take, drop, refl, sym, ap, ◌∙◌, subst, arith, inl, inr}
 use Rattle.std.specs.Cmp.Lexicographic.{pointwise, same_text}
 use Rattle.std.specs.Prelude.{nat_lt}
@@ -12,7 +12,7 @@ use Rattle.base64ct.specs.Encoding.{Reads, IsLenient}
 use Rattle.base64ct.specs.Tables.{shaped, stem, filled, last_four, compared, reencoded, Passes}
 use Rattle.base64ct.specs.Answers.{IsNoEncoding}
 use Rattle.base64ct.specs.declared.tables.Shape.{Shape}
-use Rattle.base64ct.specs.Counts.{is_refused, comparison_count}
+use Rattle.base64ct.specs.Counts.{is_refused, comparison_count, spell_count}
 use Rattle.base64ct.proofs.Values.{value_at, map-value-character}
 use Rattle.base64ct.proofs.Encodings.{stem-text, below-drop, below-take}
 use Rattle.base64ct.proofs.Unpadded.{length-unpadded, unpadded-nil}
@@ -65,6 +65,17 @@ comparisons a t count n room e en within ok =
       | inr some ↦ ne_eqb (length t) 0 (λ none. some (omega arith)) ∙ sym (ne_eqb (length s) 0 some)
     ] in
     rw (not_refused a t room ok fits, same) refl
+
+pub asked_characters : (a : Alphabet) (t : List ℕ) (count n room : ℕ) → count ≡ padding_len a t
+    → n ≡ byte_count (length (take (length t - count) t)) → n ≤ room → (IsMisaligned a t → ⊥)
+    → spell_count a t room ≡ 1 + four_unless (length (take (length t - count) t) == 0)
+asked_characters a t count n room e en within ok =
+    let s : List ℕ = take (length t - count) t in
+    let len : length s ≡ length t - padding_len a t =
+    length-take-le (length t - count) t (omega arith) ∙ rw e refl in
+    let fits : decoded_len a t ≤ room = subst (λ (m : ℕ). m ≤ room) (en ∙ ap byte_count len) within in
+    let known = not_refused a t room ok fits in
+    rw known (ap (λ (m : ℕ). 1 + m) (rw known at (comparisons a t count n room e en within ok)))
 
 -- ---- the answer
 

@@ -20,7 +20,7 @@ use Rattle.base64ct.specs.Decoders.{Ahead, FirstRead, Keeps, Standing, Filling}
 use Rattle.base64ct.proofs.Wrapping.{length-put_mid}
 use Rattle.base64ct.specs.Encoding.{EachBelow, encoding}
 use Rattle.base64ct.proofs.Encodings.{decoded-encoding, below-take}
-use Rattle.base64ct.specs.Wrapping.{characters_from, before}
+use Rattle.base64ct.specs.Wrapping.{characters_from, put_before}
 use Rattle.base64ct.proofs.Layouts.{line_taken}
 use Rattle.base64ct.proofs.Taken.{before-before, before-nil}
 use Rattle.base64ct.proofs.Firsts.{decoded_more, decoded_last, decoded_nil, last_is, last_more, text_nil, count_four}
@@ -315,7 +315,7 @@ length_at a t (suc k) h =
 -- the first blocks of a body were passed
 pub record Scanned (w : ℕ) (body : List ℕ) (at room k : ℕ) : Type 0 where
   pub front : List ℕ
-  pub text : characters_from w w body ≡ before front (characters_from w room (drop at body))
+  pub text : characters_from w w body ≡ put_before front (characters_from w room (drop at body))
   pub count : length front ≡ 4 * k
 
 pub scanned_none : (w : ℕ) (body : List ℕ) → Scanned w body 0 w 0
@@ -324,7 +324,7 @@ scanned_none w body = record { front = []; text = sym (before-nil (characters_fr
 pub scanned_moved : {w : ℕ} {body : List ℕ} {at room k : ℕ} → Scanned w body at room k → (start space : ℕ)
     → characters_from w space (drop start body) ≡ characters_from w room (drop at body) → Scanned w body start space k
 scanned_moved s start space same =
-    record { front = s.front; text = s.text ∙ ap (λ o. before s.front o) (sym same); count = s.count }
+    record { front = s.front; text = s.text ∙ ap (λ o. put_before s.front o) (sym same); count = s.count }
 
 pub scanned_blocks : {w : ℕ} {body : List ℕ} {at room k : ℕ} → Scanned w body at room k → (n : ℕ) → 4 * n ≤ room
     → at + 4 * n ≤ length body → Scanned w body (at + 4 * n) (room - 4 * n) (k + n)
@@ -335,10 +335,10 @@ scanned_blocks {w} {body} {at} {room} {k} s n fits within =
     sym (ap (λ (l : List ℕ). line ++ l) (sym (drop-drop (4 * n) at body))
     ∙ take-append-drop (4 * n) (drop at body)) in
     let taken : characters_from w room (drop at body)
-    ≡ before line (characters_from w (room - 4 * n) (drop (at + 4 * n) body)) =
+    ≡ put_before line (characters_from w (room - 4 * n) (drop (at + 4 * n) body)) =
     ap (λ (l : List ℕ). characters_from w room l) parts
     ∙ line_taken w room line (drop (at + 4 * n) body) (omega (arith, ll))
-    ∙ ap (λ m. before line (characters_from w (room - m) (drop (at + 4 * n) body))) ll in
+    ∙ ap (λ m. put_before line (characters_from w (room - m) (drop (at + 4 * n) body))) ll in
     record {
       front = s.front ++ line;
       text = s.text ∙ rw taken (before-before s.front line _);
@@ -347,7 +347,7 @@ scanned_blocks {w} {body} {at} {room} {k} s n fits within =
 
 pub scanned_more : {w : ℕ} {body : List ℕ} {at room k : ℕ} → Scanned w body at room k → (block : List ℕ)
     (next left n : ℕ)
-    → characters_from w room (drop at body) ≡ before (take n block) (characters_from w left (drop next body))
+    → characters_from w room (drop at body) ≡ put_before (take n block) (characters_from w left (drop next body))
     → length block ≡ 4 → n ≤ 4 → (n < 4 → next ≡ length body) → next < length body → Scanned w body next left (k + 1)
 scanned_more {w} {body} s block next left n is four few short more =
     let all : length (take n block) ≡ 4 =
@@ -363,7 +363,7 @@ pub scanned_bad : {w : ℕ} {body : List ℕ} {at room k : ℕ} → Scanned w bo
 scanned_bad s t none is = none-some t (sym (s.text ∙ rw none refl) ∙ is)
 
 scanned_end : (w : ℕ) (body block : List ℕ) (at room k next left : ℕ) → Scanned w body at room k
-    → characters_from w room (drop at body) ≡ before block (characters_from w left (drop next body))
+    → characters_from w room (drop at body) ≡ put_before block (characters_from w left (drop next body))
     → next ≡ length body
     → (t : List ℕ) × (characters_from w w body ≡ Some t) × (drop (4 * k) t ≡ block) × (length t ≡ 4 * k + length block)
 scanned_end w body block at room k next left s is end =
@@ -377,7 +377,7 @@ scanned_end w body block at room k next left s is end =
 
 pub measured_bad : (a : Alphabet) {w : ℕ} {body : List ℕ} {at room k : ℕ} → Scanned w body at room k
     → (block : List ℕ) (next left : ℕ) (t : List ℕ)
-    → characters_from w room (drop at body) ≡ before block (characters_from w left (drop next body))
+    → characters_from w room (drop at body) ≡ put_before block (characters_from w left (drop next body))
     → next ≡ length body
     → 0 < length block → length block ≤ 4 → (IsEncoding a block → ⊥) → characters_from w w body ≡ Some t
     → IsEncoding a (last_block t) → ⊥
@@ -390,7 +390,7 @@ measured_bad a {w} {body} {at} {room} {k} s block next left t is end some few ba
 
 pub measured : (a : Alphabet) {w : ℕ} {body : List ℕ} {at room k : ℕ} → Scanned w body at room k
     → (block bytes : List ℕ) (next left n : ℕ) → is_alphabet a ≡ true
-    → characters_from w room (drop at body) ≡ before block (characters_from w left (drop next body))
+    → characters_from w room (drop at body) ≡ put_before block (characters_from w left (drop next body))
     → next ≡ length body
     → 0 < length block → length block ≤ 4 → length bytes ≡ 3 → n ≤ 3 → EachBelow 256 bytes
     → block ≡ encoding a (take n bytes)

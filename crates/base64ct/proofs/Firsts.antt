@@ -11,12 +11,12 @@ use Rattle.base64ct.specs.Blocks.{blocks, IsEncoding}
 use Rattle.base64ct.proofs.Unpadded.{bytes-unpadded}
 use Rattle.base64ct.proofs.Encodings.{decoded-encoding, below-take}
 use Rattle.base64ct.proofs.Padding.{length-encoding, padding_count}
-use Rattle.base64ct.specs.Wrapping.{characters_from, before}
+use Rattle.base64ct.specs.Wrapping.{characters_from, put_before}
 use Rattle.base64ct.specs.Blocks.{block_bytes}
 use Rattle.base64ct.specs.Blocks.{four_bytes, bytes_of_blocks, decoded, last_block}
 use Rattle.base64ct.specs.Decoders.{Ahead, FirstRead}
 
-pub before_some : (xs s : List ℕ) (o : Option (List ℕ)) → before xs o ≡ Some s
+pub before_some : (xs s : List ℕ) (o : Option (List ℕ)) → put_before xs o ≡ Some s
     → (t : List ℕ) × (o ≡ Some t) × (s ≡ xs ++ t)
 before_some xs s None e = absurd (none-some s e)
 before_some xs s (Some t) e = (t, refl, sym (same_Some (xs ++ t) s e))
@@ -26,7 +26,7 @@ unfolding characters_from
 text_nil w zero = refl
 text_nil w (suc room) = refl
 
-some_before : (x : ℕ) (s : List ℕ) (o : Option (List ℕ)) → before (x ∷ []) o ≡ Some s → 0 < length s
+some_before : (x : ℕ) (s : List ℕ) (o : Option (List ℕ)) → put_before (x ∷ []) o ≡ Some s → 0 < length s
 some_before x s o e = let parts = before_some (x ∷ []) s o e in omega (arith, ap length parts.2)
 
 pub some_text : (w room : ℕ) (body s : List ℕ) → characters_from w room body ≡ Some s → 0 < length body → 0 < length s
@@ -51,7 +51,7 @@ some_text w zero (c ∷ d ∷ f ∷ rest) s e some = elim (cases_Bool ((c == 13)
 
 -- four characters are taken, and more stand behind them
 pub first_four : (w : ℕ) (body block s : List ℕ) (at room next left : ℕ) → Ahead w body at room s
-    → characters_from w room (drop at body) ≡ before block (characters_from w left (drop next body))
+    → characters_from w room (drop at body) ≡ put_before block (characters_from w left (drop next body))
     → length block ≡ 4 → next < length body → (4 < length s) × (take 4 s ≡ block) × Ahead w body next left (drop 4 s)
 first_four w body block s at room next left r is four more =
     let parts = before_some block s (characters_from w left (drop next body)) (sym is ∙ r.0) in
@@ -69,7 +69,7 @@ first_four w body block s at room next left r is four more =
 
 -- the last characters are taken
 pub first_last : (w : ℕ) (body block s : List ℕ) (at room next left : ℕ) → Ahead w body at room s
-    → characters_from w room (drop at body) ≡ before block (characters_from w left (drop next body))
+    → characters_from w room (drop at body) ≡ put_before block (characters_from w left (drop next body))
     → length block ≤ 4 → next ≡ length body → (s ≡ block) × (length s ≤ 4) × Ahead w body next left (drop 4 s)
 first_last w body block s at room next left r is four end =
     let none : drop next body ≡ [] = drop_all next body (omega arith) in
@@ -119,7 +119,7 @@ decoded_nil a = refl
 
 pub four_read : (a : Alphabet) (w : ℕ) (body block s bytes : List ℕ) (at room next left : ℕ) → is_alphabet a ≡ true
     → Ahead w body at room s
-    → characters_from w room (drop at body) ≡ before block (characters_from w left (drop next body)) → length block ≡ 4
+    → characters_from w room (drop at body) ≡ put_before block (characters_from w left (drop next body)) → length block ≡ 4
     → next < length body
     → AreCharacters a block → length bytes ≡ 3 → EachBelow 256 bytes → unpadded_encoding a bytes ≡ block
     → FirstRead a w body s bytes 3 next left
@@ -138,7 +138,7 @@ four_read a w body block s bytes at room next left lawful r is four more good th
 
 pub last_read : (a : Alphabet) (w : ℕ) (body block s bytes : List ℕ) (at room next left n : ℕ) → is_alphabet a ≡ true
     → Ahead w body at room s → 0 < length s
-    → characters_from w room (drop at body) ≡ before block (characters_from w left (drop next body)) → length block ≤ 4
+    → characters_from w room (drop at body) ≡ put_before block (characters_from w left (drop next body)) → length block ≤ 4
     → next ≡ length body
     → length bytes ≡ 3 → n ≤ 3 → EachBelow 256 bytes → block ≡ encoding a (take n bytes)
     → FirstRead a w body s bytes n next left
@@ -185,7 +185,7 @@ count_four n next len few short more =
     elim (cases_lt n 4) [ inl lt ↦ absurd (omega (arith, short lt)) | inr ge ↦ omega arith ]
 
 pub fault_read : (a : Alphabet) (w : ℕ) (body block s : List ℕ) (at room next left n : ℕ) → Ahead w body at room s
-    → characters_from w room (drop at body) ≡ before (take n block) (characters_from w left (drop next body))
+    → characters_from w room (drop at body) ≡ put_before (take n block) (characters_from w left (drop next body))
     → length block ≡ 4 → n ≤ 4 → (n < 4 → next ≡ length body) → next < length body → (AreCharacters a (items block) → ⊥)
     → (4 < length s) × (AreCharacters a (take 4 s) → ⊥)
 fault_read a w body block s at room next left n r is four few short more bad =
@@ -195,7 +195,7 @@ fault_read a w body block s at room next left n r is four few short more bad =
 
 pub good_read : (a : Alphabet) (w : ℕ) (body block s bytes : List ℕ) (at room next left n : ℕ) → is_alphabet a ≡ true
     → Ahead w body at room s
-    → characters_from w room (drop at body) ≡ before (take n block) (characters_from w left (drop next body))
+    → characters_from w room (drop at body) ≡ put_before (take n block) (characters_from w left (drop next body))
     → length block ≡ 4 → n ≤ 4 → (n < 4 → next ≡ length body) → next < length body → AreCharacters a (items block)
     → length bytes ≡ 3 → EachBelow 256 bytes → unpadded_encoding a bytes ≡ items block
     → FirstRead a w body s bytes 3 next left
@@ -214,7 +214,7 @@ last_more s h =
     rw next (sym (drop-drop (4 * ((length (drop 4 s) - 1) / 4)) 4 s))
 
 pub last_refused : (a : Alphabet) (w : ℕ) (body block s : List ℕ) (at room next left : ℕ) → Ahead w body at room s
-    → characters_from w room (drop at body) ≡ before block (characters_from w left (drop next body))
+    → characters_from w room (drop at body) ≡ put_before block (characters_from w left (drop next body))
     → length block ≤ 4 → next ≡ length body → IsEncoding a (last_block s) → (IsEncoding a block → ⊥) → ⊥
 last_refused a w body block s at room next left r is four end spelled bad =
     let f = first_last w body block s at room next left r is four end in

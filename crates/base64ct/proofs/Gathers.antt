@@ -10,7 +10,7 @@ use borrow.Rule.Slice.PartMut.{put_mid}
 use Rattle.base64ct.specs.Encoding.{Alphabet, is_alphabet, unpadded_encoding, EachBelow, AreCharacters}
 use Rattle.base64ct.specs.Encoding.{byte_count}
 use Rattle.base64ct.specs.Blocks.{decoded, AskedAreGood}
-use Rattle.base64ct.specs.Wrapping.{characters_from, before}
+use Rattle.base64ct.specs.Wrapping.{characters_from, put_before}
 use Rattle.base64ct.specs.Decoders.{Standing}
 use Rattle.base64ct.proofs.Encodings.{below-take, below-drop}
 use Rattle.base64ct.proofs.Unpadded.{unpadded-append, length-unpadded}
@@ -25,31 +25,31 @@ use Rattle.base64ct.proofs.Strides.{read_at_once, bytes_at_once}
 -- ---- characters that are taken
 
 pub gathered_more : (w : ℕ) (body buffer ys : List ℕ) (at room place left start space count m n : ℕ)
-    → characters_from w room (drop at body) ≡ before (take count buffer) (characters_from w left (drop place body))
+    → characters_from w room (drop at body) ≡ put_before (take count buffer) (characters_from w left (drop place body))
     → characters_from w space (drop start body) ≡ characters_from w left (drop place body) → n ≤ space
     → start + n ≤ length body → m ≡ n → count + n ≤ length buffer → ys ≡ take n (drop start body)
     → characters_from w room (drop at body)
-    ≡ before (take (count + n) (put_mid count m buffer ys)) (characters_from w (space - n) (drop (start + n) body))
+    ≡ put_before (take (count + n) (put_mid count m buffer ys)) (characters_from w (space - n) (drop (start + n) body))
 gathered_more w body buffer ys at room place left start space count m n text same fits within em some is =
     let line : List ℕ = take n (drop start body) in
     let rest : List ℕ = drop (start + n) body in
     let ll : length line ≡ n = length-take-le n (drop start body) (omega (arith, length-drop start body)) in
     let parts : drop start body ≡ line ++ rest =
     sym (take-append-drop n (drop start body)) ∙ ap (λ (l : List ℕ). line ++ l) (drop-drop n start body) in
-    let taken : characters_from w space (drop start body) ≡ before line (characters_from w (space - n) rest) =
+    let taken : characters_from w space (drop start body) ≡ put_before line (characters_from w (space - n) rest) =
     ap (λ (l : List ℕ). characters_from w space l) parts ∙ line_taken w space line rest (omega (arith, ll))
-    ∙ ap (λ (k : ℕ). before line (characters_from w (space - k) rest)) ll in
+    ∙ ap (λ (k : ℕ). put_before line (characters_from w (space - k) rest)) ll in
     let new : take (count + n) (put_mid count m buffer ys) ≡ take count buffer ++ line =
     take-put_mid count m buffer ys (count + n) (omega (arith, ap length is, ll)) (omega arith)
     ∙ ap (λ (l : List ℕ). take count buffer ++ l) is in
-    text ∙ ap (λ o. before (take count buffer) o) (sym same ∙ taken)
+    text ∙ ap (λ o. put_before (take count buffer) o) (sym same ∙ taken)
     ∙ before-before (take count buffer) line (characters_from w (space - n) rest)
-    ∙ ap (λ (l : List ℕ). before l (characters_from w (space - n) rest)) (sym new)
+    ∙ ap (λ (l : List ℕ). put_before l (characters_from w (space - n) rest)) (sym new)
 
 pub gathered_first : (w : ℕ) (body buffer ys : List ℕ) (at room n : ℕ) → n ≤ room → at + n ≤ length body
     → ys ≡ take n (drop at body)
     → characters_from w room (drop at body)
-    ≡ before (take n (ys ++ drop n buffer)) (characters_from w (room - n) (drop (at + n) body))
+    ≡ put_before (take n (ys ++ drop n buffer)) (characters_from w (room - n) (drop (at + n) body))
 gathered_first w body buffer ys at room n fits within is =
     let line : List ℕ = take n (drop at body) in
     let rest : List ℕ = drop (at + n) body in
@@ -58,11 +58,11 @@ gathered_first w body buffer ys at room n fits within is =
     sym (take-append-drop n (drop at body)) ∙ ap (λ (l : List ℕ). line ++ l) (drop-drop n at body) in
     let new : take n (ys ++ drop n buffer) ≡ line = take_at ys (drop n buffer) n (ap length is ∙ ll) ∙ is in
     ap (λ (l : List ℕ). characters_from w room l) parts ∙ line_taken w room line rest (omega (arith, ll))
-    ∙ ap (λ (k : ℕ). before line (characters_from w (room - k) rest)) ll
-    ∙ ap (λ (l : List ℕ). before l (characters_from w (room - n) rest)) (sym new)
+    ∙ ap (λ (k : ℕ). put_before line (characters_from w (room - k) rest)) ll
+    ∙ ap (λ (l : List ℕ). put_before l (characters_from w (room - n) rest)) (sym new)
 
 pub gathered_all : (w : ℕ) (body buffer : List ℕ) (at room place left start space count : ℕ) (s : List ℕ)
-    → characters_from w room (drop at body) ≡ before (take count buffer) (characters_from w left (drop place body))
+    → characters_from w room (drop at body) ≡ put_before (take count buffer) (characters_from w left (drop place body))
     → characters_from w space (drop start body) ≡ characters_from w left (drop place body) → start ≤ length body
     → count < length buffer → (start < length body → space ≡ 0)
     → (space ≡ 0 → start < length body → characters_from w 0 (drop start body) ≡ None)
@@ -73,12 +73,12 @@ gathered_all w body buffer at room place left start space count s text same with
           let no_room : space ≡ 0 = full lt in
           let nothing : characters_from w left (drop place body) ≡ None =
           sym same ∙ ap (λ (r : ℕ). characters_from w r (drop start body)) no_room ∙ none no_room lt in
-          absurd (none-some s (sym (text ∙ ap (λ o. before (take count buffer) o) nothing) ∙ is))
+          absurd (none-some s (sym (text ∙ ap (λ o. put_before (take count buffer) o) nothing) ∙ is))
       | inr ge ↦
           let behind : characters_from w left (drop place body) ≡ Some [] =
           sym same ∙ ap (λ (l : List ℕ). characters_from w space l) (drop_all start body ge) ∙ text_nil w space in
           let all : take count buffer ++ [] ≡ s =
-          same_Some (take count buffer ++ []) s (sym (text ∙ ap (λ o. before (take count buffer) o) behind) ∙ is) in
+          same_Some (take count buffer ++ []) s (sym (text ∙ ap (λ o. put_before (take count buffer) o) behind) ∙ is) in
           let few_are = length-take-le count buffer (omega arith) in
           omega (arith, few, ap length all, length-append (take count buffer) [], few_are)
     ]
@@ -87,12 +87,12 @@ gathered_all w body buffer at room place left start space count s text same with
 
 pub blocks_more : (a : Alphabet) (w : ℕ) (body out ys chars : List ℕ) (at room place left next last done m count : ℕ)
     → characters_from w room (drop at body)
-    ≡ before (unpadded_encoding a (take done out)) (characters_from w left (drop place body))
-    → characters_from w left (drop place body) ≡ before chars (characters_from w last (drop next body))
+    ≡ put_before (unpadded_encoding a (take done out)) (characters_from w left (drop place body))
+    → characters_from w left (drop place body) ≡ put_before chars (characters_from w last (drop next body))
     → EachBelow 256 out → done % 3 ≡ 0 → done + count ≤ length out → m ≡ count → length ys ≡ count
     → unpadded_encoding a ys ≡ chars
     → characters_from w room (drop at body)
-    ≡ before (unpadded_encoding a (take (done + count) (put_mid done m out ys)))
+    ≡ put_before (unpadded_encoding a (take (done + count) (put_mid done m out ys)))
     (characters_from w last (drop next body))
 blocks_more a w body out ys chars at room place left next last done m count text more below thirds fits em len is =
     let lt : length (take done out) ≡ done = length-take-le done out (omega arith) in
@@ -103,9 +103,9 @@ blocks_more a w body out ys chars at room place left next last done m count text
     ap (λ (l : List ℕ). unpadded_encoding a l) new
     ∙ unpadded-append a (take done out) ys (below-take 256 done out (omega arith) below) (omega arith)
     ∙ ap (λ (l : List ℕ). unpadded_encoding a (take done out) ++ l) is in
-    text ∙ ap (λ o. before (unpadded_encoding a (take done out)) o) more
+    text ∙ ap (λ o. put_before (unpadded_encoding a (take done out)) o) more
     ∙ before-before (unpadded_encoding a (take done out)) chars (characters_from w last (drop next body))
-    ∙ ap (λ (l : List ℕ). before l (characters_from w last (drop next body))) (sym sum)
+    ∙ ap (λ (l : List ℕ). put_before l (characters_from w last (drop next body))) (sym sum)
 
 -- the text behind the bytes that are read, where it begins with the characters of some bytes
 -- the bytes of whole blocks are those of their characters
@@ -119,7 +119,7 @@ bytes_read a src chars ys count is lc whole ly read =
 
 text_behind : (a : Alphabet) (w : ℕ) (body out : List ℕ) (at room place left done : ℕ) (s : List ℕ)
     → characters_from w room (drop at body)
-    ≡ before (unpadded_encoding a (take done out)) (characters_from w left (drop place body))
+    ≡ put_before (unpadded_encoding a (take done out)) (characters_from w left (drop place body))
     → characters_from w room (drop at body) ≡ Some s
     → (rest : List ℕ) × (characters_from w left (drop place body) ≡ Some rest)
     × (s ≡ unpadded_encoding a (take done out) ++ rest)
@@ -128,7 +128,7 @@ text_behind a w body out at room place left done s text is =
 
 pub blocks_missing : (a : Alphabet) (w : ℕ) (body out bytes s : List ℕ) (at room place left done n : ℕ)
     → characters_from w room (drop at body)
-    ≡ before (unpadded_encoding a (take done out)) (characters_from w left (drop place body)) → EachBelow 256 out
+    ≡ put_before (unpadded_encoding a (take done out)) (characters_from w left (drop place body)) → EachBelow 256 out
     → done % 3 ≡ 0 → length out % 3 ≡ 0 → done ≤ length out → n ≤ 4 * ((length out - done) / 3)
     → ((rest : List ℕ) → characters_from w left (drop place body) ≡ Some rest → length rest < n)
     → EachBelow 256 bytes → length bytes ≡ length out
@@ -149,9 +149,9 @@ blocks_missing a w body out bytes s at room place left done n text front thirds 
 
 pub blocks_bad : (a : Alphabet) (w : ℕ) (body out bytes s chars : List ℕ) (at room place left next last done count : ℕ)
     (r : Bool) → characters_from w room (drop at body)
-    ≡ before (unpadded_encoding a (take done out)) (characters_from w left (drop place body)) → EachBelow 256 out
+    ≡ put_before (unpadded_encoding a (take done out)) (characters_from w left (drop place body)) → EachBelow 256 out
     → done % 3 ≡ 0 → count % 3 ≡ 0 → done + count ≤ length out
-    → characters_from w left (drop place body) ≡ before chars (characters_from w last (drop next body))
+    → characters_from w left (drop place body) ≡ put_before chars (characters_from w last (drop next body))
     → length chars ≡ 4 * (count / 3)
     → r ≡ false → ((read : List ℕ) → EachBelow 256 read → unpadded_encoding a read ≡ chars → r ≡ true)
     → EachBelow 256 bytes → length bytes ≡ length out
@@ -211,7 +211,7 @@ pub record Filled (a : Alphabet) (w : ℕ) (body t kept out : List ℕ) (read at
 pub blocks_filled : (a : Alphabet) (w : ℕ) (body t kept ys : List ℕ) (p place left next room : ℕ) → is_alphabet a ≡ true
     → p % 3 ≡ 0 → length ys % 3 ≡ 0 → p + length ys < length (decoded a t) → Standing a w body t kept place left p
     → EachBelow 256 ys → characters_from w left (drop place body)
-    ≡ before (unpadded_encoding a ys) (characters_from w room (drop next body)) → next ≤ length body
+    ≡ put_before (unpadded_encoding a ys) (characters_from w room (drop next body)) → next ≤ length body
     → Filled a w body t kept ys p next room
 blocks_filled a w body t kept ys p place left next room lawful thirds whole fits stands below text within =
     let k : ℕ = length ys / 3 in
@@ -345,7 +345,7 @@ pub two_filled : (a : Alphabet) (w : ℕ) (body t kept new xs ys : List ℕ) (re
     → AskedAreGood a t read first × (xs ≡ take first (drop read (decoded a t)))
     × Standing a w body t kept place left (read + first) → new ≡ xs ++ ys → EachBelow 256 new
     → characters_from w left (drop place body)
-    ≡ before (unpadded_encoding a ys) (characters_from w room (drop next body)) → next ≤ length body
+    ≡ put_before (unpadded_encoding a ys) (characters_from w room (drop next body)) → next ≤ length body
     → Filled a w body t kept (xs ++ ys) read next room
 two_filled a w body t kept new xs ys read first m place left next room lawful lx ly thirds whole fits f is below text
     within =

@@ -8,7 +8,7 @@ use Rattle.std.proofs.lemmas.Bool.{cases_Bool, eqb-true, and_parts, not-true}
 use Rattle.std.proofs.lemmas.List.{append_assoc, append-nil, length-append}
 use Rattle.std.proofs.lemmas.Option.{same_Some, none-some}
 use Rattle.base64ct.specs.Encoding.{Alphabet, holds_no_ending, character, encoding, padding, groups, equals_sign}
-use Rattle.base64ct.specs.Wrapping.{IsEnding, AreLines, Wrapped, MayEnd, StandsInLines, without_end, before}
+use Rattle.base64ct.specs.Wrapping.{IsEnding, AreLines, Wrapped, MayEnd, StandsInLines, without_end, put_before}
 use Rattle.base64ct.specs.Wrapping.{characters_from, layout}
 use Rattle.base64ct.proofs.Padding.{encoding-is}
 use Rattle.base64ct.proofs.Taken.{before-before, before-nil, ending_one, ending_two}
@@ -129,7 +129,7 @@ without_first f (g ∷ h ∷ rest) cr lf = (without_end (g ∷ h ∷ rest), refl
 -- ---- lines to layout
 
 pub line_taken : (w room : ℕ) (line more : List ℕ) → length line ≤ room
-    → characters_from w room (line ++ more) ≡ before line (characters_from w (room - length line) more)
+    → characters_from w room (line ++ more) ≡ put_before line (characters_from w (room - length line) more)
 unfolding characters_from
 line_taken w room [] more h = let same : room - 0 ≡ room = omega arith in
     rw same (sym (before-nil (characters_from w room more)))

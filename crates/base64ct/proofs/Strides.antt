@@ -9,7 +9,7 @@ use borrow.Rule.Slice.PartMut.{put_mid}
 use Rattle.base64ct.specs.Encoding.{Alphabet, is_alphabet, character, whole_bytes, unpadded_encoding, EachBelow}
 use Rattle.base64ct.specs.Encoding.{AreCharacters}
 use Rattle.base64ct.specs.Blocks.{decoded, four_bytes, AskedAreGood}
-use Rattle.base64ct.specs.Wrapping.{characters_from, before}
+use Rattle.base64ct.specs.Wrapping.{characters_from, put_before}
 use Rattle.base64ct.specs.Decoders.{Ahead, Filling}
 use Rattle.base64ct.proofs.Sextets.{groups-whole_bytes, whole_bytes-block}
 use Rattle.base64ct.proofs.Encodings.{below-take, below-drop}
@@ -121,9 +121,9 @@ passed w body s place left k r fits more =
     let ll : length line ≡ 4 * k = length-take-le (4 * k) (drop place body) (omega (arith, length-drop place body)) in
     let apart : drop place body ≡ line ++ rest = sym (take-append-drop (4 * k) (drop place body))
     ∙ ap (λ (l : List ℕ). line ++ l) (drop-drop (4 * k) place body) in
-    let taken : characters_from w left (line ++ rest) ≡ before line (characters_from w (left - 4 * k) rest) =
+    let taken : characters_from w left (line ++ rest) ≡ put_before line (characters_from w (left - 4 * k) rest) =
     line_taken w left line rest (omega arith)
-    ∙ ap (λ (n : ℕ). before line (characters_from w (left - n) rest)) ll in
+    ∙ ap (λ (n : ℕ). put_before line (characters_from w (left - n) rest)) ll in
     let parts = before_some line s (characters_from w (left - 4 * k) rest)
     (sym taken ∙ ap (λ (l : List ℕ). characters_from w left l) (sym apart) ∙ r.0) in
     let some : 0 < length parts.0 =

@@ -2,25 +2,25 @@
 use Rattle.std.proofs.Common.{◌≡◌, ℕ, zero, suc, ◌+◌, ◌-◌, ◌<◌, ◌≤◌, ◌==◌, ◌&&◌, ◌||◌, true, false, List, [], ◌∷◌, ◌++◌}
 use Rattle.std.proofs.Common.{length, take, drop, refl, sym, ap, ◌∙◌, arith, slice_index, slice_set, Option, Some, None}
 use Rattle.std.proofs.lemmas.List.{append_assoc, length-drop, drop_all, drop_more, take_more_set}
-use Rattle.base64ct.specs.Wrapping.{characters_from, before}
+use Rattle.base64ct.specs.Wrapping.{characters_from, put_before}
 
-pub before-before : (xs ys : List ℕ) (o : Option (List ℕ)) → before xs (before ys o) ≡ before (xs ++ ys) o
+pub before-before : (xs ys : List ℕ) (o : Option (List ℕ)) → put_before xs (put_before ys o) ≡ put_before (xs ++ ys) o
 before-before xs ys None = refl
 before-before xs ys (Some t) = ap (λ (l : List ℕ). Some l) (sym (append_assoc xs ys t))
 
-pub before-nil : (o : Option (List ℕ)) → before [] o ≡ o
+pub before-nil : (o : Option (List ℕ)) → put_before [] o ≡ o
 before-nil None = refl
 before-nil (Some t) = refl
 
 -- a character more, where the line has room
 pub character_more : (w room : ℕ) (body : List ℕ) (at : ℕ) → 0 < room → at < length body
     → characters_from w room (drop at body)
-    ≡ before (slice_index body at ∷ []) (characters_from w (room - 1) (drop (at + 1) body))
+    ≡ put_before (slice_index body at ∷ []) (characters_from w (room - 1) (drop (at + 1) body))
 unfolding characters_from
 character_more w room body at some lt = rw (drop_more body at 0 lt) (step room some)
   where
     step : (r : ℕ) → 0 < r → characters_from w r (slice_index body at ∷ drop (at + 1) body)
-        ≡ before (slice_index body at ∷ []) (characters_from w (r - 1) (drop (at + 1) body))
+        ≡ put_before (slice_index body at ∷ []) (characters_from w (r - 1) (drop (at + 1) body))
     step zero h = absurd (omega arith)
     step (suc r) h = let less : suc r - 1 ≡ r = omega arith in rw less refl
 
@@ -28,7 +28,7 @@ character_more w room body at some lt = rw (drop_more body at 0 lt) (step room s
 
 -- the text behind an ending begins a line
 begin_line : (w f : ℕ) (rest : List ℕ) → 0 < w
-    → characters_from w w (f ∷ rest) ≡ before (f ∷ []) (characters_from w (w - 1) rest)
+    → characters_from w w (f ∷ rest) ≡ put_before (f ∷ []) (characters_from w (w - 1) rest)
 unfolding characters_from
 begin_line zero f rest pos = absurd (omega arith)
 begin_line (suc w) f rest pos = let less : suc w - 1 ≡ w = omega arith in rw less refl
@@ -108,7 +108,7 @@ place_other w body at lt cr lf =
 -- four characters at once
 pub four_more : (w room : ℕ) (body : List ℕ) (at : ℕ) → 4 ≤ room → at + 4 ≤ length body
     → characters_from w room (drop at body)
-    ≡ before (slice_index body at ∷ slice_index body (at + 1) ∷ slice_index body (at + 2)
+    ≡ put_before (slice_index body at ∷ slice_index body (at + 1) ∷ slice_index body (at + 2)
     ∷ slice_index body (at + 3) ∷ []) (characters_from w (room - 4) (drop (at + 4) body))
 four_more w room body at h fits =
     let a2 : at + 1 + 1 ≡ at + 2 = omega arith in
@@ -121,17 +121,17 @@ four_more w room body at h fits =
     let two = character_more w (room - 1) body (at + 1) (omega arith) (omega arith) in
     let three = character_more w (room - 2) body (at + 2) (omega arith) (omega arith) in
     let four = character_more w (room - 3) body (at + 3) (omega arith) (omega arith) in
-    one ∙ ap (λ (o : Option (List ℕ)). before (slice_index body at ∷ []) o)
-    (two ∙ ap (λ (o : Option (List ℕ)). before (slice_index body (at + 1) ∷ []) o)
-    (rw (a2, r2) (three ∙ ap (λ (o : Option (List ℕ)). before (slice_index body (at + 2) ∷ []) o)
+    one ∙ ap (λ (o : Option (List ℕ)). put_before (slice_index body at ∷ []) o)
+    (two ∙ ap (λ (o : Option (List ℕ)). put_before (slice_index body (at + 1) ∷ []) o)
+    (rw (a2, r2) (three ∙ ap (λ (o : Option (List ℕ)). put_before (slice_index body (at + 2) ∷ []) o)
     (rw (a3, r3) (four ∙ rw (a4, r4) refl)))))
     ∙ fold (characters_from w (room - 4) (drop (at + 4) body))
   where
     fold : (o : Option (List ℕ))
-        → before (slice_index body at ∷ [])
-        (before (slice_index body (at + 1) ∷ [])
-        (before (slice_index body (at + 2) ∷ []) (before (slice_index body (at + 3) ∷ []) o)))
-        ≡ before (slice_index body at ∷ slice_index body (at + 1) ∷ slice_index body (at + 2)
+        → put_before (slice_index body at ∷ [])
+        (put_before (slice_index body (at + 1) ∷ [])
+        (put_before (slice_index body (at + 2) ∷ []) (put_before (slice_index body (at + 3) ∷ []) o)))
+        ≡ put_before (slice_index body at ∷ slice_index body (at + 1) ∷ slice_index body (at + 2)
         ∷ slice_index body (at + 3) ∷ []) o
     fold None = refl
     fold (Some t) = refl
@@ -139,9 +139,9 @@ four_more w room body at h fits =
 -- a character more is taken into the block
 pub taken_more : (w room left : ℕ) (body block : List ℕ) (at place count : ℕ) → 0 < left → place < length body
     → count < length block
-    → characters_from w room (drop at body) ≡ before (take count block) (characters_from w left (drop place body))
+    → characters_from w room (drop at body) ≡ put_before (take count block) (characters_from w left (drop place body))
     → characters_from w room (drop at body)
-    ≡ before (take (count + 1) (slice_set block count (slice_index body place)))
+    ≡ put_before (take (count + 1) (slice_set block count (slice_index body place)))
     (characters_from w (left - 1) (drop (place + 1) body))
 taken_more w room left body block at place count some lt fits e =
     e ∙ rw (character_more w left body place some lt, take_more_set block count (slice_index body place) fits)

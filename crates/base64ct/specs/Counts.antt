@@ -18,6 +18,10 @@ field_looks field = 4 * (length field / 4) + 4
 abbrev pub comparison_count : Alphabet → List ℕ → ℕ → ℕ
 comparison_count a t room = cond (is_refused a t room || (length t == 0)) 0 4
 
+-- how often decoding asks the character of a value: that of 0, and those of the last block
+abbrev pub spell_count : Alphabet → List ℕ → ℕ → ℕ
+spell_count a t room = cond (is_refused a t room) 0 (1 + comparison_count a t room)
+
 -- what a table of characters counts
 pub record TableCounts : Type 0 where
   pub looks : ℕ

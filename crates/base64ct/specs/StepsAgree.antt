@@ -1,4 +1,5 @@
--- The steps of each alphabet give the values of all 256 bytes and the characters of all 64 values: computed.
+-- Proofs that the impls of the alphabets cite: the steps of each give the values of all 256 bytes and the characters of
+-- all 64 values, by computing. No public clause names these words.
 use Rattle.std.specs.Prelude.{◌≡◌, true, refl}
 use Rattle.base64ct.specs.Alphabets.{base64, base64_unpadded, base64_url, base64_url_unpadded, base64_bcrypt}
 use Rattle.base64ct.specs.Alphabets.{base64_crypt, base64_pbkdf2, base64_sha_crypt, base64_steps, base64_url_steps}

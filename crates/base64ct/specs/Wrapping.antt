@@ -5,12 +5,12 @@ use Rattle.std.specs.List.{join_by}
 use Rattle.std.specs.Simd.{first_chunks}
 
 -- t cut into pieces of w characters, the last perhaps shorter
-abbrev pub pieces : List ℕ → ℕ → List (List ℕ)
-pieces t w = first_chunks w ((length t + (w - 1)) / w) t
+abbrev pub pieces_of_width : List ℕ → ℕ → List (List ℕ)
+pieces_of_width t w = first_chunks w ((length t + (w - 1)) / w) t
 
--- the pieces of t with e between two of them
+-- the pieces of t of w characters with e between two of them
 abbrev pub wrap : List ℕ → ℕ → List ℕ → List ℕ
-wrap t w e = join_by (λ piece. piece) e (pieces t w)
+wrap t w e = join_by (λ piece. piece) e (pieces_of_width t w)
 
 -- how a text stands in lines: in one line, or wrapped at a width by an ending
 abbrev pub Format : Type 0
@@ -57,22 +57,22 @@ without_end (c ∷ []) = if (c == 13) || (c == 10) then [] else c ∷ []
 without_end (c ∷ d ∷ []) = if (c == 13) && (d == 10) then [] else c ∷ without_end (d ∷ [])
 without_end (c ∷ d ∷ e ∷ rest) = c ∷ without_end (d ∷ e ∷ rest)
 
--- c before what is read behind it
-abbrev pub before : List ℕ → Option (List ℕ) → Option (List ℕ)
-before cs None = None
-before cs (Some t) = Some (cs ++ t)
+-- characters put before those that are read, where some are
+abbrev pub put_before : List ℕ → Option (List ℕ) → Option (List ℕ)
+put_before cs None = None
+put_before cs (Some t) = Some (cs ++ t)
 
 -- the characters of a body of lines of width w, read where the line has room for some more: where it has none, an
 -- ending is taken (CR LF, else CR, else LF), and a character behind it; none, where that isn't so
 unfoldable pub characters_from : ℕ → ℕ → List ℕ → Option (List ℕ)
 characters_from w room [] = Some []
-characters_from w (suc room) (c ∷ rest) = before (c ∷ []) (characters_from w room rest)
+characters_from w (suc room) (c ∷ rest) = put_before (c ∷ []) (characters_from w room rest)
 characters_from w zero (c ∷ []) = None
 characters_from w zero (c ∷ d ∷ []) =
-    if (c == 13) && (d == 10) then None else if (c == 13) || (c == 10) then before (d ∷ []) (Some []) else None
+    if (c == 13) && (d == 10) then None else if (c == 13) || (c == 10) then put_before (d ∷ []) (Some []) else None
 characters_from w zero (c ∷ d ∷ f ∷ rest) =
-    if (c == 13) && (d == 10) then before (f ∷ []) (characters_from w (w - 1) rest)
-    else if (c == 13) || (c == 10) then before (d ∷ []) (characters_from w (w - 1) (f ∷ rest))
+    if (c == 13) && (d == 10) then put_before (f ∷ []) (characters_from w (w - 1) rest)
+    else if (c == 13) || (c == 10) then put_before (d ∷ []) (characters_from w (w - 1) (f ∷ rest))
     else None
 
 -- the characters of text, taken apart by position; without a width the body is one line. The empty text and one

@@ -6,13 +6,13 @@ ghost use Rattle.base64ct.specs.Encoding.{encoding, IsLenient};
 ghost use Rattle.base64ct.specs.Decoding.{decoding};
 ghost use Rattle.base64ct.specs.Answers.{OnMisaligned, OnNoRoom, OnReadable, OnRoom, IsNoEncoding};
 ghost use Rattle.base64ct.specs.Tables.{shaped, Passes};
-ghost use Rattle.base64ct.specs.Counts.{look_count, comparison_count};
+ghost use Rattle.base64ct.specs.Counts.{look_count, comparison_count, spell_count};
 
 use crate::{CodeTable, Encoding, Error, Shape, decode_with_into};
 use std::marker::{Model, PhantomData};
 use subtle::{Choice, Counting, SameByte, eq_with};
 
-/// Decodes as [`decode_with_into`], and gives the bytes at the front of `dst`.
+/// Decodes as [`decode_with_into`], and gives the bytes. What `dst` holds then is told by the clauses of that twin alone.
 pub fn decode_with<'d, T: CodeTable, C: SameByte>(
     table: &mut T,
     cmp: &mut C,
@@ -47,7 +47,8 @@ pub fn decode_with<'d, T: CodeTable, C: SameByte>(
         T.looks table.new ≡ T.looks table.old + look_count a src.now (length dst.old) }
     ensures sames { let a = shaped (T.characters table.old) shape in
         C.count cmp.new ≡ C.count cmp.old + comparison_count a src.now (length dst.old) }
-    ensures spells { (T.spells table.old ≤ T.spells table.new) × (T.spells table.new ≤ T.spells table.old + 5) }
+    ensures spells { let a = shaped (T.characters table.old) shape in
+        T.spells table.new ≡ T.spells table.old + spell_count a src.now (length dst.old) }
     ensures characters { T.characters table.new ≡ T.characters table.old }
 {
     let n = decode_with_into(table, cmp, shape, src, dst)?;
@@ -173,7 +174,8 @@ impl Counts {
         answer
     }
 
-    /// Decodes as [`Encoding::decode`] of `E`, by [`decode_with`] with a table and a test of its own.
+    /// Answers as [`Encoding::decode`] of `E`, by [`decode_with`] with a table and a test of its own. No clause tells what
+    /// `dst` holds then.
     pub fn decode<'d, E: Encoding>(
         &mut self,
         src: &[u8],

@@ -127,6 +127,7 @@ impl<'i, E: Encoding> Decoder<'i, E> {
         }
         let body = &input[..body_len(input)];
         if body.len() == 0 {
+            // It doesn't come: an input that isn't only line endings has a body.
             return Err(Error::InvalidLength);
         }
         match measure::<E>(body, line_width) {

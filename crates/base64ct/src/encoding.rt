@@ -84,9 +84,9 @@ pub trait Encoding: Copy + Alphabet {
         }
     }
 
-    /// Decodes the text in `buf` within it, whatever bits are left over at its end, and gives the bytes at
-    /// its front. All characters have to be in the alphabet, no one may stand alone, and the padding has to
-    /// be exact. After an `Err` the bytes of `buf` are not stated.
+    /// Decodes the text in `buf` within it, whatever bits are left over at its end, and gives the bytes. All
+    /// characters have to be in the alphabet, no one may stand alone, and the padding has to be exact. No
+    /// clause tells what `buf` holds then; a test compares its front.
     final fn decode_in_place(buf: &mut [u8]) -> Result<&[u8], InvalidEncodingError>
         ensures { MatchResult result (λ b. IsLenient Self.alphabet buf.old b.now)
             (λ _. (b : List ℕ) → IsLenient Self.alphabet buf.old b → ⊥) }

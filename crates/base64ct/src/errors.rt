@@ -15,7 +15,8 @@ use std::{error, fmt, io};
 pub enum Error {
     /// The text is the encoding of no bytes.
     InvalidEncoding = 1,
-    /// The buffer is too short, or the input too long.
+    /// The buffer is too short, or the input too long; of a `Decoder` or an `Encoder` also: there is no text,
+    /// the width is below 4, or more is asked than is left.
     InvalidLength = 2,
 }
 

@@ -1,8 +1,10 @@
-//! Base64 in eight alphabets, by arithmetic without tables of characters and without branches on them.
+//! Base64 in eight alphabets, by arithmetic without tables of characters.
 //!
-//! [`Encoding`] encodes and decodes whole texts. [`Encoder`] and [`Decoder`] take and give them in parts, in
-//! one line or wrapped at a width. [`decode_with`] and [`Counts`] count how often characters
-//! are looked up and compared, so that a caller can see that the numbers tell nothing but lengths.
+//! [`Encoding`] encodes and decodes whole texts, without a branch on a character. [`Encoder`] and [`Decoder`]
+//! take and give them in parts, in one line or wrapped at a width; a [`Decoder`] returns where it meets the
+//! first bad block, line or run of 4,096 characters, so that its time tells where. [`decode_with`] and
+//! [`Counts`] count how often characters are looked up and compared, so that a caller can see that the numbers
+//! tell nothing but the lengths and how many `=` stand at the end.
 #![tactic(auto)]
 
 mod alphabet;
@@ -20,11 +22,7 @@ pub mod laws;
 pub mod lent;
 mod line_ending;
 mod lines;
-#[cfg(test)]
-mod stream_tests;
 mod tables;
-#[cfg(test)]
-mod tests;
 
 pub use alphabet::bcrypt::Base64Bcrypt;
 pub use alphabet::crypt::Base64Crypt;

@@ -6,7 +6,7 @@ ghost use Rattle.base64ct.specs.Encoding.{character, unpadded_encoding, byte_cou
 ghost use Rattle.base64ct.specs.Decoding.{decoding};
 ghost use Rattle.base64ct.specs.Answers.{OnMisaligned, OnNoRoom, OnReadable, OnRoom, IsNoEncoding};
 ghost use Rattle.base64ct.specs.Tables.{is_table, shaped, filled, Passes};
-ghost use Rattle.base64ct.specs.Counts.{look_count, comparison_count};
+ghost use Rattle.base64ct.specs.Counts.{look_count, comparison_count, spell_count};
 
 use crate::Error;
 use crate::blocks::{joined_high, joined_low, put_three, values_high, values_low};
@@ -309,7 +309,7 @@ fn compare_stem<T: CodeTable, C: SameByte>(
     ensures empty { length stem.now ≡ 0 → result ≡ true }
     ensures sames { C.count cmp.new ≡ C.count cmp.old + cond (length stem.now == 0) 0 4 }
     ensures looks { T.looks table.new ≡ T.looks table.old }
-    ensures spells { (T.spells table.old ≤ T.spells table.new) × (T.spells table.new ≤ T.spells table.old + 4) }
+    ensures spells { T.spells table.new ≡ T.spells table.old + cond (length stem.now == 0) 0 4 }
     ensures characters { T.characters table.new ≡ T.characters table.old }
 {
     if stem.is_empty() {
@@ -343,7 +343,7 @@ fn is_faultless(fault: u8, passed: Choice) -> bool
 /// is read whatever bits are left over at its end, and its last block of four characters, filled up by
 /// the character of 0, is compared by `cmp` with the encoding of its bytes: so where `cmp` is equality
 /// the answer is that of `decode`. How often `table` and `cmp` are asked is told by the lengths of the
-/// text and the buffer alone, and not by the characters.
+/// text and the buffer and by how many `=` stand at the end of a padded text, and not by other characters.
 pub fn decode_with_into<T: CodeTable, C: SameByte>(
     table: &mut T,
     cmp: &mut C,
@@ -381,7 +381,8 @@ pub fn decode_with_into<T: CodeTable, C: SameByte>(
         T.looks table.new ≡ T.looks table.old + look_count a src.now (length dst.old) }
     ensures sames { let a = shaped (T.characters table.old) shape in
         C.count cmp.new ≡ C.count cmp.old + comparison_count a src.now (length dst.old) }
-    ensures spells { (T.spells table.old ≤ T.spells table.new) × (T.spells table.new ≤ T.spells table.old + 5) }
+    ensures spells { let a = shaped (T.characters table.old) shape in
+        T.spells table.new ≡ T.spells table.old + spell_count a src.now (length dst.old) }
     ensures characters { T.characters table.new ≡ T.characters table.old }
 {
     if shape.padded && src.len() % 4 != 0 {

@@ -3,7 +3,7 @@ use Rattle.std.proofs.Common.{◌≡◌, ℕ, ◌≤◌, Bool, true, false, List
 use Rattle.std.proofs.Common.{arith}
 use Rattle.std.specs.Io.KnownBytes.{Appends}
 use Rattle.line_io.specs.Devices.{AppendsPrefix}
-use Rattle.pieces.specs.FaultCounts.{HasRisen}
+use Rattle.pieces.proofs.RisenCounts.{risen_since, risen_still}
 use Rattle.line_io.proofs.Moved.{append-nil, appends_none, appends_more}
 use Rattle.line_io.specs.Output.{Puts, has_failed, waiting}
 use Rattle.line_io.specs.declared.output.OutputBuffer.{OutputBuffer}
@@ -40,12 +40,6 @@ bool_cases : {C : Type 0} → (b : Bool) → (b ≡ true → C) → (b ≡ false
 bool_cases true f g = f refl
 bool_cases false f g = g refl
 
-risen_first : (a b c : ℕ) → HasRisen a b → b ≤ c → HasRisen a c
-risen_first a b c h k = omega arith
-
-risen_second : (a b c : ℕ) → a ≤ b → HasRisen b c → HasRisen a c
-risen_second a b c h k = omega arith
-
 module _ (w w' w'' : Option (List ℕ)) (f f' f'' : ℕ) (before mid now : OutputBuffer) (xs ys : List ℕ) where
   -- in the second step nothing was added, as a write had failed
   lost : (p : Puts w w' f f' before mid xs) → (q : Puts w' w'' f' f'' mid now ys) → has_failed mid ≡ true
@@ -62,7 +56,7 @@ module _ (w w' w'' : Option (List ℕ)) (f f' f'' : ℕ) (before mid now : Outpu
         waits = λ e. absurd (let t = (q.stays h).0 in cc);
         stays = λ e. ((q.stays h).0, (p.stays e).1);
         count = omega (arith, p.count, q.count);
-        cause = λ a b. risen_first f f' f'' (p.cause a h) q.count;
+        cause = λ a b. risen_still f f' f'' p.count q.count (p.cause a h);
       }
 
   went_on : (p : Puts w w' f f' before mid xs) → (q : Puts w' w'' f' f'' mid now ys) → has_failed mid ≡ false
@@ -78,7 +72,7 @@ module _ (w w' w'' : Option (List ℕ)) (f f' f'' : ℕ) (before mid now : Outpu
         waits = q.waits;
         stays = λ e. absurd (let t = (p.stays e).0 in cc);
         count = omega (arith, p.count, q.count);
-        cause = λ a b. risen_second f f' f'' p.count (q.cause h b);
+        cause = λ a b. risen_since f f' f'' p.count (q.cause h b);
       }
 
   -- two steps

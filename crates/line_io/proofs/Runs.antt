@@ -50,6 +50,26 @@ run_start left b max new = record {
   at_end = λ h. absurd (let e = new.unended in cc);
 }
 
+-- what was taken is at most one byte more than count
+pub run_bounded : (left left_now : Option (List ℕ)) (b : LineBuffer) (max : ℕ) (done : List (List ℕ)) →
+    (s : LinesGiven left left_now b max done) → length s.bytes ≤ max + 1
+run_bounded left left_now b max done s = omega (arith, b.one_past, s.counted, s.max_same)
+
+-- so it is with what one more call took
+pub call_bounded : (answer : Line) (left left_mid left_now : Option (List ℕ)) (before now : LineBuffer) (max : ℕ)
+    (done : List (List ℕ)) → (s : LinesGiven left left_mid before max done)
+    → (c : IsCall answer left_mid left_now before now) → length (s.bytes ++ c.takes.bytes) ≤ max + 1
+call_bounded answer left left_mid left_now before now max done s c =
+    omega (
+      arith,
+      now.one_past,
+      s.counted,
+      c.takes.counted,
+      c.max_same,
+      s.max_same,
+      length-append s.bytes c.takes.bytes,
+    )
+
 -- a line and its feed are whole lines
 whole_line : (l : List ℕ) → NoFeed l → whole_lines (l ++ 10 ∷ []) ≡ l ++ 10 ∷ []
 whole_line [] free = refl

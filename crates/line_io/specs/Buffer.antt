@@ -32,7 +32,7 @@ is_ended b = b.ended
 abbrev pub is_closed : LineBuffer → Bool
 is_closed b = b.closed
 
--- of bytes of which the last was taken last: those among the first max_bytes that the source gave
+-- `bytes` are the last that were taken: the part of them that lies within the first max_bytes taken
 abbrev pub among_first : LineBuffer → List ℕ → List ℕ
 among_first b bytes = take (length bytes - (taken b - max_bytes b)) bytes
 

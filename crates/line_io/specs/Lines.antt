@@ -5,6 +5,7 @@
 use Rattle.std.specs.Prelude.{◌≡◌, ℕ, Bool, false, List, [], ◌∷◌, length, ◌==◌, if◌then◌else◌}
 use Rattle.std.specs.List.{slice_split, list_any}
 
+-- a line feed
 abbrev pub is_feed : ℕ → Bool
 is_feed b = b == 10
 

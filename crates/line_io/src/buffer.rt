@@ -16,6 +16,9 @@ const CAPACITY: usize = 16_384;
 /// The most bytes of a line.
 pub const LINE_MAX: usize = 8_192;
 
+/// The most bytes of an input of a program: 2^40, which is the greatest bound that [`LineBuffer::new`] takes.
+pub const INPUT_MAX: u64 = 1 << 40;
+
 /// An answer of [`LineBuffer::next_line`].
 #[derive(Clone, Copy, Debug, PartialEq, Eq)]
 pub enum Line {

@@ -1,5 +1,5 @@
 //! Laws of the definitions and of whole runs, each the contract of a function that does nothing.
-ghost use Rattle.std.specs.Prelude.{◌≡◌, ◌<◌, ◌-◌, ◌^◌, ◌⊎◌, ◌↔◌};
+ghost use Rattle.std.specs.Prelude.{◌≡◌, ℕ, ◌<◌, ◌-◌, ◌^◌, ◌⊎◌, ◌↔◌};
 ghost use Rattle.pieces.specs.FaultCounts.{HasRisen};
 ghost use Rattle.line_io.specs.Runs.{LinesOfBytes};
 
@@ -11,6 +11,6 @@ pub fn lines_of_bytes()
 {}
 
 /// A count of faults has risen exactly where it is greater than before or stands at its greatest number.
-pub fn count_has_risen(before: u64, now: u64)
-    ensures { HasRisen before now ↔ ((before < now) ⊎ (now ≡ 2 ^ 64 - 1)) }
+pub fn count_has_risen()
+    ensures { (before now : ℕ) → HasRisen before now ↔ ((before < now) ⊎ (now ≡ 2 ^ 64 - 1)) }
 {}

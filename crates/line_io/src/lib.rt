@@ -16,7 +16,7 @@ mod system;
 mod tests;
 mod write;
 
-pub use buffer::{LINE_MAX, Line, LineBuffer};
+pub use buffer::{INPUT_MAX, LINE_MAX, Line, LineBuffer};
 pub use device::{Failed, Sink, Source};
 pub use memory::{MemorySink, MemorySource};
 pub use output::OutputBuffer;

@@ -173,11 +173,11 @@ fn memory_reads_and_writes(rt: HostRuntime) {
     assert_eq!(rt; sink.bytes(), b"abcd".as_slice());
 }
 
-/// Some interruptions, and then a fault or none.
+/// Some interruptions, then some faults, and then it goes well.
 #[derive(Clone, Copy, Debug)]
 struct Script {
     interrupts: u32,
-    fails: bool,
+    faults: u32,
 }
 
 impl Script {
@@ -186,7 +186,8 @@ impl Script {
             self.interrupts -= 1;
             return Err(io::Error::from(ErrorKind::Interrupted));
         }
-        if self.fails {
+        if self.faults > 0 {
+            self.faults -= 1;
             return Err(io::Error::from(ErrorKind::BrokenPipe));
         }
         Ok(())
@@ -219,47 +220,62 @@ impl Write for Scripted {
     }
 }
 
+const WELL: Script = Script {
+    interrupts: 0,
+    faults: 0,
+};
+
+const FAULT: Script = Script {
+    interrupts: 1,
+    faults: 1,
+};
+
+// So many interruptions, and no fault.
+fn well(interrupts: u32) -> Script {
+    Script {
+        interrupts,
+        faults: 0,
+    }
+}
+
+// Interruptions are tried again, faults are not: behind one fault the next call goes well, and only the next.
 #[test]
 fn system_calls_are_tried_again(rt: HostRuntime) {
-    let well = |interrupts| Script {
-        interrupts,
-        fails: false,
-    };
-    let fault = Script {
-        interrupts: 1,
-        fails: true,
-    };
     let mut buf = [0; 4];
-    for (count, bytes, expected) in [
-        (3, well(0), Ok(3)),
-        (9, well(2), Ok(4)),
-        (3, fault, Err(Failed)),
-        (3, well(65_535), Ok(3)),
-        (3, well(65_536), Err(Failed)),
+    // The bytes that a call gives, the script, and the answers of two reads.
+    for (count, bytes, first, second) in [
+        (3, WELL, Ok(3), Ok(3)),
+        (9, well(2), Ok(4), Ok(4)),
+        (3, FAULT, Err(Failed), Ok(3)),
+        (3, well(65_535), Ok(3), Ok(3)),
+        (3, well(65_536), Err(Failed), Ok(3)),
     ] {
         let mut source = StdSource::new(Scripted {
             count,
             bytes,
-            flush: well(0),
+            flush: WELL,
         });
-        assert_eq!(rt; source.read(&mut buf), expected, "{bytes:?}");
+        assert_eq!(rt; source.read(&mut buf), first, "{bytes:?}");
+        assert_eq!(rt; source.read(&mut buf), second, "{bytes:?}");
     }
-    for (count, bytes, flush, expected) in [
-        (3, well(0), well(0), Ok(3)),
-        (9, well(2), well(3), Ok(4)),
-        (3, fault, well(0), Err(Failed)),
-        (3, well(0), fault, Err(Failed)),
-        (0, well(0), well(0), Err(Failed)),
-        (3, well(65_535), well(65_535), Ok(3)),
-        (3, well(65_536), well(0), Err(Failed)),
-        (3, well(0), well(65_536), Err(Failed)),
+    // The same for a write and its flush.
+    for (count, bytes, flush, first, second) in [
+        (3, WELL, WELL, Ok(3), Ok(3)),
+        (9, well(2), well(3), Ok(4), Ok(4)),
+        (3, FAULT, WELL, Err(Failed), Ok(3)),
+        (3, WELL, FAULT, Err(Failed), Ok(3)),
+        (0, WELL, WELL, Err(Failed), Err(Failed)),
+        (3, well(65_535), well(65_535), Ok(3), Ok(3)),
+        (3, well(65_536), WELL, Err(Failed), Ok(3)),
+        (3, WELL, well(65_536), Err(Failed), Ok(3)),
     ] {
         let mut sink = StdSink::new(Scripted {
             count,
             bytes,
             flush,
         });
-        assert_eq!(rt; sink.write(b"abcd"), expected, "{bytes:?} {flush:?}");
+        assert_eq!(rt; sink.write(b"abcd"), first, "{bytes:?} {flush:?}");
+        assert_eq!(rt; sink.write(b"abcd"), second, "{bytes:?} {flush:?}");
     }
 }
 
@@ -288,10 +304,8 @@ fn lines_that_are_pending(rt: HostRuntime) {
     assert_eq!(rt; buffer.next_line(&mut source), Line::Whole(2));
     assert_eq!(rt; buffer.line(), b"ef".as_slice());
     assert_eq!(rt; buffer.next_line(&mut source), Line::End);
-}
 
-#[test]
-fn pending_lines_within_a_budget(rt: HostRuntime) {
+    // Of these bytes five count.
     let mut source = MemorySource::new(b"ab\ncd\n", 8, &[]);
     let mut buffer = LineBuffer::new(5);
     assert_eq!(rt; buffer.next_line(&mut source), Line::Whole(2));
@@ -309,30 +323,44 @@ fn pieces_are_written_whole(rt: HostRuntime) {
     assert_eq!(rt; sink.bytes(), b"abcdefghij".as_slice());
 }
 
-#[test]
-fn gathered_until_a_flush(rt: HostRuntime) {
-    let mut room = [0; 64];
-    let mut sink = MemorySink::new(&mut room, 64, &[]);
-    let mut out = OutputBuffer::new();
-    out.put(&mut sink, b"match\n");
-    out.put(&mut sink, b"mismatch\n");
-    assert_eq!(rt; sink.bytes(), b"".as_slice());
-    out.flush(&mut sink);
-    assert_eq!(rt; sink.bytes(), b"match\nmismatch\n".as_slice());
-    assert!(rt; !out.has_failed());
-}
+// A sink's bytes of a write, the write that fails, whether the pieces are lines, the pieces, what is written at a flush,
+// and what is written once a byte more was put and flushed.
+const GATHERED: [(usize, &[u64], bool, &[&[u8]], &[u8], &[u8]); 3] = [
+    (
+        64,
+        &[],
+        false,
+        &[b"match\n", b"mismatch\n"],
+        b"match\nmismatch\n",
+        b"match\nmismatch\nx",
+    ),
+    (64, &[], true, &[b"match", b""], b"match\n\n", b"match\n\nx"),
+    // Behind a failed write nothing is written.
+    (4, &[1], false, &[b"match\n"], b"matc", b"matc"),
+];
 
 #[test]
-fn nothing_after_a_failed_write(rt: HostRuntime) {
-    let mut room = [0; 64];
-    let mut sink = MemorySink::new(&mut room, 4, &[1]);
-    let mut out = OutputBuffer::new();
-    out.put(&mut sink, b"match\n");
-    out.flush(&mut sink);
-    assert!(rt; out.has_failed());
-    out.put(&mut sink, b"match\n");
-    out.flush(&mut sink);
-    assert_eq!(rt; sink.bytes(), b"matc".as_slice());
+fn gathered_until_a_flush(rt: HostRuntime) {
+    for (step, failing, are_lines, pieces, flushed, more) in GATHERED {
+        assert!(rt; step > 0);
+        let mut room = [0; 64];
+        let mut sink = MemorySink::new(&mut room, step, failing);
+        let mut out = OutputBuffer::new();
+        for piece in pieces {
+            if are_lines {
+                out.put_line(&mut sink, piece);
+            } else {
+                out.put(&mut sink, piece);
+            }
+        }
+        assert_eq!(rt; sink.bytes(), b"".as_slice());
+        out.flush(&mut sink);
+        assert_eq!(rt; sink.bytes(), flushed);
+        assert_eq!(rt; out.has_failed(), failing.len() > 0);
+        out.put(&mut sink, b"x");
+        out.flush(&mut sink);
+        assert_eq!(rt; sink.bytes(), more);
+    }
 }
 
 #[test]
@@ -348,18 +376,6 @@ fn pieces_longer_than_the_buffer(rt: HostRuntime) {
     assert_eq!(rt; sink.bytes().len(), 32_770);
     out.flush(&mut sink);
     assert_eq!(rt; sink.bytes().len(), 32_770);
-}
-
-#[test]
-fn lines_with_their_line_feeds(rt: HostRuntime) {
-    let mut room = [0; 64];
-    let mut sink = MemorySink::new(&mut room, 64, &[]);
-    let mut out = OutputBuffer::new();
-    out.put_line(&mut sink, b"match");
-    out.put_line(&mut sink, b"");
-    assert_eq!(rt; sink.bytes(), b"".as_slice());
-    out.flush(&mut sink);
-    assert_eq!(rt; sink.bytes(), b"match\n\n".as_slice());
 }
 
 #[test]

@@ -1,5 +1,5 @@
 -- What a run over lines has answered.
-use Rattle.std.proofs.Common.{◌≡◌, ℕ, ◌<◌, ◌≤◌, ◌-◌, Bool, true, false, List, [], ◌∷◌, ◌++◌, length, take, Option, Some}
+use Rattle.std.proofs.Common.{◌≡◌, ℕ, ◌<◌, ◌≤◌, ◌+◌, ◌-◌, Bool, true, false, List, [], ◌∷◌, ◌++◌, length, take, Option, Some}
 use Rattle.std.proofs.Common.{Err, refl, sym, ap, ◌∙◌, append_assoc}
 use Rattle.std.specs.Prelude.{◌&&◌, if◌then◌else◌, slice_get}
 use Rattle.std.specs.Io.KnownBytes.{Appends, Consumes}
@@ -9,8 +9,9 @@ use Rattle.line_io.specs.Lines.{lines}
 use Rattle.line_io.specs.Runs.{IsNew, IsCall, IsPrefix}
 use Rattle.line_io.specs.declared.buffer.LineBuffer.{LineBuffer}
 use Rattle.line_io.specs.declared.buffer.Line as lines_of
-use Rattle.line_io.proofs.Moved.{consumes_more, consumes_none}
+use Rattle.line_io.proofs.Moved.{append-nil, consumes_more, consumes_none}
 use Rattle.line_io.proofs.Runs.{LinesGiven, OneMore, run_start, run_first, run_end, run_failed, run_budget}
+use Rattle.line_io.proofs.Runs.{call_bounded, run_bounded}
 use Rattle.line_program.specs.Next.{NextReply, TakesLine}
 use Rattle.line_program.specs.Outcome.{Outcome, StoppedForMemory, output}
 use Rattle.line_io.specs.Output.{Puts, has_failed, waiting}
@@ -97,6 +98,7 @@ module _ {St : Type 0} (r : StateRules St) (s : St) (left left_mid left_now writ
       (consumes_more left left_mid left_now g.bytes c.takes.bytes g.consumed c.takes.consumed) added
       (λ held rest d e k.
       row_read_fault (from_state r s) max held (g.bytes ++ c.takes.bytes) (replies r s done)
+      (call_bounded lines_of.TheVariants.Failed left left_mid left_now before now max done g c)
       (ap (replies r s) (sym (run_failed left left_mid left_now before now max done g c)))
       (beginning held (replies r s done) g d (prefix_same (replies r s done))))
 
@@ -112,21 +114,29 @@ module _ {St : Type 0} (r : StateRules St) (s : St) (left left_mid left_now writ
       (consumes_more left left_mid left_now g.bytes c.takes.bytes g.consumed c.takes.consumed) added
       (λ held rest d e k.
       let is = run_budget left left_mid left_now before now max done g c held rest k in
-      row_budget (from_state r s) max held (g.bytes ++ c.takes.bytes) (replies r s done) is.0
+      row_budget (from_state r s) max held (g.bytes ++ c.takes.bytes) (replies r s done)
+      (call_bounded lines_of.TheVariants.Budget left left_mid left_now before now max done g c) is.0
       (ap (replies r s) (sym is.1))
       (beginning held (replies r s done) g d (prefix_same (replies r s done))))
 
   -- a write failed, after `more` was taken
-  pub outcome_cut : (more : List ℕ) → LinesGiven left left_mid before max done → Consumes left_mid left_now more
+  pub outcome_cut : (more : List ℕ) → (g : LinesGiven left left_mid before max done) → Consumes left_mid left_now more
+      → length (g.bytes ++ more) ≤ max + 1
       → AppendsPrefix written written_now (replies r s done)
       → WhereTold left left_now written written_now
       (λ held taken added. Outcome (from_state r s) 4 max held taken added)
-  outcome_cut more g c part =
+  outcome_cut more g c bounded part =
       told left left_now written written_now (g.bytes ++ more) part.0
       (λ held taken added. Outcome (from_state r s) 4 max held taken added)
       (consumes_more left left_mid left_now g.bytes more g.consumed c) part.3
       (λ held rest d e k.
-      row_write_fault (from_state r s) max held (g.bytes ++ more) part.0 (beginning held part.0 g d (part.1, part.2)))
+      row_write_fault (from_state r s) max held (g.bytes ++ more) part.0 bounded
+      (beginning held part.0 g d (part.1, part.2)))
+
+-- where no more was taken
+none_bounded : (left left_now : Option (List ℕ)) (b : LineBuffer) (max : ℕ) (done : List (List ℕ)) →
+    (g : LinesGiven left left_now b max done) → length (g.bytes ++ []) ≤ max + 1
+none_bounded left left_now b max done g = rw (append-nil g.bytes) (run_bounded left left_now b max done g)
 
 -- the lines that are done, and the next one
 behind : (all done more : List (List ℕ)) (l : List ℕ) → all ≡ (done ++ l ∷ []) ++ more → all ≡ done ++ l ∷ more
@@ -155,7 +165,8 @@ outcome_memory r s left left_now written written_now now max done l g added lack
     let h = rw d at g in
     let more = given_first held left_now now max (done ++ l ∷ []) h h.consumed in
     let all = behind (lines held) done more.0 l more.1 in
-    row_memory (from_state r s) max held g.bytes (replies r s done) (stopped r s held done more.0 l all lacks)
+    row_memory (from_state r s) max held g.bytes (replies r s done)
+    (run_bounded left left_now now max (done ++ l ∷ []) g) (stopped r s held done more.0 l all lacks)
     (rw all (replies-prefix r s done (l ∷ more.0) (replies r s done) (prefix_same (replies r s done)))))
 
 -- ---- the steps of a run
@@ -223,7 +234,7 @@ module _ {St : Type 0} (r : StateRules St) (s s_mid s_now : St)
   run_cut good i line =
       let one = one_more i line in
       outcome_cut r s left left_now left_now written written_now now now max (i.done ++ line.3 ∷ []) [] one.0
-      (consumes_none left_now)
+      (consumes_none left_now) (none_bounded left left_now now max (i.done ++ line.3 ∷ []) one.0)
       (put_part written written_now faults faults_now i.first out_now (replies r s (i.done ++ line.3 ∷ []))
       (put_more i line.3 line.6.1) i.first_empty)
 
@@ -254,19 +265,22 @@ module _ {St : Type 0} (r : StateRules St) (s s_mid s_now : St)
       → WhereTold left left_now written written_now
       (λ held taken added. Outcome (from_state r s) 4 max held taken added)
   run_stop_cut End n = outcome_cut r s left left_mid left_now written written_now before now max i.done n.0.takes.bytes
-      i.given n.0.takes.consumed (cut n.1)
+      i.given n.0.takes.consumed
+      (call_bounded lines_of.TheVariants.End left left_mid left_now before now max i.done i.given n.0) (cut n.1)
   run_stop_cut ReadFault n =
       outcome_cut r s left left_mid left_now written written_now before now max i.done n.0.takes.bytes i.given
-      n.0.takes.consumed (cut n.1)
+      n.0.takes.consumed
+      (call_bounded lines_of.TheVariants.Failed left left_mid left_now before now max i.done i.given n.0) (cut n.1)
   run_stop_cut Budget n =
       outcome_cut r s left left_mid left_now written written_now before now max i.done n.0.takes.bytes i.given
-      n.0.takes.consumed (cut n.1)
+      n.0.takes.consumed
+      (call_bounded lines_of.TheVariants.Budget left left_mid left_now before now max i.done i.given n.0) (cut n.1)
   run_stop_cut WriteFault n =
       outcome_cut r s left left_mid left_now written written_now before now max i.done [] i.given
-      (rw n.0 (consumes_none left_mid)) (cut n.2)
+      (rw n.0 (consumes_none left_mid)) (none_bounded left left_mid before max i.done i.given) (cut n.2)
   run_stop_cut NoMemory n =
       outcome_cut r s left left_mid left_now written written_now before now max i.done n.1.takes.bytes i.given
-      n.1.takes.consumed (cut n.6.1)
+      n.1.takes.consumed (call_bounded n.0 left left_mid left_now before now max i.done i.given n.1) (cut n.6.1)
 
   module _ (unfailed : has_failed out_now ≡ false) (none : waiting out_now ≡ []) where
     whole : Puts written_mid written_next faults_mid faults_next out out_next []

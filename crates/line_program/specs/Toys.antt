@@ -1,4 +1,5 @@
--- Two programs that the tests run. No public clause names these words.
+-- Two programs and a check that the tests run. They say nothing of the crate's programs: no public clause names these
+-- words, and nothing rests on them but the tests.
 --
 -- Notes: a program whose replies depend on the lines before. It keeps lines, and `list` lists them.
 use Rattle.std.specs.Prelude.{ℕ, Bool, true, false, ◌&&◌, ◌==◌, not, List, [], ◌∷◌, ◌++◌, length, nat_lt, nat_le, codes}
@@ -8,6 +9,7 @@ use Rattle.std.specs.List.{flat_map}
 use Rattle.line_program.specs.Rules.{LineRules, StateRules, each_line, from_state}
 use Rattle.line_io.specs.Limits.{line_max}
 
+-- the line `list`
 abbrev pub is_list : List ℕ → Bool
 is_list line = bytes_eq line (codes "list")
 
@@ -29,6 +31,7 @@ reply_over texts line =
 abbrev pub was_kept : List ℕ × List ℕ → Bool
 was_kept pair = not (is_list pair.0) && bytes_eq pair.1 (codes "ok" ++ 10 ∷ [])
 
+-- the lines of a history that are kept
 abbrev pub kept : List (List ℕ × List ℕ) → List (List ℕ)
 kept [] = []
 kept (pair ∷ more) = if was_kept pair then pair.0 ∷ kept more else kept more
@@ -63,17 +66,21 @@ history_rules = record {
   may_lack_memory = λ h line. keeps (kept h) line;
 }
 
+-- the rules of a run, which begins without a history
 abbrev pub program_rules : LineRules
 program_rules = from_state history_rules []
 
 -- ---- Echo: each line is given back, without memory
 
+-- a line that isn't too long
 abbrev pub fits : List ℕ → Bool
 fits line = nat_le (length line) line_max
 
+-- the line, or `toolong`, and a line feed
 abbrev pub echo_reply : List ℕ → List ℕ
 echo_reply line = if fits line then line ++ 10 ∷ [] else codes "toolong" ++ 10 ∷ []
 
+-- the rules of a run
 abbrev pub echo_rules : LineRules
 echo_rules = each_line echo_reply fits (λ line. false)
 
@@ -88,8 +95,14 @@ echo_state = record {
 
 -- ---- a check by which a password matches the same text, and the empty text is no stored text
 
+-- its verdict
 abbrev pub same_verdict : {St : Type 0} → St → List ℕ → List ℕ → Option Bool
 same_verdict s password stored = if length stored == 0 then None else Some (pointwise nat_eq password stored)
 
+-- it takes no memory
 abbrev pub same_lacks : {St : Type 0} → St → List ℕ → List ℕ → Bool
 same_lacks s password stored = false
+
+-- a check that never finds memory
+abbrev pub always_lacks : {St : Type 0} → St → List ℕ → List ℕ → Bool
+always_lacks s password stored = true

@@ -5,13 +5,15 @@ ghost use Rattle.std.specs.List.{after_last, before_last, list_any};
 ghost use Rattle.line_io.specs.Devices.{WhereTold};
 ghost use Rattle.pieces.specs.FaultCounts.{HasRisen};
 ghost use Rattle.line_program.specs.Outcome.{Outcome};
-ghost use Rattle.line_program.specs.PlainOutput.{answer_rules, is_plain_match, is_tab, line_answer, line_may_lack, plain_word};
+ghost use Rattle.line_program.specs.PlainOutput.{answer_rules, is_plain_match, line_answer, line_may_lack, plain_word};
+ghost use Rattle.pieces.specs.Characters.{is_tab};
 ghost use Rattle.line_io.specs.Limits.{line_max};
 
 use crate::Responder;
 use crate::cut::cut_at_last_tab;
 use crate::run::run_lines;
 use line_io::{OutputBuffer, Sink, Source};
+use pieces::text::text_of;
 use std::alloc::AllocError;
 
 /// What has a verdict on a password and a stored text.
@@ -47,9 +49,9 @@ fn check_line<C: PasswordCheck>(check: &C, line: &[u8]) -> Result<Option<bool>, 
     ensures answer { IfOk result (λ answer. answer ≡ line_answer (C.verdict check.now) line.now) }
     ensures wants { OnErr result (line_may_lack (C.may_lack check.now) line.now ≡ true) }
 {
-    match str::from_utf8(line) {
-        Ok(text) => check_text(check, text),
-        Err(_) => Ok(None),
+    match text_of(line) {
+        Some(text) => check_text(check, text),
+        None => Ok(None),
     }
 }
 

@@ -10,7 +10,7 @@ use line_io::{MemorySink, MemorySource};
 use notes::run_notes;
 use std::alloc::AllocError;
 use std::cell::Cell;
-use turns::{Answers, Questions};
+use turns::{Answers, Counted, Questions};
 
 #[test]
 fn kept_and_listed(rt: HostRuntime) {
@@ -81,28 +81,55 @@ fn a_line_that_is_too_long(rt: HostRuntime) {
     assert_eq!(rt; sink.bytes(), b"toolong\na\n".as_slice());
 }
 
-#[test]
-fn answered_before_the_next_read(rt: HostRuntime) {
-    let lines: [&[u8]; 3] = [b"one\n", b"\n", b"three\n"];
-    let answered = Cell::new(0);
-    let mut source = Questions::new(&lines, &answered);
-    let mut sink = Answers::new(&answered);
-    assert_eq!(rt; run_echo(&mut source, &mut sink, 100), 0);
-    assert!(rt; !source.is_early());
-    assert_eq!(rt; answered.get(), 3);
-    // A short reply is one write, though it is put in two pieces.
-    assert_eq!(rt; sink.writes(), 3);
-}
+// What is given at each read, and the writes: a short reply is put in two pieces, and the replies to the lines of one
+// read are one write.
+const TURNS: [(&[&[u8]], usize); 2] = [
+    (&[b"one\n", b"\n", b"three\n"], 3),
+    (&[b"one\ntwo\nthree\n"], 1),
+];
 
 #[test]
-fn many_lines_of_one_read_are_one_write(rt: HostRuntime) {
-    let lines: [&[u8]; 1] = [b"one\ntwo\nthree\n"];
-    let answered = Cell::new(0);
-    let mut source = Questions::new(&lines, &answered);
-    let mut sink = Answers::new(&answered);
-    assert_eq!(rt; run_echo(&mut source, &mut sink, 100), 0);
-    assert_eq!(rt; answered.get(), 3);
-    assert_eq!(rt; sink.writes(), 1);
+fn answered_before_the_next_read(rt: HostRuntime) {
+    for (lines, writes) in TURNS {
+        let answered = Cell::new(0);
+        let mut source = Questions::new(lines, &answered);
+        let mut sink = Answers::new(&answered);
+        assert_eq!(rt; run_echo(&mut source, &mut sink, 100), 0);
+        assert!(rt; !source.is_early());
+        assert_eq!(rt; answered.get(), 3);
+        assert_eq!(rt; sink.writes(), writes);
+    }
+}
+
+// What a source gives at two bytes a read, the reads and the writes that fail, the bytes that count, the status and the
+// reads: behind the event that ends a run the source is not asked again.
+const ENDS: [(&[u8], &[u64], &[u64], u64, u8, usize); 6] = [
+    (b"a\nb\nc\n", &[], &[], 9, 0, 4),
+    (b"a\nb\nc\n", &[], &[0], 9, 4, 1),
+    (b"a\nb\nc\n", &[], &[1], 9, 4, 2),
+    (b"a\nb\nc\n", &[1], &[], 9, 3, 2),
+    (b"a\nb\nc\n", &[], &[], 3, 6, 2),
+    (b"abcdef\n", &[], &[], 3, 6, 2),
+];
+
+#[test]
+fn not_read_behind_the_end_of_a_run(rt: HostRuntime) {
+    for (input, reads, writes, max, status, asked) in ENDS {
+        let mut room = [0; 16];
+        let mut source = Counted::new(MemorySource::new(input, 2, reads));
+        let mut sink = MemorySink::new(&mut room, 16, writes);
+        assert!(rt; max <= 9);
+        assert_eq!(rt; run_echo(&mut source, &mut sink, max), status);
+        assert_eq!(rt; source.reads(), asked);
+    }
+    // The first line wants memory, and the second is never read.
+    let mut room = [0; 16];
+    let mut source = Counted::new(MemorySource::new(b"a\tb\nc\td\n", 4, &[]));
+    let mut sink = MemorySink::new(&mut room, 16, &[]);
+    let mut lines = PlainLines { check: Poor };
+    assert_eq!(rt; run_plain(&mut lines, &mut source, &mut sink, 100), 5);
+    assert_eq!(rt; source.reads(), 1);
+    assert_eq!(rt; sink.bytes(), b"".as_slice());
 }
 
 /// A check by which a password matches the stored text that is the same.
@@ -121,6 +148,22 @@ impl PasswordCheck for Same {
             return Ok(None);
         }
         Ok(Some(password == stored))
+    }
+}
+
+/// A check that never finds memory.
+#[derive(Clone, Copy, Debug)]
+struct Poor;
+
+impl PasswordCheck for Poor {
+    ghost use Rattle.line_program.specs.Toys.{always_lacks, same_verdict};
+
+    ghost verdict = { same_verdict };
+
+    ghost may_lack = { always_lacks };
+
+    fn check(&self, _password: &str, _stored: &str) -> Result<Option<bool>, AllocError> {
+        Err(AllocError)
     }
 }
 
@@ -144,6 +187,22 @@ fn plain_lines(rt: HostRuntime) {
         let mut lines = PlainLines { check: Same };
         assert_eq!(rt; run_plain(&mut lines, &mut source, &mut sink, 100), status);
         assert_eq!(rt; sink.bytes(), word);
+    }
+}
+
+// The lines of one read and the writes: one behind each line with a verdict, and one for all others.
+const FLUSHES: [(&[u8], usize); 3] = [(b"a\ta\nb\tc\n", 2), (b"a\nb\n", 1), (b"a\na\ta\nb\n", 2)];
+
+#[test]
+fn written_behind_a_verdict(rt: HostRuntime) {
+    for (piece, writes) in FLUSHES {
+        let pieces = [piece];
+        let answered = Cell::new(0);
+        let mut source = Questions::new(&pieces, &answered);
+        let mut sink = Answers::new(&answered);
+        let mut lines = PlainLines { check: Same };
+        assert_eq!(rt; run_plain(&mut lines, &mut source, &mut sink, 100), 1);
+        assert_eq!(rt; sink.writes(), writes);
     }
 }
 

@@ -5,7 +5,8 @@ use Rattle.std.specs.Str.{IsUtf8}
 use Rattle.std.proofs.lemmas.Bool.Decides.{nat_tests}
 use Rattle.std.proofs.lemmas.Str.{IsUtf8-from_ascii, IsAscii-append}
 use Rattle.std.proofs.lemmas.Str.Ascii.{IsAscii-nil, IsAscii-cons}
-use Rattle.mcf.specs.Grammar.{fault, field_fault, first_field_fault, fields_text, is_field_byte, is_identifier_byte}
+use Rattle.mcf.specs.Grammar.{fault, field_fault, first_field_fault, fields_text, is_field_byte}
+use Rattle.pieces.specs.Characters.{is_name_byte}
 use Rattle.mcf.specs.Grammar.{mcf, parts, parts_text}
 use Rattle.mcf.proofs.Built.{field_bytes, identifier_bytes}
 use Rattle.mcf.proofs.ValidTexts.{parts_text-mcf, valid_of}
@@ -15,7 +16,7 @@ use Rattle.pieces.proofs.ByteTests.{all_ascii}
 field_byte : (b : ℕ) → is_field_byte b ≡ true → b < 128
 field_byte b h = grind (arith, nat_tests, h)
 
-identifier_byte : (b : ℕ) → is_identifier_byte b ≡ true → b < 128
+identifier_byte : (b : ℕ) → is_name_byte b ≡ true → b < 128
 identifier_byte b h = grind (arith, nat_tests, h)
 
 field_ascii : (field : List ℕ) → field_fault field ≡ None → IsAscii field
@@ -43,7 +44,7 @@ text_of_valid s valid = parts_text-mcf s (parts s) (mcf_of_valid s valid)
 pub valid_ascii : (s : List ℕ) → fault s ≡ None → IsAscii s
 valid_ascii s valid =
     let good = valid_of s valid in
-    let name = all_ascii is_identifier_byte identifier_byte (parts s).id
+    let name = all_ascii is_name_byte identifier_byte (parts s).id
     (identifier_bytes (parts s).id good.identifier) in
     let behind = fields_ascii (parts s).fields good.fields in
     subst (λ (t : List ℕ). IsAscii t) (text_of_valid s valid)

@@ -11,7 +11,8 @@ use Rattle.std.proofs.Math.Seq.{drop-append-add}
 use Rattle.pieces.specs.Pieces.{LacksByte, pieces_at}
 use Rattle.pieces.proofs.Cuts.{cut_append, cut_in_front, one_piece}
 use Rattle.mcf.specs.declared.error.Error.TheVariants.{FieldInvalid, EncodingInvalid}
-use Rattle.mcf.specs.Grammar.{field_fault, first_field_fault, fields_text, is_field_byte, is_identifier_byte}
+use Rattle.mcf.specs.Grammar.{field_fault, first_field_fault, fields_text, is_field_byte}
+use Rattle.pieces.specs.Characters.{is_name_byte}
 use Rattle.mcf.specs.Grammar.{is_delimited, is_identifier, fault, mcf, parts, Parts, parts_of_pieces, parts_text}
 use Rattle.mcf.specs.Grammar.{with_dollar, with_field}
 use Rattle.mcf.proofs.ValidTexts.{valid_of, pieces_of_valid}
@@ -45,7 +46,7 @@ whole s id fields delimited cut name good = (rw (delimited, cut, name) good, ap 
 
 -- ---- an identifier alone
 
-pub identifier_bytes : (id : List ℕ) → is_identifier id ≡ true → list_all is_identifier_byte id ≡ true
+pub identifier_bytes : (id : List ℕ) → is_identifier id ≡ true → list_all is_name_byte id ≡ true
 identifier_bytes id h = grind (arith, nat_tests, h)
 
 no_identifier : is_identifier [] ≡ true → ⊥
@@ -55,7 +56,7 @@ pub fault_identifier : (id : List ℕ) → is_identifier id ≡ true
     → (fault (with_dollar id) ≡ None) × (parts (with_dollar id) ≡ record { id = id; fields = [] })
 fault_identifier [] h = absurd (no_identifier h)
 fault_identifier (b ∷ id) h =
-    let none = lacks is_identifier_byte 36 refl (b ∷ id) (identifier_bytes (b ∷ id) h) in
+    let none = lacks is_name_byte 36 refl (b ∷ id) (identifier_bytes (b ∷ id) h) in
     let end = not_at_end [] b id none in
     let cut = cut_in_front 36 (b ∷ id) ∙ ap (λ (ps : List (List ℕ)). [] ∷ ps) (one_piece 36 (b ∷ id) none) in
     whole (36 ∷ (b ∷ id)) (b ∷ id) [] (rw end refl) cut h refl

@@ -1,4 +1,4 @@
--- Texts of fields without a fault, told by neighbouring bytes.
+-- Texts of fields without a fault, told by neighbouring bytes. No public clause names these words.
 use Rattle.std.specs.Prelude.{◌≡◌, ℕ, ◌+◌, ◌<◌, ◌≤◌, Bool, true, not, ◌&&◌, ◌||◌, ◌==◌, List, slice_index}
 use Rattle.mcf.specs.Grammar.{is_field_byte}
 use Rattle.pieces.specs.Characters.{dollar}

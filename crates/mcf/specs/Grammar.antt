@@ -3,8 +3,8 @@
 use Rattle.std.specs.Prelude.{ℕ, Bool, not, ◌&&◌, ◌||◌, ◌==◌, List, [], ◌∷◌, ◌++◌, nat_eq, Option, Some}
 use Rattle.std.specs.Prelude.{None, Result, if◌then◌else◌, codes}
 use Rattle.std.specs.List.{list_all, list_any, starts_with, ends_with}
-use Rattle.std.specs.Char.{is_ascii_lowercase, is_ascii_digit, is_ascii_alphanumeric}
-use Rattle.pieces.specs.Characters.{dollar, hyphen}
+use Rattle.std.specs.Char.{is_ascii_alphanumeric}
+use Rattle.pieces.specs.Characters.{dollar, hyphen, is_name_byte}
 use Rattle.pieces.specs.Faults.{or_else, unless, value_or_fault}
 use Rattle.pieces.specs.Lists.{is_empty}
 use Rattle.pieces.specs.Pieces.{pieces_at}
@@ -16,14 +16,10 @@ use Rattle.mcf.specs.declared.error.Error.TheVariants.{IdentifierInvalid}
 abbrev pub is_delimited : List ℕ → Bool
 is_delimited s = starts_with nat_eq s (dollar ∷ []) && not (ends_with nat_eq s (dollar ∷ []))
 
--- a byte of an identifier: a-z, 0-9 or `-`
-abbrev pub is_identifier_byte : ℕ → Bool
-is_identifier_byte b = is_ascii_lowercase b || is_ascii_digit b || b == hyphen
-
--- a nonempty text of such bytes that neither begins nor ends with `-`
+-- a nonempty text of a-z, 0-9 and `-` that neither begins nor ends with `-`
 abbrev pub is_identifier : List ℕ → Bool
 is_identifier s =
-    not (is_empty s) && list_all is_identifier_byte s
+    not (is_empty s) && list_all is_name_byte s
     && not (starts_with nat_eq s (hyphen ∷ [])) && not (ends_with nat_eq s (hyphen ∷ []))
 
 -- a byte of a field: a letter, a digit or one of `./+=,-`

@@ -8,8 +8,8 @@ use Rattle.stored_check.specs.Verdict.{verdict}
 use Rattle.stored_check.specs.declared.error.StoredError.{StoredError}
 use Rattle.stored_check.specs.declared.error.StoredError.TheVariants.{OutOfMemory}
 use Rattle.stored_check.proofs.Causes.{never_memory}
-use Rattle.md5_crypt.specs.Verdict.{legacy_verdict, magic_of, md5_answer, md5_fields, Md5Fields, parts_answer}
-use Rattle.md5_crypt.specs.Verdict.{stored_answer, text_answer}
+use Rattle.md5_crypt.specs.Verdict.{legacy_verdict, magic_of, md5_answer, md5_fields, Md5Fields, legacy_parts_answer}
+use Rattle.md5_crypt.specs.Verdict.{stored_answer, legacy_text_answer}
 use Rattle.md5_crypt.specs.declared.error.LegacyError.{LegacyError}
 use Rattle.md5_crypt.specs.declared.error.LegacyError.TheVariants.{Stored}
 use Rattle.md5_crypt.specs.declared.error.Md5Fault.{Md5Fault}
@@ -32,11 +32,11 @@ of_stored (Err e) other = λ h. other cc
 
 module _ (accepted : PasswordHash → List ℕ → ℕ → Bool) (tag : List ℕ → PasswordHash → List ℕ → ℕ → List ℕ)
     (password stored : List ℕ) where
-  of_parts : (o : Option Magic) (p : Parts) → Other (parts_answer accepted tag password stored o p)
+  of_parts : (o : Option Magic) (p : Parts) → Other (legacy_parts_answer accepted tag password stored o p)
   of_parts (Some magic) p = of_md5 magic password (md5_fields p.fields)
   of_parts None p = of_stored (verdict accepted tag password stored) (never_memory accepted tag password stored)
 
-  of_text : (r : Result Parts mcf_error.Error) → Other (text_answer accepted tag password stored r)
+  of_text : (r : Result Parts mcf_error.Error) → Other (legacy_text_answer accepted tag password stored r)
   of_text (Err e) = λ h. cc
   of_text (Ok p) = of_parts (magic_of p.id) p
 

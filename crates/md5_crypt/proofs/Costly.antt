@@ -11,8 +11,8 @@ use Rattle.stored_check.specs.Verdict.{may_lack_memory, parts_need, scheme_of, t
 use Rattle.stored_check.specs.declared.error.StoredError.{StoredError}
 use Rattle.stored_check.specs.declared.error.StoredError.TheVariants.{PasswordTooLong}
 use Rattle.md5_crypt.specs.Run.{has_other_identifier, is_costly}
-use Rattle.md5_crypt.specs.Verdict.{is_other, legacy_may_lack, legacy_verdict, magic_of, parts_answer, stored_answer}
-use Rattle.md5_crypt.specs.Verdict.{text_answer}
+use Rattle.md5_crypt.specs.Verdict.{is_other, legacy_may_lack, legacy_verdict, magic_of, legacy_parts_answer, stored_answer}
+use Rattle.md5_crypt.specs.Verdict.{legacy_text_answer}
 use Rattle.md5_crypt.specs.declared.error.LegacyError.TheVariants.{Stored}
 use Rattle.md5_crypt.specs.declared.magic.Magic.{Magic}
 
@@ -36,7 +36,7 @@ module _ (password stored : List ℕ) where
   by_parts : (t : Bool) (o : Option Magic) (p : Parts) (v : Result Bool StoredError)
       → verdict scrypt.accepted scrypt.key password stored ≡ v → (t ≡ true → v ≡ Err PasswordTooLong)
       → is_none o ≡ true → is_ok v ≡ true
-      → is_ok (if t then Err (Stored PasswordTooLong) else parts_answer scrypt.accepted scrypt.key password stored o p)
+      → is_ok (if t then Err (Stored PasswordTooLong) else legacy_parts_answer scrypt.accepted scrypt.key password stored o p)
       ≡ true
   by_parts t (Some magic) p v is long none ok = absurd (false≢true none)
   by_parts true None p v is long none ok = absurd (false≢true (sym (ap is_ok (long refl)) ∙ ok))
@@ -45,13 +45,13 @@ module _ (password stored : List ℕ) where
   by_text : (t : Bool) (m : Result Parts mcf_error.Error) (v : Result Bool StoredError)
       → verdict scrypt.accepted scrypt.key password stored ≡ v → (t ≡ true → v ≡ Err PasswordTooLong)
       → is_other m && (is_ok v && text_needs scrypt.needs_memory m) ≡ true
-      → (is_ok (if t then Err (Stored PasswordTooLong) else text_answer scrypt.accepted scrypt.key password stored m)
+      → (is_ok (if t then Err (Stored PasswordTooLong) else legacy_text_answer scrypt.accepted scrypt.key password stored m)
       && has_other_identifier m) ≡ true
   by_text t (Err e) v is long may = absurd (false≢true may)
   by_text t (Ok p) v is long may =
       let first = parts (is_none (magic_of p.id)) (is_ok v && parts_need scrypt.needs_memory (scheme_of p.id) p) may in
       let second = parts (is_ok v) (parts_need scrypt.needs_memory (scheme_of p.id) p) first.1 in
-      both (is_ok (if t then Err (Stored PasswordTooLong) else parts_answer scrypt.accepted scrypt.key password stored
+      both (is_ok (if t then Err (Stored PasswordTooLong) else legacy_parts_answer scrypt.accepted scrypt.key password stored
       (magic_of p.id) p)) (is_none (magic_of p.id) && is_none (scheme_of p.id))
       (by_parts t (magic_of p.id) p v is long first.0 second.0)
       (both (is_none (magic_of p.id)) (is_none (scheme_of p.id)) first.0 (no_family (scheme_of p.id) p second.1))

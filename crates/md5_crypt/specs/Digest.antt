@@ -1,5 +1,5 @@
 -- The digest of md5-crypt (Kamp's algorithm of FreeBSD's crypt(3), with the magic `$1$`; Apache's with `$apr1$`), over
--- whole lists of bytes. SHA-crypt has taken over its words: bytes repeated and cut, binary digits, and the rounds, in
+-- whole lists of bytes. The words come from sha_crypt/Digest: bytes repeated and cut, binary digits, and the rounds, in
 -- which the password and the salt themselves stand here.
 use Rattle.std.specs.Prelude.{ℕ, List, [], ◌∷◌, ◌++◌, length, take, codes}
 use Rattle.md5.specs.Md5.{md5}

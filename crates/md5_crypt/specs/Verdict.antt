@@ -60,20 +60,20 @@ stored_answer (Ok b) = Ok b
 -- By the meanings of a key derivation, for other texts.
 module _ (accepted : PasswordHash → List ℕ → ℕ → Bool) (tag : List ℕ → PasswordHash → List ℕ → ℕ → List ℕ) where
   -- by the magic of the identifier
-  abbrev pub parts_answer : List ℕ → List ℕ → Option Magic → Parts → Result Bool LegacyError
-  parts_answer password stored (Some magic) p = md5_answer magic password (md5_fields p.fields)
-  parts_answer password stored None p = stored_answer (verdict accepted tag password stored)
+  abbrev pub legacy_parts_answer : List ℕ → List ℕ → Option Magic → Parts → Result Bool LegacyError
+  legacy_parts_answer password stored (Some magic) p = md5_answer magic password (md5_fields p.fields)
+  legacy_parts_answer password stored None p = stored_answer (verdict accepted tag password stored)
 
   -- by what the modular crypt format says of the text
-  abbrev pub text_answer : List ℕ → List ℕ → Result Parts mcf_error.Error → Result Bool LegacyError
-  text_answer password stored (Err e) = Err (Stored (Mcf (mcf_name e)))
-  text_answer password stored (Ok p) = parts_answer password stored (magic_of p.id) p
+  abbrev pub legacy_text_answer : List ℕ → List ℕ → Result Parts mcf_error.Error → Result Bool LegacyError
+  legacy_text_answer password stored (Err e) = Err (Stored (Mcf (mcf_name e)))
+  legacy_text_answer password stored (Ok p) = legacy_parts_answer password stored (magic_of p.id) p
 
   -- the verdict on a password and a stored text, or the first cause that there is none
   unfoldable pub legacy_verdict : List ℕ → List ℕ → Result Bool LegacyError
   legacy_verdict password stored =
       if nat_lt password_max (length password) then Err (Stored PasswordTooLong)
-      else text_answer password stored (mcf stored)
+      else legacy_text_answer password stored (mcf stored)
 
 -- ---- want of memory
 

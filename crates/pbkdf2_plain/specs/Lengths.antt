@@ -1,4 +1,5 @@
--- How long blocks and keys are.
+-- How long blocks and keys are: proofs, which stand here as an implementation of `PhcKdf` names one of them. No public
+-- clause names these words.
 use Rattle.std.proofs.Common.{◌≡◌, ℕ, zero, suc, ◌+◌, ◌*◌, ◌/◌, List, [], ◌∷◌, length, refl, ◌∙◌, arith}
 use Rattle.std.specs.Prelude.{Option, Some, None}
 use Rattle.std.proofs.lemmas.List.{length-append, length-take-le, length-replicate}

@@ -14,8 +14,9 @@ use Rattle.base64ct.specs.Encoding.{EachBelow, character, groups}
 use Rattle.base64ct.specs.Encoding as base64
 use Rattle.base64ct.proofs.Encodings.{groups-below}
 use Rattle.phc.specs.Encoded.{encoding}
-use Rattle.phc.specs.Grammar.{has, is_name, is_name_byte, is_value_byte}
-use Rattle.phc.proofs.Decimals.{own}
+use Rattle.phc.specs.Grammar.{has_byte, is_name, is_value_byte}
+use Rattle.pieces.specs.Characters.{is_name_byte}
+use Rattle.pieces.proofs.PlainNumbers.{own}
 pub use Rattle.pieces.proofs.ByteTests.{all_append, all_weaker, lacks}
 
 not_same : (p : ℕ → Bool) (c b : ℕ) → p c ≡ false → p b ≡ true → (b == c) ≡ false
@@ -27,7 +28,7 @@ not_same p c b other h = by_test (b == c) refl
         absurd (false≢true (sym other ∙ ap p (sym same) ∙ h))
 
 -- a text of bytes among which c is none has no c
-pub has_none : (p : ℕ → Bool) (c : ℕ) → p c ≡ false → (s : List ℕ) → list_all p s ≡ true → has c s ≡ false
+pub has_none : (p : ℕ → Bool) (c : ℕ) → p c ≡ false → (s : List ℕ) → list_all p s ≡ true → has_byte c s ≡ false
 has_none p c other [] h = refl
 has_none p c other (b ∷ s) h =
     let parts = and_parts (p b) (list_all p s) h in

@@ -4,7 +4,6 @@ pub mod PairTexts
 pub mod LayoutFaults
 mod FieldFaults
 pub mod BytesLemmas
-pub mod Decimals
 pub mod Joining
 pub mod Printed
 pub mod ParsedBack

@@ -7,7 +7,8 @@ use Rattle.std.proofs.lemmas.Bool.Decides.{nat_tests}
 use Rattle.pieces.specs.Pieces.{EachLacks, pieces_at}
 use Rattle.pieces.specs.Lists.{is_empty}
 use Rattle.pieces.proofs.Cuts.{cut_joined, first_cut, one_piece}
-use Rattle.phc.specs.Grammar.{cut_pairs, has_value_bytes, is_name, is_name_byte, is_value_byte}
+use Rattle.phc.specs.Grammar.{cut_pairs, has_value_bytes, is_name, is_value_byte}
+use Rattle.pieces.specs.Characters.{is_name_byte}
 use Rattle.pieces.specs.Faults.{first_fault, unless}
 use Rattle.pieces.proofs.FaultLaws.{first_none, or_none, some_none, unless_none}
 use Rattle.pieces.proofs.ListLaws.{nil_of_empty}

@@ -18,9 +18,10 @@ use Rattle.base64ct.specs.Alphabets.{base64_unpadded}
 use Rattle.base64ct.specs.Encoding.{EachBelow}
 use Rattle.base64ct.proofs.DecodingLaws.{decoding-encoding}
 use Rattle.phc.specs.Encoded.{decoding, encoding}
-use Rattle.phc.specs.Grammar.{Layout, pieces_behind, decimal_value, fault_of, fault_of_layout, read_first, has}
-use Rattle.phc.specs.Grammar.{hash_fault, is_name, is_name_byte, is_value_byte, layout}
-use Rattle.pieces.specs.Numbers.{has_leading_zero, number_after}
+use Rattle.phc.specs.Grammar.{Layout, pieces_behind, decimal_value, fault_of, fault_of_layout, read_first, has_byte}
+use Rattle.phc.specs.Grammar.{hash_fault, is_name, is_value_byte, layout}
+use Rattle.pieces.specs.Characters.{is_name_byte}
+use Rattle.pieces.proofs.PlainNumbers.{decimal_read}
 use Rattle.phc.specs.Grammar.{pairs_of, params_text, salt_fault, text_fault, version_digits}
 use Rattle.pieces.specs.Faults.{value_or_fault}
 use Rattle.pieces.proofs.ListLaws.{no_leading_zero}
@@ -30,7 +31,6 @@ use Rattle.phc.specs.Record.{IsRecord, bytes_part, hash_part, is_lone_v, is_pair
 use Rattle.phc.specs.Record.{phc_of_pieces, phc_text, record_of_layout, record_text, version_part}
 use Rattle.phc.specs.declared.password_hash.PasswordHash.{PasswordHash}
 use Rattle.phc.proofs.Characters.{all_append, all_weaker, decimal_digits, encoding_value, has_none, lacks, name_bytes}
-use Rattle.phc.proofs.Decimals.{own}
 use Rattle.phc.proofs.PairTexts.{is_pair_byte, pair_bytes, pair_parts, valid_pairs}
 use Rattle.phc.proofs.Printed.{join_shown, shown}
 use Rattle.phc.proofs.EncodedBytes.{encoded_length}
@@ -165,14 +165,14 @@ or_true : (x y : Bool) → y ≡ true → (x || y) ≡ true
 or_true true y h = refl
 or_true false y h = h
 
-has_cut : (c : ℕ) (s t : List ℕ) → has c (s ++ c ∷ t) ≡ true
+has_cut : (c : ℕ) (s t : List ℕ) → has_byte c (s ++ c ∷ t) ≡ true
 has_cut c [] t = let same : (c == c) ≡ true = grind (arith, nat_tests) in rw same refl
-has_cut c (b ∷ s) t = or_true (b == c) (has c (s ++ c ∷ t)) (has_cut c s t)
+has_cut c (b ∷ s) t = or_true (b == c) (has_byte c (s ++ c ∷ t)) (has_cut c s t)
 
 -- parameters are no version, but for one single pair named `v`
 params_no_version : (p : List ℕ × List ℕ) (ps : Pairs) → list_all is_pair (p ∷ ps) ≡ true → is_lone_v (p ∷ ps) ≡ false
     → version_digits (pairs_text (p ∷ ps)) ≡ None
-params_no_version p [] h lone = by_test (has 44 (pair_text p))
+params_no_version p [] h lone = by_test (has_byte 44 (pair_text p))
   where
     name : is_name p.0 ≡ true
     name = (pair_parts p.0 p.1 (and_parts (is_pair p) true h).0).0
@@ -229,11 +229,11 @@ or_more : (x y z : Bool) → (y ≡ true → z ≡ true) → (x || y) ≡ true �
 or_more true y z more h = refl
 or_more false y z more h = more h
 
-has_more : (c : ℕ) (s t : List ℕ) → has c s ≡ true → has c (s ++ t) ≡ true
+has_more : (c : ℕ) (s t : List ℕ) → has_byte c s ≡ true → has_byte c (s ++ t) ≡ true
 has_more c [] t h = absurd (false≢true h)
-has_more c (b ∷ s) t h = or_more (b == c) (has c s) (has c (s ++ t)) (has_more c s t) h
+has_more c (b ∷ s) t h = or_more (b == c) (has_byte c s) (has_byte c (s ++ t)) (has_more c s t) h
 
-has_equals : (p : List ℕ × List ℕ) (ps : Pairs) → has 61 (pairs_text (p ∷ ps)) ≡ true
+has_equals : (p : List ℕ × List ℕ) (ps : Pairs) → has_byte 61 (pairs_text (p ∷ ps)) ≡ true
 has_equals p [] = has_cut 61 p.0 p.1
 has_equals p (q ∷ ps) = has_more 61 (pair_text p) (44 ∷ pairs_text (q ∷ ps)) (has_cut 61 p.0 p.1)
 
@@ -316,34 +316,18 @@ layout_of_printed r valid printable =
 
 -- ---- what the parts are read as
 
-zero_alone : has_leading_zero (decimal 0) ≡ false
-unfolding digits
-zero_alone = refl
-
-leading : (n : ℕ) → n < 2 ^ 32 → has_leading_zero (decimal n) ≡ false
-leading zero h = zero_alone
-leading (suc n) h = no_leading_zero (decimal (suc n)) (first_decimal (suc n) (omega arith) (omega (arith, h)))
-
-pub decimal_read : (n : ℕ) → n < 2 ^ 32 → decimal_value (decimal n) ≡ Some n
-decimal_read n h =
-    let value : number_after 0 (decimal n) ≡ n = digits_value-decimal own n (omega (arith, h)) in
-    let some : 0 < length (decimal n) = decimal_nonempty n (omega (arith, h)) in
-    let one : nat_le 1 (length (decimal n)) ≡ true = grind (arith, nat_tests, some) in
-    let fits : nat_lt n (2 ^ 32) ≡ true = grind (arith, nat_tests, h) in
-    rw (decimal_digits n h, leading n h, one, value, fits) refl
-
 version_none : (version : Option ℕ) → IfSome version (λ n. n < 2 ^ 32)
     → fault_of version_fault (option_map decimal version) ≡ None
 version_none None h = refl
 version_none (Some n) h =
     let bounds : length (decimal n) ≤ 10 = length-decimal-le 10 n (omega arith) (omega (arith, h)) (omega (arith, h)) in
     let short : nat_le (length (decimal n)) 64 ≡ true = grind (arith, nat_tests, bounds) in
-    rw (short, decimal_read n h) refl
+    rw (short, decimal_read (2 ^ 32) n (omega arith) h) refl
 
 version_read : (version : Option ℕ) → IfSome version (λ n. n < 2 ^ 32)
     → option_and_then decimal_value (option_map decimal version) ≡ version
 version_read None h = refl
-version_read (Some n) h = decimal_read n h
+version_read (Some n) h = decimal_read (2 ^ 32) n (omega arith) h
 
 params_none : (ps : Pairs) → list_all is_pair ps ≡ true → length (pairs_text ps) ≤ 127
     → fault_of text_fault (params_piece ps) ≡ None

@@ -20,8 +20,8 @@ use Rattle.base64ct.proofs.DecodingLaws.{decoding-Some, same_true}
 use Rattle.phc.specs.Encoded.{decoding}
 use Rattle.phc.specs.Grammar.{fault_of, version_fault, text_fault, salt_fault}
 use Rattle.phc.specs.Grammar.{hash_fault, pairs_of, pair_of, text_pairs, decimal_value, fault_of_layout, layout}
-use Rattle.phc.specs.Grammar.{version_digits, params_text, read_first, pieces_behind, has, is_plain}
-use Rattle.pieces.specs.Numbers.{has_leading_zero, number_after}
+use Rattle.phc.specs.Grammar.{version_digits, params_text, read_first, pieces_behind, has_byte}
+use Rattle.pieces.proofs.PlainNumbers.{decimal_back}
 use Rattle.pieces.proofs.FaultLaws.{err_ok, value_found}
 use Rattle.phc.specs.Params.{Pairs, pairs_text}
 use Rattle.phc.specs.PairsOfText.{pairs_text-text_pairs}
@@ -29,7 +29,6 @@ use Rattle.phc.specs.Record.{record_of_layout, phc, phc_of_pieces, phc_text, ver
 use Rattle.phc.specs.Record.{hash_part, record_text}
 use Rattle.phc.specs.declared.error.Error.TheVariants.{MissingField}
 use Rattle.phc.specs.declared.password_hash.PasswordHash.{PasswordHash}
-use Rattle.phc.proofs.Decimals.{own}
 use Rattle.phc.proofs.FieldFaults.{decimal_found, good_hash, good_salt}
 use Rattle.phc.proofs.LayoutFaults.{good_parts}
 
@@ -45,7 +44,7 @@ join_shown id (p ∷ ps) = ap (λ (t : List ℕ). id ++ (36 ∷ t)) (join_shown 
 -- ---- the version
 
 version_text : (q digits : List ℕ) → version_digits q ≡ Some digits → q ≡ codes "v=" ++ digits
-version_text q digits h = by_tests (has 44 q) (starts_with nat_eq q (codes "v=")) refl h
+version_text q digits h = by_tests (has_byte 44 q) (starts_with nat_eq q (codes "v=")) refl h
   where
     by_tests : (comma starts : Bool) → starts_with nat_eq q (codes "v=") ≡ starts
         → (if comma then None else (if starts then Some (drop 2 q) else None)) ≡ Some digits → q ≡ codes "v=" ++ digits
@@ -57,28 +56,6 @@ version_text q digits h = by_tests (has 44 q) (starts_with nat_eq q (codes "v=")
         sym (take-append-drop 2 q) ∙ ap (λ (x : List ℕ). x ++ drop 2 q) (sym front)
         ∙ ap (λ (x : List ℕ). codes "v=" ++ x) rest
 
-lone_zero : (ds : List ℕ) → not (has_leading_zero ds) ≡ true → get_or ds 0 0 ≡ 48 → length ds ≡ 1
-lone_zero [] h z = absurd (omega (arith, z))
-lone_zero (d ∷ []) h z = refl
-lone_zero (d ∷ e ∷ ds) h z = let same : d ≡ 48 = z in absurd (grind (arith, nat_tests, h, same))
-
-decimal_back : (digits : List ℕ) (n : ℕ) → decimal_value digits ≡ Some n → decimal n ≡ digits
-decimal_back digits n h =
-    by_test (is_plain digits && nat_le 1 (length digits) && nat_lt (number_after 0 digits) (2 ^ 32)) refl h
-  where
-    by_test : (t : Bool) → (is_plain digits && nat_le 1 (length digits) && nat_lt (number_after 0 digits) (2 ^ 32)) ≡ t
-        → (if t then Some (number_after 0 digits) else None) ≡ Some n → decimal n ≡ digits
-    by_test false is e = absurd (none-some n e)
-    by_test true is e =
-        let outer = and_parts (is_plain digits && nat_le 1 (length digits)) (nat_lt (number_after 0 digits) (2 ^ 32))
-        is in
-        let inner = and_parts (is_plain digits) (nat_le 1 (length digits)) outer.0 in
-        let plain = and_parts (list_all is_ascii_digit digits) (not (has_leading_zero digits)) inner.0 in
-        let some : 0 < length digits = grind (arith, nat_tests, inner.1) in
-        let small : number_after 0 digits < 2 ^ 32 = grind (arith, nat_tests, outer.1) in
-        ap decimal (sym (same_Some (number_after 0 digits) n e))
-        ∙ decimal-digits_value own digits plain.0 some (lone_zero digits plain.1) (omega (arith, small))
-
 version_case : (q : List ℕ) (qs : List (List ℕ)) (r : Option (List ℕ)) → version_digits q ≡ r
     → fault_of version_fault r ≡ None
     → shown (q ∷ qs) ≡ version_part (option_and_then decimal_value r) ++ shown (pieces_behind r (q ∷ qs))
@@ -88,7 +65,7 @@ version_case q qs (Some digits) is h = by_value (decimal_value digits) refl
     by_value : (n : Option ℕ) → decimal_value digits ≡ n → shown (q ∷ qs) ≡ version_part n ++ shown qs
     by_value None e =
         absurd (false≢true (ap is_some (sym e) ∙ decimal_found digits h))
-    by_value (Some n) e = rw (version_text q digits is, decimal_back digits n e) refl
+    by_value (Some n) e = rw (version_text q digits is, decimal_back (2 ^ 32) digits n (omega arith) e) refl
 
 version_shown : (pieces : List (List ℕ)) → fault_of version_fault (read_first version_digits pieces) ≡ None
     → shown pieces ≡ version_part (option_and_then decimal_value (read_first version_digits pieces))
@@ -108,7 +85,7 @@ pairs_shown b s h =
     (ap (λ (ps : List (List ℕ)). map pair_of (map (pieces_at 61) ps)) cut.are)
     ∙ ap (λ (t : List ℕ). 36 ∷ t) (pairs_text-text_pairs (b ∷ s) h)
 
-params_case : (q : List ℕ) (qs : List (List ℕ)) (test : Bool) → has 61 q ≡ test
+params_case : (q : List ℕ) (qs : List (List ℕ)) (test : Bool) → has_byte 61 q ≡ test
     → fault_of text_fault (if test then Some q else None) ≡ None
     → shown (q ∷ qs) ≡ params_part (pairs_of (if test then Some q else None))
     ++ shown (pieces_behind (if test then Some q else None) (q ∷ qs))
@@ -120,7 +97,7 @@ params_shown : (pieces : List (List ℕ)) → fault_of text_fault (read_first pa
     → shown pieces ≡ params_part (pairs_of (read_first params_text pieces))
     ++ shown (pieces_behind (read_first params_text pieces) pieces)
 params_shown [] h = refl
-params_shown (q ∷ qs) h = params_case q qs (has 61 q) refl h
+params_shown (q ∷ qs) h = params_case q qs (has_byte 61 q) refl h
 
 -- ---- salt and hash
 

@@ -15,9 +15,9 @@ use Rattle.base64ct.specs.Alphabets.{base64_unpadded}
 use Rattle.base64ct.specs.Encoding.{EachBelow}
 use Rattle.base64ct.proofs.DecodingLaws.{decoding-Some, length-decodable, same_true}
 use Rattle.phc.specs.Encoded.{decoding}
-use Rattle.phc.specs.Grammar.{pieces_behind, cut_pairs, decimal_value, fault_of, fault_of_layout, read_first, has}
-use Rattle.phc.specs.Grammar.{hash_fault, is_plain, layout, pair_fault, pairs_of}
-use Rattle.pieces.specs.Numbers.{number_after}
+use Rattle.phc.specs.Grammar.{pieces_behind, cut_pairs, decimal_value, fault_of, fault_of_layout, read_first, has_byte}
+use Rattle.phc.specs.Grammar.{hash_fault, layout, pair_fault, pairs_of}
+use Rattle.pieces.proofs.PlainNumbers.{found}
 use Rattle.phc.specs.Grammar.{params_text, salt_fault, text_fault, text_pairs, version_digits}
 use Rattle.pieces.specs.Faults.{unless}
 use Rattle.phc.specs.Grammar.{version_fault}
@@ -53,7 +53,7 @@ lone_version : (q : List ℕ) (p : List ℕ × List ℕ) → q ≡ pair_text p �
     → pointwise nat_eq p.0 (codes "v") ≡ true → version_digits q ≡ Some p.1
 lone_version q p is valid lone =
     let name : p.0 ≡ codes "v" = same_true p.0 (codes "v") lone in
-    let none : has 44 q ≡ false =
+    let none : has_byte 44 q ≡ false =
     has_none is_pair_byte 44 refl q (ap (list_all is_pair_byte) is ∙ pair_bytes p valid) in
     let text : q ≡ codes "v=" ++ p.1 = is ∙ ap (λ (n : List ℕ). n ++ 61 ∷ p.1) name in
     rw none (ap (λ (t : List ℕ). if starts_with nat_eq t (codes "v=") then Some (drop 2 t) else None) text)
@@ -86,7 +86,7 @@ version_case : (q : List ℕ) (qs : List (List ℕ)) (version : Option (List ℕ
     → (is_none (option_and_then decimal_value version)
     && is_lone_v (pairs_of (read_first params_text (pieces_behind version (q ∷ qs))))) ≡ false
 version_case q qs (Some digits) is v h = rw (some_not_none (decimal_value digits) (decimal_found digits v)) refl
-version_case q qs None is v h = params_case q (has 61 q) is h
+version_case q qs None is v h = params_case q (has_byte 61 q) is h
 
 no_lone_v : (pieces : List (List ℕ)) → fault_of version_fault (read_first version_digits pieces) ≡ None
     → fault_of text_fault (read_first params_text (pieces_behind (read_first version_digits pieces) pieces)) ≡ None
@@ -101,14 +101,11 @@ no_lone_v (q ∷ qs) v h = version_case q qs (version_digits q) refl v h
 version_bound : (digits : Option (List ℕ)) → IfSome (option_and_then decimal_value digits) (λ n. n < 2 ^ 32)
 version_bound None = tt
 version_bound (Some digits) =
-    by_test (is_plain digits && nat_le 1 (length digits) && nat_lt (number_after 0 digits) (2 ^ 32)) refl
+    by_result (decimal_value digits) refl
   where
-    by_test : (t : Bool) → (is_plain digits && nat_le 1 (length digits) && nat_lt (number_after 0 digits) (2 ^ 32)) ≡ t
-        → IfSome (if t then Some (number_after 0 digits) else None) (λ n. n < 2 ^ 32)
-    by_test false is = tt
-    by_test true is = let small =
-        (and_parts (is_plain digits && nat_le 1 (length digits)) (nat_lt (number_after 0 digits) (2 ^ 32)) is).1 in
-        grind (arith, nat_tests, small)
+    by_result : (r : Option ℕ) → decimal_value digits ≡ r → IfSome r (λ n. n < 2 ^ 32)
+    by_result None is = tt
+    by_result (Some n) is = (found (2 ^ 32) digits n is).below
 
 pairs_are : (text : Option (List ℕ)) → fault_of text_fault text ≡ None → list_all is_pair (pairs_of text) ≡ true
 pairs_are None h = refl

@@ -11,7 +11,8 @@ use Rattle.std.proofs.lemmas.Fmt.{length-decimal-le}
 use Rattle.std.proofs.lemmas.Str.{IsUtf8-from_ascii}
 use Rattle.base64ct.specs.Encoding.{EachBelow}
 use Rattle.phc.specs.Encoded.{encoding}
-use Rattle.phc.specs.Grammar.{has_value_bytes, is_name, is_name_byte, is_value_byte, value_fault}
+use Rattle.phc.specs.Grammar.{has_value_bytes, is_name, is_value_byte, value_fault}
+use Rattle.pieces.specs.Characters.{is_name_byte}
 use Rattle.phc.specs.declared.error.Error.TheVariants.{ParamValueInvalid, ParamValueTooLong}
 use Rattle.phc.proofs.Characters.{all_weaker, encoding_value}
 use Rattle.phc.proofs.EncodedBytes.{encoded_length}

@@ -6,11 +6,11 @@ use Rattle.std.specs.Prelude.{ℕ, ◌^◌, Bool, not, ◌&&◌, ◌||◌, List,
 use Rattle.std.specs.Prelude.{nat_lt, nat_le, length, drop, Option, Some, None, is_some, unwrap_or}
 use Rattle.std.specs.Prelude.{if◌then◌else◌, codes, map}
 use Rattle.std.specs.List.{list_all, list_any}
-use Rattle.std.specs.Char.{is_ascii_lowercase, is_ascii_digit, is_ascii_alphanumeric}
+use Rattle.std.specs.Char.{is_ascii_alphanumeric}
 use Rattle.std.specs.declared.cmp.Ordering.TheVariants.{Less}
-use Rattle.pieces.specs.Numbers.{has_leading_zero, number_after}
+use Rattle.pieces.specs.Numbers.{plain_number}
 use Rattle.pieces.specs.Faults.{first_fault, or_else, unless}
-use Rattle.pieces.specs.Characters.{comma, equals, hyphen}
+use Rattle.pieces.specs.Characters.{comma, equals, is_name_byte}
 use Rattle.pieces.specs.Pieces.{pieces_at, first, behind}
 use Rattle.pieces.specs.Lists.{is_empty}
 use Rattle.base64ct.specs.declared.errors.Error.TheVariants.{InvalidEncoding, InvalidLength}
@@ -23,29 +23,21 @@ use Rattle.phc.specs.Limits.{name_max, output_min, output_text_max, params_max, 
 
 -- ---- names, values and decimals
 
--- a-z, 0-9 or `-`
-abbrev pub is_name_byte : ℕ → Bool
-is_name_byte b = is_ascii_lowercase b || is_ascii_digit b || b == hyphen
-
--- 1 to 32 such characters
+-- 1 to 32 characters of a-z, 0-9 and `-`
 abbrev pub is_name : List ℕ → Bool
 is_name s = nat_le 1 (length s) && nat_le (length s) name_max && list_all is_name_byte s
 
--- characters of A-Z a-z 0-9 `/` `+` `.` `-`
+-- a character of a value: one of A-Z, a-z, 0-9, `/`, `+`, `.` and `-`
 abbrev pub is_value_byte : ℕ → Bool
 is_value_byte b = is_ascii_alphanumeric b || list_any (λ c. c == b) (codes "/+.-")
 
+-- all characters are those of values
 abbrev pub has_value_bytes : List ℕ → Bool
 has_value_bytes s = list_all is_value_byte s
 
--- digits without a leading zero
-abbrev pub is_plain : List ℕ → Bool
-is_plain s = list_all is_ascii_digit s && not (has_leading_zero s)
-
--- the number of a nonempty text of digits without a leading zero, below 2 ^ 32
+-- the number below 2 ^ 32 that a text writes plainly
 abbrev pub decimal_value : List ℕ → Option ℕ
-decimal_value s =
-    if is_plain s && nat_le 1 (length s) && nat_lt (number_after 0 s) (2 ^ 32) then Some (number_after 0 s) else None
+decimal_value s = plain_number (2 ^ 32) s
 
 -- ---- faults, one after another
 
@@ -75,16 +67,17 @@ pub record Layout : Type 0 where
   pub hash : Option (List ℕ)
   pub rest : List (List ℕ)
 
-abbrev pub has : ℕ → List ℕ → Bool
-has c s = list_any (λ b. b == c) s
+-- the byte c stands in the text
+abbrev pub has_byte : ℕ → List ℕ → Bool
+has_byte c s = list_any (λ b. b == c) s
 
 -- what stands behind `v=` in a piece without a comma
 abbrev pub version_digits : List ℕ → Option (List ℕ)
-version_digits s = if has comma s then None else behind s (codes "v=")
+version_digits s = if has_byte comma s then None else behind s (codes "v=")
 
 -- a piece with `=`
 abbrev pub params_text : List ℕ → Option (List ℕ)
-params_text s = if has equals s then Some s else None
+params_text s = if has_byte equals s then Some s else None
 
 -- what the first piece is read as
 abbrev pub read_first : (List ℕ → Option (List ℕ)) → List (List ℕ) → Option (List ℕ)
@@ -139,12 +132,15 @@ pair_of (name ∷ (value ∷ more)) = (name, value)
 pair_of (name ∷ []) = (name, [])
 pair_of [] = ([], [])
 
+-- the fault of a version, behind `v=`: more than 64 characters, or no number below 2 ^ 32. The format has no bound on
+-- the digits of a version: phc 0.6.1 reads it as a value, and so 65 digits are ParamValueTooLong
 abbrev pub version_fault : List ℕ → Option Error
 version_fault s = first_fault
     (unless (nat_le (length s) value_max) ParamValueTooLong
     ∷ (unless (is_some (decimal_value s)) ParamValueInvalid
     ∷ []))
 
+-- the fault of parameters: more than 127 characters, else the first fault of a pair, in their order
 abbrev pub params_fault : List ℕ → Option Error
 params_fault s = first_fault
     (unless (nat_le (length s) params_max) ParamsMaxExceeded ∷ map pair_fault (cut_pairs s))
@@ -157,6 +153,7 @@ text_fault s = if is_empty s then None else params_fault s
 abbrev pub text_pairs : List ℕ → List (List ℕ × List ℕ)
 text_pairs s = if is_empty s then [] else map pair_of (cut_pairs s)
 
+-- the fault of a salt: fewer than 11 or more than 64 characters, else no encoding of bytes
 abbrev pub salt_fault : List ℕ → Option Error
 salt_fault s = first_fault
     (unless (nat_le salt_text_min (length s)) SaltTooShort
@@ -185,6 +182,7 @@ fault_of_layout id l = first_fault
     ∷ (unless (is_empty l.rest) TrailingData
     ∷ []))))))
 
+-- the pairs of parameters that may be absent
 abbrev pub pairs_of : Option (List ℕ) → List (List ℕ × List ℕ)
 pairs_of None = []
 pairs_of (Some s) = text_pairs s

@@ -21,15 +21,15 @@ params_max = 127
 abbrev pub salt_min : ℕ
 salt_min = 8
 
--- the most
+-- the most bytes of a salt
 abbrev pub salt_max : ℕ
 salt_max = 48
 
--- the fewest characters of its text
+-- the fewest characters of the text of a salt
 abbrev pub salt_text_min : ℕ
 salt_text_min = 11
 
--- the most
+-- the most characters of the text of a salt
 abbrev pub salt_text_max : ℕ
 salt_text_max = 64
 
@@ -37,10 +37,10 @@ salt_text_max = 64
 abbrev pub output_min : ℕ
 output_min = 10
 
--- the most
+-- the most bytes of an output
 abbrev pub output_max : ℕ
 output_max = 64
 
--- the most characters of its text
+-- the most characters of the text of an output
 abbrev pub output_text_max : ℕ
 output_text_max = 86

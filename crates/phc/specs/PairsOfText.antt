@@ -1,4 +1,5 @@
--- A text without a fault is the text of its pairs.
+-- Proofs that the model of `ParamsString` cites: a text without a fault is the text of its pairs. No public clause names
+-- these words.
 use Rattle.std.specs.Prelude.{◌≡◌, ℕ, List, [], ◌∷◌, nat_le, map, length, Some, None, refl}
 use Rattle.std.proofs.Common.{◌∙◌, ap}
 use Rattle.std.specs.List.{join_with_byte}

@@ -38,6 +38,7 @@ abbrev pub from_id : List (List ℕ) → Result PasswordHash Error
 from_id [] = Err MissingField
 from_id (id ∷ pieces) = phc id pieces
 
+-- a text cut at every `$`: nothing stands before the first
 abbrev pub phc_of_pieces : List (List ℕ) → Result PasswordHash Error
 phc_of_pieces [] = Err MissingField
 phc_of_pieces (front ∷ others) = if is_empty front then from_id others else Err MissingField
@@ -48,14 +49,17 @@ phc_text s = phc_of_pieces (pieces_at dollar s)
 
 -- ---- how a record prints
 
+-- `$v=` and the version, where there is one
 abbrev pub version_part : Option ℕ → List ℕ
 version_part None = []
 version_part (Some n) = codes "$v=" ++ decimal n
 
+-- `$` and the parameters, where there are some
 abbrev pub params_part : Pairs → List ℕ
 params_part [] = []
 params_part (p ∷ ps) = dollar ∷ pairs_text (p ∷ ps)
 
+-- `$` and the encoding of a salt or a hash, where there is one
 abbrev pub bytes_part : Option (List ℕ) → List ℕ
 bytes_part None = []
 bytes_part (Some b) = dollar ∷ encoding b

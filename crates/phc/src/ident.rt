@@ -6,11 +6,11 @@ ghost use Rattle.std.specs.Cmp.{on_equiv, partial_order_from_own_ties};
 ghost use Rattle.std.specs.Cmp.Lexicographic.{slice_cmp};
 ghost use Rattle.std.specs.Cmp.Rules.{comparing};
 ghost use Rattle.std.proofs.Common.{rules};
-ghost use Rattle.phc.specs.Grammar.{is_name, is_name_byte, name_fault};
+ghost use Rattle.phc.specs.Grammar.{is_name, name_fault};
 ghost use Rattle.pieces.specs.Faults.{value_or_fault};
-ghost use Rattle.std.specs.List.{list_all};
 
 use crate::{Error, Result};
+use pieces::characters::has_name_bytes;
 use pieces::short_bytes::ShortBytes;
 use std::cmp::Ordering;
 use std::fmt;
@@ -36,19 +36,6 @@ impl Model for Ident {
     ghost invariant = { λ i. is_name i.text ≡ true };
 
     ghost inverse = { λ s. record { text = s } };
-}
-
-// Whether a byte is a character of names.
-fn byte_of_name(b: u8) -> bool
-    ensures { result ≡ is_name_byte b }
-{
-    b.is_ascii_lowercase() || b.is_ascii_digit() || b == b'-'
-}
-
-fn has_name_bytes(bytes: &[u8]) -> bool
-    ensures { result ≡ list_all is_name_byte bytes.now }
-{
-    bytes.iter().all(|b| byte_of_name(*b))
 }
 
 /// Whether a text is a name.

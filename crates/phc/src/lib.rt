@@ -22,12 +22,8 @@ pub mod laws;
 mod layout;
 mod output;
 mod params;
-#[cfg(test)]
-mod part_tests;
 mod password_hash;
 mod password_hash_string;
 mod salt;
-#[cfg(test)]
-mod tests;
 mod try_fill;
 mod value;

@@ -59,10 +59,10 @@ impl PasswordHashString {
     }
 
     /// A copy.
-    pub fn try_clone(&self, alloc: Global) -> Result<Self, AllocError>
+    pub fn try_clone(&self) -> Result<Self, AllocError>
         ensures same { IfOk result (λ h. h ≡ self.now) }
     {
-        let text = String::from_str(alloc, self.as_str())?;
+        let text = self.text.clone()?;
         let parsed = self.parsed.clone()?;
         Ok(PasswordHashString { text, parsed })
     }

@@ -5,7 +5,8 @@ ghost use Rattle.std.specs.Char.{is_ascii_digit};
 ghost use Rattle.std.specs.List.{list_all};
 ghost use Rattle.std.specs.Option.{ok_or};
 ghost use Rattle.std.specs.Result.{result_err};
-ghost use Rattle.phc.specs.Grammar.{decimal_value, has_value_bytes, is_plain, is_value_byte, value_fault};
+ghost use Rattle.phc.specs.Grammar.{decimal_value, has_value_bytes, is_value_byte, value_fault};
+ghost use Rattle.pieces.specs.Numbers.{is_plain_number};
 ghost use Rattle.pieces.specs.Lists.{is_empty};
 
 use crate::{Error, Result};
@@ -170,18 +171,18 @@ fn has_digits(bytes: &[u8]) -> bool
     bytes.iter().all(|b| b.is_ascii_digit())
 }
 
-// Whether a text is digits without a leading zero.
-fn is_plain(s: &str) -> bool
-    ensures { result ≡ is_plain s.now }
+// Whether a text is one digit or more, without a leading zero.
+fn is_plain_number(s: &str) -> bool
+    ensures { result ≡ is_plain_number s.now }
 {
-    has_digits(s.as_bytes()) && !(1 < s.len() && begins_with(s, "0"))
+    has_digits(s.as_bytes()) && !(1 < s.len() && begins_with(s, "0")) && !s.is_empty()
 }
 
 /// The number that a text writes.
 pub(crate) fn decimal(s: &str) -> Option<Decimal>
     ensures { result ≡ decimal_value s.now }
 {
-    if !is_plain(s) {
+    if !is_plain_number(s) {
         return None;
     }
     match s.parse::<u32>() {

@@ -3,6 +3,8 @@ pub mod Cuts
 pub mod FaultLaws
 pub mod Fronts
 pub mod ListLaws
+pub mod PlainNumbers
+pub mod RisenCounts
 mod Vectors
 mod Ascii
 mod LastPlaces

@@ -1,5 +1,6 @@
--- Names of characters (ASCII).
-use Rattle.std.specs.Prelude.{ℕ}
+-- Names of characters (ASCII), and of the sets of them that several formats share.
+use Rattle.std.specs.Prelude.{ℕ, Bool, ◌||◌, ◌==◌}
+use Rattle.std.specs.Char.{is_ascii_lowercase, is_ascii_digit}
 
 -- `$`
 abbrev pub dollar : ℕ
@@ -16,3 +17,11 @@ hyphen = 45
 -- `=`
 abbrev pub equals : ℕ
 equals = 61
+
+-- a tab
+abbrev pub is_tab : ℕ → Bool
+is_tab b = b == 9
+
+-- a-z, 0-9 or `-`: a byte of an identifier of crypt(5)'s formats, and of a name of the PHC string format
+abbrev pub is_name_byte : ℕ → Bool
+is_name_byte b = is_ascii_lowercase b || is_ascii_digit b || b == hyphen

@@ -1,4 +1,4 @@
--- Facts on bytes with zeros after them.
+-- Facts on bytes with zeros after them, which the view of `ShortBytes` rests on. No public clause names these words.
 use Rattle.std.specs.Prelude.{◌≡◌, ℕ, ◌-◌, ◌≤◌, List, ◌++◌, length, take, drop, replicate}
 use Rattle.std.proofs.Common.{arith, length-take-le, take-append-drop}
 

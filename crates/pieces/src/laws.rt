@@ -1,7 +1,9 @@
 //! Laws over the definitions.
 
-ghost use Rattle.std.specs.Prelude.{◌≡◌, ℕ, List, ◌∷◌, ◌++◌};
+ghost use Rattle.std.specs.Prelude.{◌≡◌, ◌<◌, ◌≤◌, ◌^◌, ◌↔◌, ℕ, List, ◌∷◌, ◌++◌, Some};
+ghost use Rattle.std.specs.Fmt.{decimal};
 ghost use Rattle.std.specs.List.{join_with_byte};
+ghost use Rattle.pieces.specs.Numbers.{plain_number};
 ghost use Rattle.pieces.specs.Pieces.{EachLacks, LacksByte, pieces_at};
 
 /// The pieces of a text, joined with the byte at which it was cut, are the text.
@@ -23,4 +25,10 @@ pub fn cut_append()
 /// No piece has the byte at which the text was cut.
 pub fn pieces_lack()
     ensures pieces { (c : ℕ) (text : List ℕ) → EachLacks c (pieces_at c text) }
+{}
+
+/// A number below a bound is written plainly by its decimal, and by no other text.
+pub fn plain_numbers()
+    ensures texts { (bound n : ℕ) (s : List ℕ) → bound ≤ 2 ^ 64
+        → (plain_number bound s ≡ Some n) ↔ ((n < bound) × (s ≡ decimal n)) }
 {}

@@ -9,6 +9,7 @@ ghost use Rattle.std.specs.List.{starts_with, ends_with};
 ghost use Rattle.pieces.specs.Pieces.{pieces_at, pieces_left, first, lent, behind};
 ghost use Rattle.pieces.specs.Lists.{is_empty};
 
+pub mod characters;
 pub mod laws;
 pub mod places;
 pub mod short_bytes;

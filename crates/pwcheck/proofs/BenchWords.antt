@@ -5,7 +5,7 @@ use Rattle.std.specs.Fmt.{decimal}
 use Rattle.std.specs.Io.KnownBytes.{Appends}
 use Rattle.std.proofs.lemmas.Fmt.{digits_value-decimal}
 use Rattle.pieces.specs.Numbers.{number_after}
-use Rattle.phc.proofs.Decimals.{own}
+use Rattle.pieces.proofs.PlainNumbers.{own}
 use Rattle.line_io.specs.Devices.{AppendsPrefix}
 use Rattle.pwcheck.specs.Bench.{summary}
 use Rattle.pwcheck.specs.BenchOutcome.{BenchOutcome}

@@ -1,5 +1,5 @@
 -- Runs that keep their input whole.
-use Rattle.std.proofs.Common.{◌≡◌, ◌≢◌, ℕ, ◌<◌, ◌≤◌, List, [], ◌∷◌, ◌++◌, length, drop, refl, sym, ap, ◌∙◌, subst}
+use Rattle.std.proofs.Common.{◌≡◌, ◌≢◌, ℕ, ◌<◌, ◌≤◌, ◌+◌, List, [], ◌∷◌, ◌++◌, length, drop, refl, sym, ap, ◌∙◌, subst}
 use Rattle.std.proofs.Common.{arith, Option, Some}
 use Rattle.std.specs.Io.KnownBytes.{Consumes, Appends, IsAtEnd}
 use Rattle.std.proofs.lemmas.List.{length-append, nil_from_length}
@@ -24,9 +24,9 @@ use Rattle.pwcheck.specs.Streams.{Wraps, Unwraps, KeptOutcome}
 
 -- nothing is written, as the input isn't there whole, or memory is wanting
 pub kept_stopped : (Gives : List ℕ → List ℕ → Type 0) (status max : ℕ) (a b c d : Option (List ℕ)) (taken : List ℕ)
-    → Consumes a b taken → d ≡ c → 3 ≤ status → status ≤ 6 → status ≢ 4 → (status ≡ 6 → max < length taken)
+    → Consumes a b taken → d ≡ c → length taken ≤ max + 1 → 3 ≤ status → status ≤ 6 → status ≢ 4 → (status ≡ 6 → max < length taken)
     → WhereTold a b c d (λ held taken added. KeptOutcome Gives status max held taken added)
-kept_stopped Gives status max a b c d taken took same low high other over =
+kept_stopped Gives status max a b c d taken took same bounded low high other over =
     subst (λ (e : Option (List ℕ)).
     WhereTold a b c e (λ held taken added. KeptOutcome Gives status max held taken added)) (sym same)
     (where_told a b c c taken [] (λ held taken added. KeptOutcome Gives status max held taken added) took
@@ -35,6 +35,7 @@ kept_stopped Gives status max a b c d taken took same low high other over =
       write_fault = λ e. absurd (other e);
       budget = λ e. omega (arith, over e, ap length sum, length-append taken rest);
       no_output = λ e. absurd (omega (arith, e, high));
+      bounded = bounded;
       nothing = λ _ _. refl;
     }))
 
@@ -49,6 +50,7 @@ kept_done Gives max a b c d input output took end within wrote gives =
       write_fault = λ e. absurd (omega (arith, e));
       budget = λ e. absurd (omega (arith, e));
       no_output = λ e. absurd (omega (arith, e));
+      bounded = omega (arith, within);
       nothing = λ no_done _. absurd (no_done refl);
     })
 
@@ -66,6 +68,7 @@ kept_none Gives max a b c d input took end within same none =
       write_fault = λ e. absurd (omega (arith, e));
       budget = λ e. absurd (omega (arith, e));
       no_output = λ _. (within, refl, none);
+      bounded = omega (arith, within);
       nothing = λ _ _. refl;
     }))
 

@@ -8,9 +8,9 @@ use Rattle.stored_check.specs.Verdict.{verdict}
 use Rattle.stored_check.specs.declared.error.StoredError.TheVariants.{OutOfMemory}
 use Rattle.stored_check.proofs.Causes.{never_memory}
 use Rattle.scrypt_plain.specs.Profile.{accepted, key}
-use Rattle.line_program.specs.PlainOutput.{is_tab}
+use Rattle.pieces.specs.Characters.{is_tab}
 use Rattle.pwcheck.specs.Answer.{IsAnswer, IsTextAnswer, answer, answer_text, answer_word, counts_text, has_verdict}
-use Rattle.pwcheck.specs.Answer.{line_may_lack, text_answer}
+use Rattle.pwcheck.specs.Answer.{line_may_lack, utf8_answer}
 use Rattle.pwcheck.specs.declared.answer.Answer.{Answer}
 use Rattle.pwcheck.specs.declared.answer.Answer.TheVariants.{TooLong, BadLine, Checked}
 use Rattle.pwcheck.specs.declared.form.Form.{Form}
@@ -39,7 +39,7 @@ by_test false x y hx hy = hy
 of_verdict : (password stored : List ℕ) → Known (Checked (verdict accepted key password stored))
 of_verdict password stored = λ h. never_memory accepted key password stored (cc h)
 
-known_text : (text : List ℕ) → Known (text_answer text)
+known_text : (text : List ℕ) → Known (utf8_answer text)
 known_text text = by_test (list_any is_tab text) _ _ (of_verdict (before_last is_tab text) (after_last is_tab text))
     (λ h. cc)
 

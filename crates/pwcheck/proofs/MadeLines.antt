@@ -9,7 +9,7 @@ use Rattle.stored_check.specs.Verdict.{IsVerdict, verdict}
 use Rattle.stored_check.specs.declared.error.StoredError.{StoredError}
 use Rattle.stored_check.specs.declared.error.StoredError.TheVariants.{OutOfMemory}
 use Rattle.scrypt_plain.specs.Profile.{accepted, key}
-use Rattle.pwcheck.specs.Bench.{asked_password, count_lines, drawn, is_other, line_seed, line_verdict, made_text}
+use Rattle.pwcheck.specs.Bench.{asked_password, count_lines, drawn, line_seed, line_verdict, made_text, says_neither}
 use Rattle.pwcheck.specs.Bench.{seeded}
 
 pub drawn_is : (n i : ℕ) → characters 8 (seeded (line_seed n i)) ≡ drawn n i
@@ -62,6 +62,6 @@ pub at_most_one : (b : Bool) → bool_byte b ≤ 1
 at_most_one true = omega arith
 at_most_one false = omega arith
 
-pub other_is : (r : Result Bool StoredError) → is_err r ≡ is_other r
+pub other_is : (r : Result Bool StoredError) → is_err r ≡ says_neither r
 other_is (Ok b) = refl
 other_is (Err e) = refl

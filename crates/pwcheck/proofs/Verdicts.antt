@@ -23,7 +23,7 @@ use Rattle.stored_check.proofs.MadeTexts as made_texts
 use Rattle.stored_check.specs.Verdict.{verdict}
 use Rattle.stored_check.specs.declared.error.StoredError.{StoredError}
 use Rattle.scrypt_plain.specs.Profile.{accepted, key}
-use Rattle.pwcheck.specs.Bench.{asked_password, count_lines, drawn, is_match, is_mismatch, is_other, line_seed}
+use Rattle.pwcheck.specs.Bench.{asked_password, count_lines, drawn, says_match, says_mismatch, says_neither, line_seed}
 use Rattle.pwcheck.specs.Bench.{line_verdict, made_text, scrypt_text, seeded}
 use Rattle.pwcheck.specs.BenchOutcome.{IsCounted}
 
@@ -145,15 +145,15 @@ line_answered n i =
 -- ---- the counts
 
 step : (k m mm o : ℕ) (v : Result Bool StoredError) → IsAnswered k v → o ≡ 0 → m + mm ≡ k → k - k / 4 ≤ m
-    → (o + (if is_other v then 1 else 0) ≡ 0)
-    × ((m + (if is_match v then 1 else 0)) + (mm + (if is_mismatch v then 1 else 0)) ≡ suc k)
-    × (suc k - suc k / 4 ≤ m + (if is_match v then 1 else 0))
+    → (o + (if says_neither v then 1 else 0) ≡ 0)
+    × ((m + (if says_match v then 1 else 0)) + (mm + (if says_mismatch v then 1 else 0)) ≡ suc k)
+    × (suc k - suc k / 4 ≤ m + (if says_match v then 1 else 0))
 step k m mm o v h none all most = by_answer h.0 h.1 h.2
   where
     by_answer : (b : Bool) → v ≡ Ok b → (k % 4 ≢ 3 → b ≡ true)
-        → (o + (if is_other v then 1 else 0) ≡ 0)
-        × ((m + (if is_match v then 1 else 0)) + (mm + (if is_mismatch v then 1 else 0)) ≡ suc k)
-        × (suc k - suc k / 4 ≤ m + (if is_match v then 1 else 0))
+        → (o + (if says_neither v then 1 else 0) ≡ 0)
+        × ((m + (if says_match v then 1 else 0)) + (mm + (if says_mismatch v then 1 else 0)) ≡ suc k)
+        × (suc k - suc k / 4 ≤ m + (if says_match v then 1 else 0))
     by_answer true is third = rw is (omega (arith, none), omega (arith, all), omega (arith, most))
     by_answer false is third =
         let at : k % 4 ≡ 3 = elim (cases_Bool (k % 4 == 3)) [
@@ -162,13 +162,13 @@ step k m mm o v h none all most = by_answer h.0 h.1 h.2
         ] in
         rw is (omega (arith, none), omega (arith, all), omega (arith, most, at))
 
-counted : (n k : ℕ) → (count_lines is_other n k ≡ 0) × (count_lines is_match n k + count_lines is_mismatch n k ≡ k)
-    × (k - k / 4 ≤ count_lines is_match n k)
+counted : (n k : ℕ) → (count_lines says_neither n k ≡ 0) × (count_lines says_match n k + count_lines says_mismatch n k ≡ k)
+    × (k - k / 4 ≤ count_lines says_match n k)
 unfolding count_lines
 counted n zero = (refl, refl, omega arith)
 counted n (suc k) =
     let before = counted n k in
-    step k (count_lines is_match n k) (count_lines is_mismatch n k) (count_lines is_other n k) (line_verdict n k)
+    step k (count_lines says_match n k) (count_lines says_mismatch n k) (count_lines says_neither n k) (line_verdict n k)
     (line_answered n k) before.0 before.1 before.2
 
 -- no line is invalid, and of each four lines three match

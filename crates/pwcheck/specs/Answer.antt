@@ -13,17 +13,19 @@ use Rattle.pwcheck.specs.declared.answer.Answer.{Answer}
 use Rattle.pwcheck.specs.declared.answer.Answer.TheVariants.{TooLong, BadLine, Checked}
 use Rattle.pwcheck.specs.declared.form.Form.{Form}
 use Rattle.pwcheck.specs.declared.form.Form.TheVariants.{Plain, Counted}
-use Rattle.line_program.specs.PlainOutput.{is_tab}
+use Rattle.pieces.specs.Characters.{is_tab}
 use Rattle.line_program.specs.Rules.{LineRules, each_line}
 use Rattle.line_io.specs.Limits.{line_max}
 
 -- ---- words
 
+-- the word of an answer
 abbrev pub answer_word : Answer → List ℕ
 answer_word TooLong = codes "toolong"
 answer_word BadLine = codes "badline"
 answer_word (Checked r) = word r
 
+-- a match
 abbrev pub is_match : Answer → Bool
 is_match (Checked (Ok b)) = b
 is_match (Checked (Err e)) = false
@@ -39,29 +41,31 @@ has_verdict BadLine = false
 
 -- ---- the answer of a line
 
--- what stands before the last tab, the password, has a verdict with the stored text behind it, or the first cause
--- that it has none
-abbrev pub text_answer : List ℕ → Answer
-text_answer text =
+-- the answer of a line that is UTF-8: what stands before the last tab, the password, has a verdict with the stored text
+-- behind it, or the first cause that it has none
+abbrev pub utf8_answer : List ℕ → Answer
+utf8_answer text =
     if list_any is_tab text then Checked (verdict accepted key (before_last is_tab text) (after_last is_tab text)) else
     BadLine
 
 -- The answer of a line, by the first that holds: more than 8,192 bytes; no UTF-8; no tab; else by its verdict.
 unfoldable pub answer : List ℕ → Answer
-answer line = if nat_lt line_max (length line) then TooLong else if is_utf8 line then text_answer line else BadLine
+answer line = if nat_lt line_max (length line) then TooLong else if is_utf8 line then utf8_answer line else BadLine
 
 -- the line is valid, its identifier is neither `5` nor `6`, and the derivation may need memory for its record
 abbrev pub text_may_lack : List ℕ → Bool
 text_may_lack text =
     list_any is_tab text && may_lack_memory accepted needs_memory key (before_last is_tab text) (after_last is_tab text)
 
+-- memory may be wanting for a line: it has at most 8,192 bytes, is UTF-8, and the above holds of it
 unfoldable pub line_may_lack : List ℕ → Bool
 line_may_lack line = if nat_lt line_max (length line) then false else if is_utf8 line then text_may_lack line else false
 
--- an answer is that of the line; or want of memory, where that may be
+-- an answer is that of a line that is UTF-8; or want of memory, where that may be
 abbrev pub IsTextAnswer : List ℕ → Answer → Type 0
-IsTextAnswer text a = (a ≡ text_answer text) ⊎ ((a ≡ Checked (Err of_stored.OutOfMemory)) × (text_may_lack text ≡ true))
+IsTextAnswer text a = (a ≡ utf8_answer text) ⊎ ((a ≡ Checked (Err of_stored.OutOfMemory)) × (text_may_lack text ≡ true))
 
+-- the same of any line
 abbrev pub IsAnswer : List ℕ → Answer → Type 0
 IsAnswer line a = (a ≡ answer line) ⊎ ((a ≡ Checked (Err of_stored.OutOfMemory)) × (line_may_lack line ≡ true))
 
@@ -75,6 +79,7 @@ line_looks line = verdict_looks (after_last is_tab line)
 abbrev pub line_comparisons : List ℕ → ℕ
 line_comparisons line = verdict_comparisons (after_last is_tab line)
 
+-- the counts, as they stand behind a match or a mismatch
 abbrev pub counts_text : ℕ → ℕ → List ℕ
 counts_text looks sames = codes " looks=" ++ decimal looks ++ codes " sames=" ++ decimal sames
 
@@ -85,9 +90,11 @@ abbrev pub answer_text : Form → Answer → ℕ → ℕ → List ℕ
 answer_text Plain a looks sames = answer_word a ++ 10 ∷ []
 answer_text Counted a looks sames = answer_word a ++ (if has_verdict a then counts_text looks sames else []) ++ 10 ∷ []
 
+-- what is written for a line
 abbrev pub line_output : Form → List ℕ → List ℕ
 line_output form line = answer_text form (answer line) (line_looks line) (line_comparisons line)
 
+-- the answer of a line is a match
 abbrev pub line_is_good : List ℕ → Bool
 line_is_good line = is_match (answer line)
 

@@ -64,38 +64,46 @@ line_verdict n i = verdict accepted key (asked_password i (drawn n i).0) (made_t
 
 -- ---- the counts
 
-abbrev pub is_match : Result Bool StoredError → Bool
-is_match (Ok b) = b
-is_match (Err e) = false
+-- the verdict is a match
+abbrev pub says_match : Result Bool StoredError → Bool
+says_match (Ok b) = b
+says_match (Err e) = false
 
-abbrev pub is_mismatch : Result Bool StoredError → Bool
-is_mismatch (Ok b) = not b
-is_mismatch (Err e) = false
+-- the verdict is a mismatch
+abbrev pub says_mismatch : Result Bool StoredError → Bool
+says_mismatch (Ok b) = not b
+says_mismatch (Err e) = false
 
-abbrev pub is_other : Result Bool StoredError → Bool
-is_other (Ok b) = false
-is_other (Err e) = true
+-- there is no verdict
+abbrev pub says_neither : Result Bool StoredError → Bool
+says_neither (Ok b) = false
+says_neither (Err e) = true
 
 -- of how many of the first k lines among n the verdict passes a test
 unfoldable pub count_lines : (Result Bool StoredError → Bool) → ℕ → ℕ → ℕ
 count_lines test n zero = 0
 count_lines test n (suc k) = count_lines test n k + (if test (line_verdict n k) then 1 else 0)
 
+-- how many of n lines match
 abbrev pub matches : ℕ → ℕ
-matches n = count_lines is_match n n
+matches n = count_lines says_match n n
 
+-- how many do not
 abbrev pub mismatches : ℕ → ℕ
-mismatches n = count_lines is_mismatch n n
+mismatches n = count_lines says_mismatch n n
 
+-- how many have no verdict
 abbrev pub others : ℕ → ℕ
-others n = count_lines is_other n n
+others n = count_lines says_neither n n
 
 -- ---- what is written
 
+-- the line of the number of lines and these three counts
 abbrev pub summary_text : ℕ → ℕ → ℕ → ℕ → List ℕ
 summary_text n a b c =
     codes "lines " ++ decimal n ++ codes " match " ++ decimal a ++ codes " mismatch " ++ decimal b ++ codes " other "
     ++ decimal c ++ codes "\n"
 
+-- the summary of n lines
 unfoldable pub summary : ℕ → List ℕ
 summary n = summary_text n (matches n) (mismatches n) (others n)

@@ -4,6 +4,7 @@ use Rattle.line_program.specs.Rules.{StateRules}
 use Rattle.pwcheck.specs.Normalize.{fits, normal_line}
 use Rattle.pwcheck.specs.declared.normalizer.Normalizer.{Normalizer}
 
+-- each line is answered by itself, without memory
 abbrev pub normalizer_rules : StateRules Normalizer
 normalizer_rules = record {
   reply = λ normalizer line. normal_line line;

@@ -7,7 +7,7 @@ ghost use Rattle.pieces.specs.FaultCounts.{HasRisen};
 ghost use Rattle.rand_chacha.specs.ChaCha.{of_seed};
 ghost use Rattle.rand_core.specs.Stream.{Stream, fill_bytes};
 ghost use Rattle.sha_crypt.specs.Simple.{characters, sha256_text, sha512_text};
-ghost use Rattle.pwcheck.specs.Bench.{is_match, is_mismatch, is_other, line_seed, line_verdict, made_text, matches, mismatches, others, scrypt_record, scrypt_text, summary, summary_text};
+ghost use Rattle.pwcheck.specs.Bench.{line_seed, line_verdict, made_text, matches, mismatches, others, says_match, says_mismatch, scrypt_record, scrypt_text, summary, summary_text};
 ghost use Rattle.stored_check.specs.Limits.{password_max};
 
 use line_io::{Failed, Sink, write_all};
@@ -170,13 +170,13 @@ struct Counted {
 }
 
 fn is_match(answer: &Result<bool, StoredError>) -> bool
-    ensures { result ≡ is_match answer.now }
+    ensures { result ≡ says_match answer.now }
 {
     matches!(answer, Ok(true))
 }
 
 fn is_mismatch(answer: &Result<bool, StoredError>) -> bool
-    ensures { result ≡ is_mismatch answer.now }
+    ensures { result ≡ says_mismatch answer.now }
 {
     matches!(answer, Ok(false))
 }

@@ -1,7 +1,8 @@
 //! What answers the lines of a password file.
 
+use crate::answer::Answer;
 use crate::form::Form;
-use crate::line_answer::{answer_line, put_answer};
+use crate::line_answer::{LineAnswer, answer_line, put_answer};
 use line_io::{OutputBuffer, Sink};
 use line_program::Responder;
 use scrypt_plain::ScryptKept;
@@ -44,7 +45,12 @@ impl Responder for Checker {
     }
 
     fn answer_long<K: Sink>(&mut self, out: &mut OutputBuffer, sink: &mut K) -> bool {
-        out.put(sink, b"toolong\n");
+        let long = LineAnswer {
+            answer: Answer::TooLong,
+            looks: 0,
+            sames: 0,
+        };
+        put_answer(out, sink, self.form, &long);
         false
     }
 }

@@ -1,8 +1,7 @@
 //! The forms of words beside `check`, and each device call failing in turn.
 
-ghost use Rattle.std.specs.Prelude.{◌≤◌};
-
-use crate::{Words, run, run_limited};
+use crate::runs::{Devices, ONE_CALL, SMALL_STEPS, run_over, run_within, words};
+use crate::{Words, run};
 use line_io::{MemorySink, MemorySource};
 use std::alloc::{AllocError, Global};
 use std::process::Abort;
@@ -22,7 +21,7 @@ const LEFT_ALONE: &[u8] =
     b"$2a$12$R9h/cIPz0gi.URNNX3kh2OPST9/PgBkqquzi.Ss7KIUgO2t0jWMUW\n\n\xff\t$\n$5$rounds=999$s$x\n";
 
 // Two words, an input, the output and the status.
-const ROWS: [(&str, &str, &[u8], &[u8], u8); 27] = [
+const ROWS: [(&str, &str, &[u8], &[u8], u8); 28] = [
     ("wrap", "4", &[0; 6], b"AAAA\nAAAA", 0),
     ("wrap", "5", &[0; 6], b"AAAAA\nAAA", 0),
     ("wrap", "4", &[0; 7], b"AAAA\nAAAA\nAA==", 0),
@@ -44,6 +43,13 @@ const ROWS: [(&str, &str, &[u8], &[u8], u8); 27] = [
     ("unwrap", "4", b"AAAA\n\n", b"", 7),
     ("unwrap", "4", b"", b"", 0),
     ("unwrap", "99999999999999999999999999", b"", b"", 2),
+    (
+        "bench",
+        "3",
+        b"x",
+        b"lines 3 match 3 mismatch 0 other 0\n",
+        0,
+    ),
     (
         "bench",
         "8",
@@ -85,29 +91,11 @@ const LINES: &str = "Hello world!\t$5$saltstring$5B8vYYiY.CVt1RlTTf8KbXBH3hsxY/G
     \t$x$abcdabcdabc$AAAAAAAAAAAAAA\n\
     \t$scrypt$ln=1,r=1,p=1$abcdabcdabc$AAAAAAAAAAAAAA";
 
-fn words(alloc: Global, list: &[&str]) -> Result<Words, AllocError> {
-    let mut words = Words::new(alloc);
-    for word in list {
-        words.push(word)?;
-    }
-    Ok(words)
-}
-
-// The status of a run over an input, which must write this.
-fn run_over<R: Abort>(rt: &R, alloc: Global, words: &Words, input: &[u8], output: &[u8]) -> u8 {
-    let mut room = [0u8; 1_024];
-    let mut source = MemorySource::new(input, 3, &[]);
-    let mut sink = MemorySink::new(&mut room, 7, &[]);
-    let status = run(alloc, words, &mut source, &mut sink);
-    assert_eq!(rt; sink.bytes(), output);
-    status
-}
-
 #[test]
 fn rows_of_two_words(rt: HostRuntime) -> Result<(), Fail> {
     for (first, second, input, output, status) in ROWS {
         let words = words(rt.alloc(), &[first, second])?;
-        let got = run_over(&rt, rt.alloc(), &words, input, output);
+        let got = run_over(&rt, rt.alloc(), &words, input, SMALL_STEPS, output);
         assert_eq!(rt; got, status, "{first} {second}");
     }
     Ok(())
@@ -121,15 +109,14 @@ fn earlier_texts_and_others(rt: HostRuntime) -> Result<(), Fail> {
         (NORMAL.as_bytes(), NORMAL.as_bytes()),
         (LEFT_ALONE, LEFT_ALONE),
     ] {
-        assert_eq!(rt; run_over(&rt, rt.alloc(), &words, input, output), 0);
+        let got = run_over(&rt, rt.alloc(), &words, input, SMALL_STEPS, output);
+        assert_eq!(rt; got, 0);
     }
     let mut long = Vec::new(rt.alloc());
     long.resize(8_193, b'a')?;
     long.extend_from_slice(b"\n$5")?;
-    assert_eq!(rt;
-        run_over(&rt, rt.alloc(), &words, &long, b"toolong\n$5\n"),
-        1
-    );
+    let got = run_over(&rt, rt.alloc(), &words, &long, SMALL_STEPS, b"toolong\n$5\n");
+    assert_eq!(rt; got, 1);
     Ok(())
 }
 
@@ -168,24 +155,23 @@ fn whole_output(alloc: Global, words: &Words, input: &[u8]) -> Result<Vec<u8>, A
     Vec::from_slice(alloc, sink.bytes())
 }
 
-// A run whose read `call` fails ends with 3, and has written the first `kept` bytes of the output.
+// A run whose read `call` fails ends with 3, and has written `kept`.
 fn failing_read<R: Abort>(
     rt: &R,
     alloc: Global,
     words: &Words,
     input: &[u8],
-    step: usize,
+    read: usize,
     call: usize,
     kept: &[u8],
 ) {
-    assert!(rt; step >= 1);
-    let calls = [call as u64];
-    let mut room = [0u8; 1_024];
-    let mut source = MemorySource::new(input, step, &calls);
-    let mut sink = MemorySink::new(&mut room, 64, &[]);
-    let status = run(alloc, words, &mut source, &mut sink);
+    let devices = Devices {
+        read,
+        bad_reads: &[call as u64],
+        ..ONE_CALL
+    };
+    let status = run_over(rt, alloc, words, input, devices, kept);
     assert_eq!(rt; status, 3);
-    assert_eq!(rt; sink.bytes(), kept, "{step} {call}");
 }
 
 // A run whose write `call` fails ends with 4, and has written the beginning of the output, with a sink of step 1 its
@@ -274,14 +260,73 @@ fn bounds_of_whole_inputs(rt: HostRuntime) -> Result<(), Fail> {
         ("unwrap", 5, b"", 6),
         ("unwrap", 6, b"", 7),
     ] {
-        assert!(rt; max <= 1_000);
         let words = words(rt.alloc(), &[first, "4"])?;
-        let mut room = [0u8; 64];
-        let mut source = MemorySource::new(&[0; 6], 3, &[]);
-        let mut sink = MemorySink::new(&mut room, 7, &[]);
-        let got = run_limited(rt.alloc(), &words, &mut source, &mut sink, max);
+        let got = run_within(&rt, rt.alloc(), &words, &[0; 6], max, output);
         assert_eq!(rt; got, status, "{first} {max}");
-        assert_eq!(rt; sink.bytes(), output);
+    }
+    Ok(())
+}
+
+// A text: some bytes so many times, and what stands behind them.
+type Repeated = (&'static [u8], usize, &'static [u8]);
+
+fn repeated(alloc: Global, text: Repeated) -> Result<Vec<u8>, AllocError> {
+    let (unit, count, last) = text;
+    let mut bytes = Vec::new(alloc);
+    for _ in 0..count {
+        bytes.extend_from_slice(unit)?;
+    }
+    bytes.extend_from_slice(last)?;
+    Ok(bytes)
+}
+
+// A word, an input, its output and the status, for 10,000 bytes, for 1,048,576, and for one byte more.
+const LONG_INPUTS: [(&str, Repeated, Repeated, u8); 6] = [
+    (
+        "wrap",
+        (b"abc", 3_333, b"a"),
+        (b"YWJj\n", 3_333, b"YQ=="),
+        0,
+    ),
+    (
+        "wrap",
+        (b"abc", 349_525, b"a"),
+        (b"YWJj\n", 349_525, b"YQ=="),
+        0,
+    ),
+    ("wrap", (b"abc", 349_525, b"ab"), (b"", 0, b""), 6),
+    (
+        "unwrap",
+        (b"YWJj\n", 2_000, b""),
+        (b"abc", 2_000, b""),
+        0,
+    ),
+    (
+        "unwrap",
+        (b"YWJj\r\n", 174_762, b"YWJj"),
+        (b"abc", 174_763, b""),
+        0,
+    ),
+    (
+        "unwrap",
+        (b"YWJj\r\n", 174_762, b"YWJj\n"),
+        (b"", 0, b""),
+        6,
+    ),
+];
+
+#[test]
+fn long_inputs(rt: HostRuntime) -> Result<(), Fail> {
+    for (first, input, output, status) in LONG_INPUTS {
+        let words = words(rt.alloc(), &[first, "4"])?;
+        let input = repeated(rt.alloc(), input)?;
+        let output = repeated(rt.alloc(), output)?;
+        let mut room = Vec::from_elem(rt.alloc(), 0u8, output.len() + 1)?;
+        let mut source = MemorySource::new(&input, 65_536, &[]);
+        let mut sink = MemorySink::new(&mut room, 65_536, &[]);
+        let got = run(rt.alloc(), &words, &mut source, &mut sink);
+        assert_eq!(rt; got, status, "{first}");
+        assert!(rt; sink.bytes() == output.as_slice(), "{first}");
     }
     Ok(())
 }

@@ -1,6 +1,7 @@
 //! What is written for a line.
 
-ghost use Rattle.std.specs.Prelude.{◌≡◌, ◌≢◌, Err, MatchOption, true};
+ghost use Rattle.std.specs.Prelude.{◌≡◌, ◌≢◌, ◌≤◌, Err, MatchOption, length, true};
+ghost use Rattle.line_io.specs.Limits.{line_max};
 ghost use Rattle.line_io.specs.Output.{Puts};
 ghost use Rattle.pwcheck.specs.Answer.{answer_text, counts_text, is_match, line_is_good, line_may_lack, line_output};
 
@@ -51,8 +52,9 @@ pub fn put_answer<K: Sink>(out: &mut OutputBuffer, sink: &mut K, form: Form, lin
     }
 }
 
-/// The answer of a line with its counts; none where memory is wanting.
+/// The answer of a line of at most 8,192 bytes with its counts; none where memory is wanting.
 pub fn answer_line(alloc: Global, kdf: &ScryptKept, line: &[u8]) -> Option<LineAnswer>
+    requires short { length line.now ≤ line_max }
     ensures answered { MatchOption result (line_may_lack line.now ≡ true)
         (λ a. (a.answer ≢ Answer.Checked (Err StoredError.OutOfMemory))
         × ((form : Form) → answer_text form a.answer a.looks a.sames ≡ line_output form line.now)

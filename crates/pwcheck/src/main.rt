@@ -1,8 +1,12 @@
-//! `pwcheck check`: answers each line of a password file with one word; `pwcheck check --count` adds how
-//! often the alphabet was looked up and bytes were compared.
+//! `pwcheck`: passwords checked against stored texts. [`run`] does what the words of the command line say:
 //!
-//! A line is a password, a tab and a stored text. The lines come from standard input, and each word goes
-//! to standard output with a line feed. The status says how the run ended.
+//! - `check` answers each line, a password, a tab and a stored text, by one word; `check --count` adds how often the
+//!   alphabet was looked up and bytes were compared;
+//! - `normalize` writes the normal text of each line, a stored text;
+//! - `bench N` makes `N` lines, checks them and counts the answers;
+//! - `wrap W` writes the padded Base64 of its input in lines of `W` characters, and `unwrap W` the bytes of such lines.
+//!
+//! Lines and bytes come from standard input, and the output goes to standard output. The status says how the run ended.
 #![tactic(auto)]
 
 mod answer;
@@ -18,6 +22,8 @@ mod line_answer;
 mod normalize;
 mod normalizer;
 mod program;
+#[cfg(test)]
+mod runs;
 mod streams;
 #[cfg(test)]
 mod tests;

@@ -7,6 +7,7 @@ ghost use Rattle.line_io.specs.Limits.{line_max};
 
 use line_io::{OutputBuffer, Sink};
 use line_program::Responder;
+use pieces::text::text_of;
 use std::alloc::AllocError;
 use stored_check::write_normal;
 
@@ -30,9 +31,9 @@ fn write_line(line: &[u8], out: &mut [u8]) -> usize
     ensures fits { result ≤ length line.now }
     ensures written { out.new ≡ normal line.now ++ drop result out.old }
 {
-    match str::from_utf8(line) {
-        Ok(text) => write_normal(text, out),
-        Err(_) => copy_line(line, out),
+    match text_of(line) {
+        Some(text) => write_normal(text, out),
+        None => copy_line(line, out),
     }
 }
 

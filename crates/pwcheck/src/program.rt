@@ -16,12 +16,9 @@ use crate::check::check_lines;
 use crate::form::Form;
 use crate::normalize::normalize_lines;
 use crate::streams::{unwrap_input, wrap_input};
-use line_io::{Sink, Source};
+use line_io::{INPUT_MAX, Sink, Source};
 use line_program::status::BAD_WORDS;
 use std::alloc::Global;
-
-/// The most bytes of an input.
-const INPUT_MAX: u64 = 1 << 40;
 
 /// Does what the words of the command line say, over a source of at most `max` bytes, and gives the status.
 ///
@@ -29,8 +26,9 @@ const INPUT_MAX: u64 = 1 << 40;
 /// `check` and `normalize` keep the lines one at a time in a buffer of 16,384 bytes, and replies are gathered in another:
 /// they are written where it is full, before each read, behind a match or a mismatch, and at the end. Of `check` only
 /// the key of a scrypt record takes memory: the table of the largest such record so far, which is kept for those that
-/// follow and given back at the end. `normalize` takes none; `bench` keeps one stored text at a time, and the summary;
-/// `wrap` and `unwrap` keep their whole input, at most 1,048,576 bytes.
+/// follow and given back at the end. `normalize` takes none. `bench` keeps one stored text at a time, takes a table for
+/// each line of scrypt and gives it back, and keeps the summary; `wrap` and `unwrap` keep their whole input, at most
+/// 1,048,576 bytes, and their output.
 pub fn run_limited<S: Source, K: Sink>(
     alloc: Global,
     words: &Words,

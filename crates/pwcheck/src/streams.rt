@@ -11,11 +11,8 @@ ghost use Rattle.pwcheck.specs.Streams.{longest_kept, Wraps, Unwraps, KeptOutcom
 use crate::input::{Stop, read_all};
 use base64ct::{Base64, DecodeVecError, Decoder, Encoder, Encoding, LineEnding};
 use line_io::{Failed, Sink, Source, write_all};
-use line_program::status::{NO_MEMORY, OVER_MAX, READ_FAULT, WRITE_FAULT};
+use line_program::status::{ALL_GOOD, NO_MEMORY, OVER_MAX, READ_FAULT, WRITE_FAULT};
 use std::alloc::{AllocError, Global};
-
-/// The status where all is written.
-const DONE: u8 = 0;
 
 /// The status where the input is no encoding in lines.
 const NO_TEXT: u8 = 7;
@@ -109,14 +106,14 @@ pub fn wrap_input<S: Source, K: Sink>(
         Err(stop) => return stopped(stop),
     };
     if input.len() == 0 {
-        return DONE;
+        return ALL_GOOD;
     }
     let mut text = match room_for(alloc, &input, width) {
         Ok(text) => text,
         Err(_) => return NO_MEMORY,
     };
     match write_all(sink, wrapped(&input, &mut text, width).as_bytes()) {
-        Ok(()) => DONE,
+        Ok(()) => ALL_GOOD,
         Err(Failed) => WRITE_FAULT,
     }
 }
@@ -148,7 +145,7 @@ pub fn unwrap_input<S: Source, K: Sink>(
         Err(DecodeVecError::OutOfMemory) => return NO_MEMORY,
     };
     match write_all(sink, &bytes) {
-        Ok(()) => DONE,
+        Ok(()) => ALL_GOOD,
         Err(Failed) => WRITE_FAULT,
     }
 }

@@ -1,10 +1,7 @@
 //! Worked lines, bounds and failing devices.
 
-ghost use Rattle.std.specs.Prelude.{◌≤◌};
-
-use crate::{Words, run, run_limited, word};
-use line_io::{MemorySink, MemorySource};
-use std::alloc::{AllocError, Global};
+use crate::runs::{Devices, ONE_CALL, SMALL_STEPS, run_over, run_within, words};
+use crate::word;
 use std::test::Fail;
 use stored_check::{PhcFault, StoredError};
 
@@ -13,7 +10,7 @@ const TWO_LINES: &str = "Hello world!\t$5$saltstring$5B8vYYiY.CVt1RlTTf8KbXBH3hs
     Hello world\t$5$saltstring$5B8vYYiY.CVt1RlTTf8KbXBH3hsxY/GNooZaBBGWEc5\n";
 
 // An input, the output and the status.
-const ROWS: [(&[u8], &str, u8); 36] = [
+const ROWS: [(&[u8], &str, u8); 37] = [
     (b"", "", 0),
     (
         b"Hello world!\t$5$saltstring$5B8vYYiY.CVt1RlTTf8KbXBH3hsxY/GNooZaBBGWEc5\n",
@@ -126,6 +123,15 @@ const ROWS: [(&[u8], &str, u8); 36] = [
         "phc-hash-long\n",
         1,
     ),
+    // Tables of scrypt that grow and serve a smaller record after a larger one. The texts are OpenSSL's.
+    (
+        b"password\t$scrypt$ln=1,r=1,p=1$U29kaXVtQ2hsb3JpZGUuLg$aXeJ8OAWXZrChJSPC3VT+ciipv4fbEZS4cE8anFKgiE\n\
+        password\t$scrypt$ln=4,r=1,p=1$U29kaXVtQ2hsb3JpZGUuLg$WrDz6Xexws1Y/UQzk3c+1RN7RoqTJ2sRZTmobThr0dQ\n\
+        passwort\t$scrypt$ln=1,r=1,p=1$U29kaXVtQ2hsb3JpZGUuLg$aXeJ8OAWXZrChJSPC3VT+ciipv4fbEZS4cE8anFKgiE\n\
+        password\t$scrypt$ln=1,r=1,p=1$U29kaXVtQ2hsb3JpZGUuLg$aXeJ8OAWXZrChJSPC3VT+ciipv4fbEZS4cE8anFKgiE\n",
+        "match\nmatch\nmismatch\nmatch\n",
+        1,
+    ),
     // The salt of 20 bytes, and its first 16, which give the same field.
     (
         b"Hello world!\t$5$saltstringsaltstring$a5C8Ofk71MUIoKve2QuP9FMl.dwNgseF5tR1LGAL7iB\n",
@@ -176,27 +182,32 @@ const PHC_CAUSES: [(&str, &str, usize, &str, &str); 15] = [
     ("$x$abcdabcdabc$", "A", 14, "", "kdf\n"),
 ];
 
-// An input of `check --count` and the output.
-const COUNTED: [(&[u8], &str); 5] = [
+// An input of `check --count`, the output and the status. Each line has fresh counts.
+const COUNTED: [(&str, &str, u8); 5] = [
     (
-        b"Hello world!\t$5$saltstring$5B8vYYiY.CVt1RlTTf8KbXBH3hsxY/GNooZaBBGWEc5\n",
+        TWO_LINES,
+        "match looks=44 sames=36\nmismatch looks=44 sames=36\n",
+        1,
+    ),
+    (
+        "Hello world!\t$5$saltstring$5B8vYYiY.CVt1RlTTf8KbXBH3hsxY/GNooZaBBGWEc5\n",
         "match looks=44 sames=36\n",
+        0,
     ),
     (
-        b"Hello world\t$5$saltstring$5B8vYYiY.CVt1RlTTf8KbXBH3hsxY/GNooZaBBGWEc5\n",
-        "mismatch looks=44 sames=36\n",
-    ),
-    (
-        b"Hello world!\t$5$saltstring$5B8vYYiY.CVt1RlTTf8KbXBH3hsxY/GNooZaBBGWEcL\n",
+        "Hello world!\t$5$saltstring$5B8vYYiY.CVt1RlTTf8KbXBH3hsxY/GNooZaBBGWEcL\n",
         "sha-format\n",
+        1,
     ),
     (
-        b"Hello world!\t$6$saltstring$svn8UoSVapNtMuq1ukKS4tPQd8iKwSMHWjl/O817G3uBnIFNjnQJuesI68u4OTLiBFdcbYEdFCoEOfaS35inz1\n",
+        "Hello world!\t$6$saltstring$svn8UoSVapNtMuq1ukKS4tPQd8iKwSMHWjl/O817G3uBnIFNjnQJuesI68u4OTLiBFdcbYEdFCoEOfaS35inz1\n",
         "match looks=88 sames=68\n",
+        0,
     ),
     (
-        b"password\t$scrypt$ln=16,r=8,p=1$aM15713r3Xsvxbi31lqr1Q$nFNh2CVHVjNldFVKDHDlm4CbdRSCdEBsjjJxD+iCs5E\nx\n",
+        "password\t$scrypt$ln=16,r=8,p=1$aM15713r3Xsvxbi31lqr1Q$nFNh2CVHVjNldFVKDHDlm4CbdRSCdEBsjjJxD+iCs5E\nx\n",
         "match looks=68 sames=40\nbadline\n",
+        1,
     ),
 ];
 
@@ -246,57 +257,65 @@ const FAILING_READS: [(usize, u64, &str); 6] = [
     (16384, 1, "match\nmismatch\n"),
 ];
 
-fn check_word(alloc: Global) -> Result<Words, AllocError> {
-    let mut words = Words::new(alloc);
-    words.push("check")?;
-    Ok(words)
-}
+// A line that matches.
+const LINE: &str = "Hello world!\t$5$saltstring$5B8vYYiY.CVt1RlTTf8KbXBH3hsxY/GNooZaBBGWEc5\n";
+
+// What stands before some letters, how many there are, what stands behind them, and the output.
+const LENGTHS: [(&str, usize, &str, &str); 5] = [
+    ("", 4_096, "\t$\n", "mcf-delimiter\nmatch\n"),
+    ("", 4_097, "\t$\n", "password-too-long\nmatch\n"),
+    ("", 8_192, "\n", "badline\nmatch\n"),
+    ("", 8_193, "\n", "toolong\nmatch\n"),
+    (LINE, 20_000, "\n", "match\ntoolong\nmatch\n"),
+];
+
+// An input, the writes that fail, the output and the status. A line with a verdict is written at once; other words wait.
+const WRITES: [(&str, &[u64], &str, u8); 5] = [
+    (TWO_LINES, &[], "match\nmismatch\n", 1),
+    (TWO_LINES, &[1], "match\n", 4),
+    ("x\n\t\n", &[1], "badline\nmcf-delimiter\n", 1),
+    ("x\n\t\n", &[0], "", 4),
+    (
+        "x\nHello world!\t$5$saltstring$5B8vYYiY.CVt1RlTTf8KbXBH3hsxY/GNooZaBBGWEc5\nx\n",
+        &[1],
+        "badline\nmatch\n",
+        4,
+    ),
+];
 
 #[test]
 fn lines_and_their_words(rt: HostRuntime) -> Result<(), Fail> {
-    let words = check_word(rt.alloc())?;
+    let words = words(rt.alloc(), &["check"])?;
     for (input, output, status) in ROWS {
-        let mut room = [0; 64];
-        let mut source = MemorySource::new(input, 16_384, &[]);
-        let mut sink = MemorySink::new(&mut room, 64, &[]);
-        let got = run(rt.alloc(), &words, &mut source, &mut sink);
+        let got = run_over(&rt, rt.alloc(), &words, input, ONE_CALL, output.as_bytes());
         assert_eq!(rt; got, status, "{output:?}");
-        assert_eq!(rt; sink.bytes(), output.as_bytes());
     }
     Ok(())
 }
 
 #[test]
-fn prefixes_of_a_stored_text(rt: HostRuntime) -> Result<(), Fail> {
-    let words = check_word(rt.alloc())?;
+fn prefixes_of_stored_texts(rt: HostRuntime) -> Result<(), Fail> {
+    let words = words(rt.alloc(), &["check"])?;
     let line = TWO_LINES.as_bytes();
     assert!(rt; line.len() == 141);
     for (from, to, word) in PREFIXES {
         assert!(rt; to <= 58);
         for kept in from..to {
-            let mut room = [0; 64];
-            let mut source = MemorySource::new(&line[..13 + kept], 16_384, &[]);
-            let mut sink = MemorySink::new(&mut room, 64, &[]);
-            let _ = run(rt.alloc(), &words, &mut source, &mut sink);
-            assert_eq!(rt; sink.bytes(), word.as_bytes(), "{kept}");
+            let status = if kept == 57 { 0 } else { 1 };
+            let input = &line[..13 + kept];
+            let got = run_over(&rt, rt.alloc(), &words, input, ONE_CALL, word.as_bytes());
+            assert_eq!(rt; got, status, "{kept}");
         }
     }
-    Ok(())
-}
-
-#[test]
-fn prefixes_of_a_scrypt_text(rt: HostRuntime) -> Result<(), Fail> {
-    let words = check_word(rt.alloc())?;
     let line = SCRYPT_TEXT.as_bytes();
     assert!(rt; line.len() == 97);
     for (lengths, word) in SCRYPT_PREFIXES {
         for kept in lengths {
             assert!(rt; *kept <= 88);
-            let mut room = [0; 64];
-            let mut source = MemorySource::new(&line[..9 + *kept], 16_384, &[]);
-            let mut sink = MemorySink::new(&mut room, 64, &[]);
-            let _ = run(rt.alloc(), &words, &mut source, &mut sink);
-            assert_eq!(rt; sink.bytes(), word.as_bytes(), "{kept}");
+            let status = if *kept == 61 { 0 } else { 1 };
+            let input = &line[..9 + *kept];
+            let got = run_over(&rt, rt.alloc(), &words, input, ONE_CALL, word.as_bytes());
+            assert_eq!(rt; got, status, "{kept}");
         }
     }
     Ok(())
@@ -304,7 +323,7 @@ fn prefixes_of_a_scrypt_text(rt: HostRuntime) -> Result<(), Fail> {
 
 #[test]
 fn causes_of_phc_texts(rt: HostRuntime) -> Result<(), Fail> {
-    let words = check_word(rt.alloc())?;
+    let words = words(rt.alloc(), &["check"])?;
     for (front, middle, count, back, word) in PHC_CAUSES {
         let mut line = String::from_str(rt.alloc(), "\t")?;
         line.push_str(front)?;
@@ -312,37 +331,21 @@ fn causes_of_phc_texts(rt: HostRuntime) -> Result<(), Fail> {
             line.push_str(middle)?;
         }
         line.push_str(back)?;
-        let mut room = [0; 64];
-        let mut source = MemorySource::new(line.as_bytes(), 16_384, &[]);
-        let mut sink = MemorySink::new(&mut room, 64, &[]);
-        let got = run(rt.alloc(), &words, &mut source, &mut sink);
+        let input = line.as_bytes();
+        let got = run_over(&rt, rt.alloc(), &words, input, ONE_CALL, word.as_bytes());
         assert_eq!(rt; got, 1);
-        assert_eq!(rt; sink.bytes(), word.as_bytes(), "{front:?}");
     }
     Ok(())
 }
 
 #[test]
 fn lines_and_their_counts(rt: HostRuntime) -> Result<(), Fail> {
-    let mut words = check_word(rt.alloc())?;
-    words.push("--count")?;
-    for (input, output) in COUNTED {
-        let mut room = [0; 64];
-        let mut source = MemorySource::new(input, 16_384, &[]);
-        let mut sink = MemorySink::new(&mut room, 64, &[]);
-        let _ = run(rt.alloc(), &words, &mut source, &mut sink);
-        assert_eq!(rt; sink.bytes(), output.as_bytes());
+    let words = words(rt.alloc(), &["check", "--count"])?;
+    for (input, output, status) in COUNTED {
+        let input = input.as_bytes();
+        let got = run_over(&rt, rt.alloc(), &words, input, ONE_CALL, output.as_bytes());
+        assert_eq!(rt; got, status, "{output:?}");
     }
-    // Each line has fresh counts.
-    let mut room = [0; 64];
-    let mut source = MemorySource::new(TWO_LINES.as_bytes(), 16_384, &[]);
-    let mut sink = MemorySink::new(&mut room, 64, &[]);
-    let got = run(rt.alloc(), &words, &mut source, &mut sink);
-    assert_eq!(rt; got, 1);
-    assert_eq!(rt;
-        sink.bytes(),
-        b"match looks=44 sames=36\nmismatch looks=44 sames=36\n".as_slice()
-    );
     Ok(())
 }
 
@@ -359,144 +362,85 @@ fn words_of_answers(rt: HostRuntime) {
     );
 }
 
-// A password of `length` letters, a tab and `$`.
-fn long_password(buffer: &mut [u8; 8_400], length: usize) -> &[u8]
-    requires { length ≤ 8200 }
-{
-    buffer[..length].fill(b'a');
-    buffer[length..length + 2].copy_from_slice(b"\t$");
-    &buffer[..length + 2]
-}
-
 #[test]
-fn passwords_of_the_greatest_length(rt: HostRuntime) -> Result<(), Fail> {
-    let words = check_word(rt.alloc())?;
-    for (length, output) in [(4_096, "mcf-delimiter\n"), (4_097, "password-too-long\n")] {
-        assert!(rt; length <= 8_200);
-        let mut buffer = [0; 8_400];
-        let mut room = [0; 64];
-        let mut source = MemorySource::new(long_password(&mut buffer, length), 16_384, &[]);
-        let mut sink = MemorySink::new(&mut room, 64, &[]);
-        let got = run(rt.alloc(), &words, &mut source, &mut sink);
-        assert_eq!(rt; got, 1);
-        assert_eq!(rt; sink.bytes(), output.as_bytes());
-    }
-    Ok(())
-}
-
-// A line of `length` letters, and then one that matches.
-fn long_first(buffer: &mut [u8; 8_400], length: usize) -> &[u8]
-    requires { length ≤ 8200 }
-{
-    let line = b"Hello world!\t$5$saltstring$5B8vYYiY.CVt1RlTTf8KbXBH3hsxY/GNooZaBBGWEc5\n";
-    buffer[..length].fill(b'a');
-    buffer[length] = b'\n';
-    let end = length + 1 + line.len();
-    buffer[length + 1..end].copy_from_slice(line);
-    &buffer[..end]
-}
-
-#[test]
-fn lines_of_the_greatest_length(rt: HostRuntime) -> Result<(), Fail> {
-    let words = check_word(rt.alloc())?;
-    for (length, output) in [(8_192, "badline\nmatch\n"), (8_193, "toolong\nmatch\n")] {
-        assert!(rt; length <= 8_200);
-        let mut buffer = [0; 8_400];
-        let mut room = [0; 64];
-        let mut source = MemorySource::new(long_first(&mut buffer, length), 16_384, &[]);
-        let mut sink = MemorySink::new(&mut room, 64, &[]);
-        let got = run(rt.alloc(), &words, &mut source, &mut sink);
-        assert_eq!(rt; got, 1);
-        assert_eq!(rt; sink.bytes(), output.as_bytes());
-    }
-    Ok(())
-}
-
-#[test]
-fn line_longer_than_the_buffer(rt: HostRuntime) -> Result<(), Fail> {
-    let words = check_word(rt.alloc())?;
-    let line = TWO_LINES.as_bytes();
-    assert!(rt; line.len() == 141);
-    let mut input = Vec::new(rt.alloc());
-    input.extend_from_slice(&line[..71])?;
-    input.resize(20_071, b'a')?;
-    input.push(b'\n')?;
-    input.extend_from_slice(&line[..71])?;
-    for step in [1, 7, 16_384] {
-        assert!(rt; step >= 1);
-        let mut room = [0; 64];
-        let mut source = MemorySource::new(&input, step, &[]);
-        let mut sink = MemorySink::new(&mut room, 64, &[]);
-        let got = run(rt.alloc(), &words, &mut source, &mut sink);
-        assert_eq!(rt; got, 1);
-        assert_eq!(rt; sink.bytes(), b"match\ntoolong\nmatch\n".as_slice());
+fn lines_by_length(rt: HostRuntime) -> Result<(), Fail> {
+    let words = words(rt.alloc(), &["check"])?;
+    for (front, count, back, output) in LENGTHS {
+        let mut input = Vec::from_slice(rt.alloc(), front.as_bytes())?;
+        input.resize(front.len() + count, b'a')?;
+        input.extend_from_slice(back.as_bytes())?;
+        input.extend_from_slice(LINE.as_bytes())?;
+        for read in [1, 7, 16_384] {
+            let devices = Devices { read, ..ONE_CALL };
+            let got = run_over(&rt, rt.alloc(), &words, &input, devices, output.as_bytes());
+            assert_eq!(rt; got, 1);
+        }
     }
     Ok(())
 }
 
 #[test]
 fn bounds_on_the_input(rt: HostRuntime) -> Result<(), Fail> {
-    let words = check_word(rt.alloc())?;
+    let words = words(rt.alloc(), &["check"])?;
     for (max, output, status) in [
-        (70, "", 6),
-        (71, "match\n", 6),
-        (140, "match\n", 6),
-        (141, "match\nmismatch\n", 1),
+        (70, b"".as_slice(), 6),
+        (71, b"match\n", 6),
+        (140, b"match\n", 6),
+        (141, b"match\nmismatch\n", 1),
     ] {
-        assert!(rt; max <= 1_000);
-        let mut room = [0; 64];
-        let mut source = MemorySource::new(TWO_LINES.as_bytes(), 1, &[]);
-        let mut sink = MemorySink::new(&mut room, 64, &[]);
-        let got = run_limited(rt.alloc(), &words, &mut source, &mut sink, max);
+        let got = run_within(&rt, rt.alloc(), &words, TWO_LINES.as_bytes(), max, output);
         assert_eq!(rt; got, status);
-        assert_eq!(rt; sink.bytes(), output.as_bytes());
     }
     Ok(())
 }
 
 #[test]
-fn failing_reads(rt: HostRuntime) -> Result<(), Fail> {
-    let words = check_word(rt.alloc())?;
-    for (step, call, output) in FAILING_READS {
-        assert!(rt; step >= 1);
-        let calls = [call];
-        let mut room = [0; 64];
-        let mut source = MemorySource::new(TWO_LINES.as_bytes(), step, &calls);
-        let mut sink = MemorySink::new(&mut room, 64, &[]);
-        let got = run(rt.alloc(), &words, &mut source, &mut sink);
+fn failing_calls(rt: HostRuntime) -> Result<(), Fail> {
+    let words = words(rt.alloc(), &["check"])?;
+    let input = TWO_LINES.as_bytes();
+    for (read, call, output) in FAILING_READS {
+        let devices = Devices {
+            read,
+            bad_reads: &[call],
+            ..ONE_CALL
+        };
+        let got = run_over(&rt, rt.alloc(), &words, input, devices, output.as_bytes());
         assert_eq!(rt; got, 3);
-        assert_eq!(rt; sink.bytes(), output.as_bytes());
     }
-    Ok(())
-}
-
-#[test]
-fn failing_writes(rt: HostRuntime) -> Result<(), Fail> {
-    let words = check_word(rt.alloc())?;
     let output = b"match\nmismatch\n";
     for call in 0..15usize {
-        let calls = [call as u64];
-        let mut room = [0; 64];
-        let mut source = MemorySource::new(TWO_LINES.as_bytes(), 16_384, &[]);
-        let mut sink = MemorySink::new(&mut room, 1, &calls);
-        let got = run(rt.alloc(), &words, &mut source, &mut sink);
+        let devices = Devices {
+            write: 1,
+            bad_writes: &[call as u64],
+            ..ONE_CALL
+        };
+        let got = run_over(&rt, rt.alloc(), &words, input, devices, &output[..call]);
         assert_eq!(rt; got, 4);
-        assert_eq!(rt; sink.bytes(), &output[..call]);
     }
-    let mut room = [0; 10];
-    let mut source = MemorySource::new(TWO_LINES.as_bytes(), 16_384, &[]);
-    let mut sink = MemorySink::new(&mut room, 64, &[]);
-    let got = run(rt.alloc(), &words, &mut source, &mut sink);
-    assert_eq!(rt; got, 4);
-    assert_eq!(rt; sink.bytes(), b"match\nmism".as_slice());
+    for (input, bad_writes, output, status) in WRITES {
+        let devices = Devices {
+            bad_writes,
+            ..ONE_CALL
+        };
+        let input = input.as_bytes();
+        let got = run_over(&rt, rt.alloc(), &words, input, devices, output.as_bytes());
+        assert_eq!(rt; got, status, "{output:?}");
+    }
     Ok(())
 }
 
 #[test]
 fn other_words(rt: HostRuntime) -> Result<(), Fail> {
+    let devices = Devices {
+        bad_reads: &[0],
+        bad_writes: &[0],
+        ..SMALL_STEPS
+    };
     for list in [
         [].as_slice(),
         &["Check"],
+        &["checks"],
+        &["chec"],
         &["check", "check"],
         &["check", "--Count"],
         &["check", "--count", "x"],
@@ -507,26 +451,12 @@ fn other_words(rt: HostRuntime) -> Result<(), Fail> {
         &["normalize", "x"],
         &[""],
     ] {
-        let mut words = Words::new(rt.alloc());
-        for word in list {
-            words.push(word)?;
-        }
+        let words = words(rt.alloc(), list)?;
         assert_eq!(rt; words.len(), list.len());
-        let mut room = [0; 64];
-        let mut source = MemorySource::new(TWO_LINES.as_bytes(), 64, &[0]);
-        let mut sink = MemorySink::new(&mut room, 64, &[0]);
-        let got = run(rt.alloc(), &words, &mut source, &mut sink);
-        assert_eq!(rt; got, 2);
-        assert_eq!(rt; sink.bytes(), b"".as_slice());
+        let input = TWO_LINES.as_bytes();
+        assert_eq!(rt; run_over(&rt, rt.alloc(), &words, input, devices, b""), 2);
     }
-    Ok(())
-}
-
-#[test]
-fn words_in_their_order(rt: HostRuntime) -> Result<(), Fail> {
-    let mut words = Words::new(rt.alloc());
-    words.push("check")?;
-    words.push("--count")?;
+    let words = words(rt.alloc(), &["check", "--count"])?;
     assert_eq!(rt; words.get(0).ok_or("a word")?, "check");
     assert_eq!(rt; words.get(1).ok_or("a word")?, "--count");
     assert!(rt; words.get(2).is_none());

@@ -10,6 +10,7 @@ use Rattle.std.proofs.lemmas.Bool.{and_parts}
 use Rattle.std.proofs.lemmas.Bool.Decides.{nat_tests}
 use Rattle.std.proofs.lemmas.List.{length-append}
 use Rattle.std.proofs.Math.Nat.{le-mul_of_pos_right}
+use Rattle.pieces.proofs.PlainNumbers.{decimal_read}
 use Rattle.base64ct.specs.Encoding.{EachBelow, longest_input}
 use Rattle.mcf.specs.Grammar.{field_fault, is_field_byte}
 use Rattle.mcf.proofs.Pushed.{good_field}
@@ -18,7 +19,6 @@ use Rattle.phc.specs.Grammar.{decimal_value, is_value_byte}
 use Rattle.phc.specs.Params.{pairs_text}
 use Rattle.phc.specs.Record.{is_pair, record_text}
 use Rattle.phc.proofs.Characters.{all_append, all_weaker, decimal_digits}
-use Rattle.phc.proofs.ParsedBack.{decimal_read}
 use Rattle.phc.proofs.EncodedBytes.{encoded_length}
 use Rattle.phc.proofs.ValueBytes.{decimal_length}
 use Rattle.scrypt_plain.specs.Bounds.{in_bounds}
@@ -72,6 +72,9 @@ in_field n small = all_weaker is_ascii_digit is_field_byte digit_in_field (decim
 few : (n : ℕ) → n < 2 ^ 32 → nat_le (length (decimal n)) 64 ≡ true
 few n small = let size = decimal_length n small in grind (arith, nat_tests, size)
 
+number_read : (n : ℕ) → n < 2 ^ 32 → decimal_value (decimal n) ≡ Some n
+number_read n small = decimal_read (2 ^ 32) n (omega arith) small
+
 module _ (ln r p : ℕ) (small : AreSmall ln r p) (bounds : in_bounds ln r p ≡ true) where
   written : IsWritten (decimal ln) (decimal r) (decimal p) ln r p
   written = record {
@@ -91,7 +94,7 @@ module _ (ln r p : ℕ) (small : AreSmall ln r p) (bounds : in_bounds ln r p ≡
         (all_append is_field_byte (decimal ln) (44 ∷ 114 ∷ 61 ∷ (decimal r ++ 44 ∷ 112 ∷ 61 ∷ decimal p))
         (in_field ln small.of_ln)
         (all_append is_field_byte (decimal r) (44 ∷ 112 ∷ 61 ∷ decimal p) (in_field r small.of_r) (in_field p small.of_p)));
-    numbers = rw (decimal_read ln small.of_ln, decimal_read r small.of_r, decimal_read p small.of_p) refl;
+    numbers = rw (number_read ln small.of_ln, number_read r small.of_r, number_read p small.of_p) refl;
     bounds = bounds;
   }
 

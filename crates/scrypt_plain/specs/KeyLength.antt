@@ -1,4 +1,5 @@
--- A key for a record has the length that is asked for.
+-- A key for a record has the length that is asked for: a proof, which an implementation of `PhcKdf` names in place of a
+-- check. No public clause names these words.
 use Rattle.std.specs.Prelude.{◌≡◌, ℕ, List, length, Option, Some, None}
 use Rattle.std.proofs.lemmas.List.{length-replicate}
 use Rattle.phc.specs.declared.password_hash.PasswordHash.{PasswordHash}

@@ -1,4 +1,4 @@
--- How the body keeps blocks, which no public contract speaks of: a block lies in four vectors of four
+-- How the body keeps blocks. No public clause names these words. A block lies in four vectors of four
 -- words, one on each diagonal of the square of words, so that the four columns stand side by side. The
 -- table keeps the vectors one after another.
 use Rattle.std.specs.Prelude.{ℕ, ◌*◌, List, [], ◌∷◌, take, drop, bit_xor, slice_index}

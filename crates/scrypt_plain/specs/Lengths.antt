@@ -1,4 +1,5 @@
--- How long codes, their keys and derived keys are.
+-- How long codes, their keys and derived keys are: proofs, which stand here as an implementation of `PhcKdf` names one
+-- of them. No public clause names these words.
 use Rattle.std.proofs.Common.{◌≡◌, ℕ, zero, suc, ◌+◌, ◌-◌, ◌*◌, ◌/◌, ◌≤◌, Bool, true, false, nat_lt, cond, List, ◌++◌}
 use Rattle.std.proofs.Common.{length, take, refl, sym, ap, ◌∙◌, arith}
 use Rattle.std.specs.Int.{w32, to_be_bytes}

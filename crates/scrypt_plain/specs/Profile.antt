@@ -4,6 +4,7 @@ use Rattle.std.specs.Prelude.{replicate, Option, Some, None, is_none, codes}
 use Rattle.std.specs.Option.{option_and_then}
 use Rattle.std.specs.Cmp.Lexicographic.{pointwise}
 use Rattle.phc.specs.Grammar.{decimal_value}
+use Rattle.phc.specs.Limits.{output_max, output_min}
 use Rattle.phc.specs.Params.{get}
 use Rattle.phc.specs.declared.password_hash.PasswordHash.{PasswordHash}
 use Rattle.scrypt_plain.specs.Bounds.{in_bounds}
@@ -14,6 +15,7 @@ use Rattle.scrypt_plain.specs.declared.profile.Cost.{Cost}
 abbrev pub number : PasswordHash → List ℕ → Option ℕ
 number parsed name = option_and_then decimal_value (get parsed.params name)
 
+-- the cost of these three numbers; none where one is missing
 abbrev pub cost_of_numbers : Option ℕ → Option ℕ → Option ℕ → Option Cost
 cost_of_numbers (Some ln) (Some r) (Some p) = Some (record { ln = ln; r = r; p = p })
 cost_of_numbers ln r p = None
@@ -22,16 +24,18 @@ cost_of_numbers ln r p = None
 abbrev pub cost_of : PasswordHash → Option Cost
 cost_of parsed = cost_of_numbers (number parsed (codes "ln")) (number parsed (codes "r")) (number parsed (codes "p"))
 
+-- there is a cost, and this crate takes it
 abbrev pub is_cost_in_bounds : Option Cost → Bool
 is_cost_in_bounds None = false
 is_cost_in_bounds (Some cost) = in_bounds cost.ln cost.r cost.p
 
 -- The identifier is `scrypt`, there is no version, the parameters are three with the names `ln`, `r` and `p`, thus each
--- once and in any order, each a decimal and together in bounds, and the key has 10 to 64 bytes.
+-- once and in any of their six orders, each a decimal and together in bounds, and the key has as many bytes as a hash
+-- may have. So a cost, a salt and a key have six texts, which have the same verdicts.
 unfoldable pub scrypt_accepts : PasswordHash → ℕ → Bool
 scrypt_accepts parsed n =
     pointwise nat_eq parsed.algorithm (codes "scrypt") && is_none parsed.version && length parsed.params == 3
-    && is_cost_in_bounds (cost_of parsed) && nat_le 10 n && nat_le n 64
+    && is_cost_in_bounds (cost_of parsed) && nat_le output_min n && nat_le n output_max
 
 -- the key of n bytes at a cost; without a cost, which no accepted record has, n zeros
 abbrev pub key_at : Option Cost → List ℕ → List ℕ → ℕ → List ℕ

@@ -33,6 +33,7 @@ unfoldable pub row_round : List ℕ → List ℕ
 row_round x =
     quarter_round 15 12 13 14 (quarter_round 10 11 8 9 (quarter_round 5 6 7 4 (quarter_round 0 1 2 3 x)))
 
+-- the words after n double rounds, each a column round and a row round
 unfoldable pub double_rounds : ℕ → List ℕ → List ℕ
 double_rounds zero x = x
 double_rounds (suc n) x = row_round (column_round (double_rounds n x))

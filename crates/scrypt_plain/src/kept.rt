@@ -52,6 +52,8 @@ impl ScryptKept {
         requires key_length_most { length out.old ≤ 64 }
         ensures key { OnOk result (out.new ≡ scrypt password.now salt.now (2 ^ ln) r p (length out.old)) }
     {
+        // The table is lent within this call alone, to a body that knows of no `ScryptKept`, and a cell isn't shared with
+        // another thread: so it is never in use here. No contract tells what a cell holds, so both arms stand.
         match self.table.try_borrow_mut() {
             Ok(mut kept) => scrypt_kept(alloc, &mut kept, password, salt, ln, r, p, out),
             Err(_) => scrypt(alloc, password, salt, ln, r, p, out),

@@ -190,35 +190,46 @@ fn key_of_a_record(rt: HostRuntime) -> Result<(), Fail> {
 const OTHER_KEY: [u8; 64] =
     *b"\x60\x1b\x33\xb7\x04\x75\x0b\x95\x16\xd0\x93\xe0\x89\xa6\x89\x62\x73\xe2\x7c\xd8\x4a\xe5\x8a\x9d\x94\x6d\xa1\x0f\xe7\x75\xf0\x26\x27\x05\x33\xde\x02\x23\x32\x89\xd4\x05\x42\x16\x4c\xd7\x72\x02\xe0\x09\xe5\xe6\xdf\x78\xba\x0c\xa8\xaf\x11\xd9\x3b\x10\xe8\xea";
 
+// The same: "pleaseletmein", "SodiumChloride", N = 64, r = 4, p = 1.
+const LONGER_KEY: [u8; 64] =
+    *b"\x14\xa7\x3b\x58\x7a\x75\xf2\xa6\xad\xa9\x9d\x8a\x92\xde\xe8\x66\x86\xd6\x22\x9d\x88\x5a\xcd\xcb\x22\xe4\xc8\x12\xc0\xa5\x65\x0c\x8e\x43\xaa\xc8\xed\x1b\xc6\xac\xe2\xc2\xe0\x18\x4b\xc0\x78\x29\x7a\x76\x5f\xfb\xb0\x5b\xa2\x59\x86\x35\x2e\x1f\xd1\xdc\xa7\xad";
+
+// A record, a password, a salt and the key, in the order of their tables' sizes.
+const KEPT: [(&str, &[u8], &[u8], [u8; 64]); 3] = [
+    ("$scrypt$ln=4,r=1,p=1", b"", b"", KEYS[0].5),
+    (
+        "$scrypt$ln=5,r=2,p=3",
+        b"pleaseletmein",
+        b"SodiumChloride",
+        OTHER_KEY,
+    ),
+    (
+        "$scrypt$ln=6,r=4,p=1",
+        b"pleaseletmein",
+        b"SodiumChloride",
+        LONGER_KEY,
+    ),
+];
+
+// The table grows for the second and for the third record, and serves smaller ones behind larger ones.
 #[test]
 fn keys_in_a_kept_table(rt: HostRuntime) -> Result<(), Fail> {
-    // A record, a password, a salt and the key.
-    let costs: [(&str, &[u8], &[u8], [u8; 64]); 2] = [
-        ("$scrypt$ln=4,r=1,p=1", b"", b"", KEYS[0].5),
-        (
-            "$scrypt$ln=5,r=2,p=3",
-            b"pleaseletmein",
-            b"SodiumChloride",
-            OTHER_KEY,
-        ),
-    ];
-    for order in [[0, 1, 0], [1, 0, 1]] {
+    for order in [[0, 1, 2, 0, 1], [1, 0, 2, 1, 2]] {
         let kept = ScryptKept::new(rt.alloc());
-        let mut refused: u8 = 0;
         for at in order {
-            let (text, password, salt, expected) = if at == 0 { costs[0] } else { costs[1] };
+            let (text, password, salt, expected) = match at {
+                0 => KEPT[0],
+                1 => KEPT[1],
+                _ => KEPT[2],
+            };
             let Ok(record) = PasswordHash::new(text) else {
                 panic!(rt; "a record")
             };
             let mut key = [0u8; 64];
             assert!(rt; kept.accepts(&record, salt, 64));
-            match kept.derive(rt.alloc(), password, &record, salt, &mut key) {
-                Ok(()) => assert_eq!(rt; key.as_slice(), expected.as_slice(), "{text:?}"),
-                Err(_) => refused = refused.saturating_add(1),
-            }
+            kept.derive(rt.alloc(), password, &record, salt, &mut key)?;
+            assert_eq!(rt; key.as_slice(), expected.as_slice(), "{text:?}");
         }
-        // A run in which one memory is refused passes too: the other keys are right.
-        assert!(rt; refused <= 1);
     }
     Ok(())
 }

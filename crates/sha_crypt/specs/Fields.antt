@@ -4,7 +4,8 @@
 -- `[rounds=N$]salt$hash`, 5,000 rounds where none are named, the range 1,000 to 999,999,999, and that the first 16
 -- bytes of the salt count. There rounds out of range are clamped, and a longer salt is cut; here both are faults, and
 -- so are rounds that aren't a plain decimal, so that each record has one text. The order of the faults is ours. Earlier
--- texts, in which the rounds had zeros and one `+` in front and the salt any length, are read by `old_fields`.
+-- texts, here and in the crates above, are those that the parser of the Rust crate sha-crypt 0.5.0 takes: in these the
+-- rounds may have zeros and one `+` in front, and the salt any length. `old_fields` reads them.
 use Rattle.std.specs.Prelude.{ℕ, ◌^◌, Bool, false, true, ◌&&◌, ◌||◌, List, [], ◌∷◌, ◌==◌, nat_lt}
 use Rattle.std.specs.Prelude.{nat_le, length, take, Option, Some, None, Result, Ok, Err, if◌then◌else◌, codes}
 use Rattle.std.specs.Str.{all_ascii_digits}
@@ -29,7 +30,7 @@ number_of_digits s = if nat_le 1 (length s) && all_ascii_digits s
 abbrev pub plain_number : List ℕ → Option ℕ
 plain_number s = if has_leading_zero s then None else number_of_digits s
 
--- earlier: digits, with or without zeros and one `+` in front
+-- in an earlier text: digits, with or without zeros and one `+` in front
 abbrev pub old_number : List ℕ → Option ℕ
 old_number [] = None
 old_number (b ∷ s) = if b == 43 then number_of_digits s else number_of_digits (b ∷ s)
@@ -74,7 +75,7 @@ split_fields number (first ∷ pieces) = by_rounds number (behind first (codes "
 
 -- ---- the last faults
 
--- the salt has at most 16 bytes
+-- a salt of more than 16 bytes is a fault
 abbrev pub short_salt : Result ShaFields CheckError → Result ShaFields CheckError
 short_salt (Err e) = Err e
 short_salt (Ok f) = if nat_lt salt_max_len (length f.salt) then Err (InvalidFormat SaltTooLong) else Ok f
@@ -94,7 +95,7 @@ sha_fields is_hash_field pieces = checked_hash is_hash_field (formed pieces)
 
 -- ---- earlier texts
 
--- the same with the rounds as they once could be written, and a salt of any length
+-- the same with the rounds as an earlier text may have them, and a salt of any length
 unfoldable pub old_fields : (List ℕ → Bool) → List (List ℕ) → Result ShaFields CheckError
 old_fields is_hash_field pieces = checked_hash is_hash_field (split_fields old_number pieces)
 

@@ -1,4 +1,4 @@
--- What stands before the digest in the odd rounds. Private to the rounds' body.
+-- What stands before the digest in the odd rounds, as the rounds' body keeps it. No public clause names these words.
 use Rattle.std.specs.Prelude.{ℕ, ◌==◌, ◌%◌, if◌then◌else◌, List, [], ◌++◌}
 
 -- the pieces before the digest in the odd round i

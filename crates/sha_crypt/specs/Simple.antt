@@ -44,9 +44,10 @@ made_fields s password salt rounds =
 abbrev pub made_text : Family → List ℕ → List ℕ → ℕ → List ℕ
 made_text family password salt rounds = record_text family (made_fields (family_scheme family) password salt rounds)
 
--- that of SHA-256-crypt, and of SHA-512-crypt
+-- that of SHA-256-crypt
 abbrev pub sha256_text : List ℕ → List ℕ → ℕ → List ℕ
 sha256_text password salt rounds = made_text Sha256 password salt rounds
 
+-- that of SHA-512-crypt
 abbrev pub sha512_text : List ℕ → List ℕ → ℕ → List ℕ
 sha512_text password salt rounds = made_text Sha512 password salt rounds

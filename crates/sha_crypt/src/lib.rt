@@ -1,7 +1,8 @@
 //! SHA-crypt: password digests after Drepper's text 'Unix crypt using SHA-256 and SHA-512', and the check
 //! of a password against a stored text.
 //!
-//! Nothing here takes memory. One body serves both hash functions.
+//! Only the calls that make a `String` take memory: those whose names end in `_b64` or `_simple`. One body serves both
+//! hash functions.
 #![tactic(auto)]
 
 ghost use Rattle.std.specs.Prelude.{◌≡◌, ◌≤◌, ◌+◌, ◌^◌, ◌<◌, ℕ, List, IfOk, IsOkUnless, MatchResult, false, length, string_bytes, true};

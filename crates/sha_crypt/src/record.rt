@@ -1,10 +1,9 @@
 //! The records of stored texts.
 
-ghost use Rattle.std.specs.Prelude.{◌≡◌, ◌≤◌, ◌<◌, ◌+◌, ◌↔◌, ◌++◌, IfOk, IfSome, IsAscii, IsErr, OnErr, OnOk, Some, drop, length, take};
+ghost use Rattle.std.specs.Prelude.{◌≡◌, ◌≤◌, ◌<◌, ◌+◌, ◌↔◌, ◌++◌, IfOk, IfSome, IsAscii, IsErr, OnErr, Some, drop, length, take};
 ghost use Rattle.std.specs.Str.{IsUtf8};
 ghost use Rattle.std.specs.Borrow.{sem, Array, u8 as byte};
 ghost use Rattle.std.specs.Io.BufRead.{Rests};
-ghost use Rattle.std.specs.Fmt.{HasWritten, IsPlainFormatter};
 ghost use Rattle.sha_crypt.specs.HashField.{is_hash_field};
 ghost use Rattle.sha_crypt.specs.Records.{family_id, family_scheme, old_record_of, record_of, rounds_part};
 ghost use Rattle.sha_crypt.specs.Limits.{pw_size_sha512, salt_max_len};
@@ -77,22 +76,6 @@ fn push_rounds(text: &mut ShortBytes<TEXT_MAX>, written: bool, rounds: usize)
         text.push_all(b"rounds=");
         text.push_decimal(rounds as u64);
         text.push_all(b"$");
-    }
-}
-
-// Writes what names the rounds, where they are written.
-fn write_rounds<W: fmt::Write>(
-    written: bool,
-    rounds: usize,
-    f: &mut fmt::Formatter<W>,
-) -> fmt::Result
-    ensures writes { OnOk result (IsPlainFormatter f.old
-        → HasWritten W.write_str_gives f.old (rounds_part written rounds) f.new) }
-{
-    if written {
-        write!(f, "rounds={rounds}$")
-    } else {
-        Ok(())
     }
 }
 
@@ -234,13 +217,8 @@ impl fmt::Display for ShaRecord<'_> {
 
     ghost output = { λ r. Some (printed r) };
 
-    #[tactic(auto, unfolding(crate::specs::Records::record_text))]
     fn fmt<W: fmt::Write>(&self, f: &mut fmt::Formatter<W>) -> fmt::Result {
-        let id = family_id(self.family);
-        let salt = self.salt;
-        let hash = self.hash;
-        write!(f, "${id}$")?;
-        write_rounds(self.written, self.rounds, f)?;
-        write!(f, "{salt}${hash}")
+        let text = self.text();
+        f.write_str(unsafe { str::from_utf8_unchecked(text.as_slice()) })
     }
 }

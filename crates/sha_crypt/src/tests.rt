@@ -249,6 +249,9 @@ fn digests_and_hash_fields_512(rt: HostRuntime) {
 
 #[test]
 fn rounds_in_range(rt: HostRuntime) {
+    // The numbers of the refusals, which callers may rest on.
+    assert_eq!(rt; CryptError::RoundsError as u8, 1);
+    assert_eq!(rt; CryptError::OutOfMemory as u8, 2);
     for (rounds, inside) in [
         (999, false),
         (1_000, true),

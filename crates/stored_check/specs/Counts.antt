@@ -26,6 +26,7 @@ abbrev pub parts_looks : Option Scheme → Parts → ℕ
 parts_looks (Some scheme) p = sha_looks (scheme_fields scheme p.fields)
 parts_looks None p = layout_looks (layout p.fields)
 
+-- by what the modular crypt format says of the text
 abbrev pub text_looks : Result Parts mcf_error.Error → ℕ
 text_looks (Err e) = 0
 text_looks (Ok p) = parts_looks (scheme_of p.id) p
@@ -51,6 +52,7 @@ abbrev pub parts_comparisons : Option Scheme → Parts → ℕ
 parts_comparisons (Some scheme) p = 4 + scheme.size
 parts_comparisons None p = layout_comparisons (layout p.fields) + record_hash_length (phc p.id p.fields)
 
+-- by what the modular crypt format says of the text
 abbrev pub text_comparisons : Result Parts mcf_error.Error → ℕ
 text_comparisons (Err e) = 0
 text_comparisons (Ok p) = parts_comparisons (scheme_of p.id) p

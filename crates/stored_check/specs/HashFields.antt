@@ -9,8 +9,8 @@ use Rattle.phc.specs.declared.password_hash.PasswordHash.{PasswordHash}
 use Rattle.stored_check.specs.Verdict.{same_text}
 
 -- the hash field of a text that is a PHC record, if it has one: the piece of the text
-abbrev pub hash_field : List ℕ → Option (List ℕ)
-hash_field stored = (layout (parts stored).fields).hash
+abbrev pub phc_hash_piece : List ℕ → Option (List ℕ)
+phc_hash_piece stored = (layout (parts stored).fields).hash
 
 -- the verdict `matches` says whether the hash field is the encoding of the record's tag, as long as the bytes that the
 -- field encodes
@@ -22,6 +22,6 @@ pub record ComparesField (tag : List ℕ → PasswordHash → List ℕ → ℕ �
   pub hash : List ℕ
   pub is_record : phc (parts stored).id (parts stored).fields ≡ Ok parsed
   pub is_salt : parsed.salt ≡ Some salt
-  pub is_field : hash_field stored ≡ Some field
+  pub is_field : phc_hash_piece stored ≡ Some field
   pub decoded : decoding field ≡ Some hash
   pub compared : matches ≡ same_text field (encoding (tag password parsed salt (length hash)))

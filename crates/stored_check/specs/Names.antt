@@ -2,6 +2,7 @@
 use Rattle.std.specs.declared.cmp.Ordering.TheVariants.{Less}
 use Rattle.mcf.specs.declared.error.Error as mcf_error
 use Rattle.mcf.specs.declared.error.Error.TheVariants as mcf_fault
+use Rattle.phc.specs.Limits.{output_min}
 use Rattle.phc.specs.declared.error.Error as phc_error
 use Rattle.phc.specs.declared.error.Error.TheVariants as phc_fault
 use Rattle.sha_crypt.specs.declared.errors.CheckError.{CheckError}
@@ -49,5 +50,5 @@ phc_named of_phc.ParamsMaxExceeded = phc_fault.ParamsMaxExceeded
 phc_named of_phc.SaltTooShort = phc_fault.SaltTooShort
 phc_named of_phc.SaltTooLong = phc_fault.SaltTooLong
 phc_named (of_phc.Base64 e) = phc_fault.Base64 e
-phc_named of_phc.OutputSize = phc_fault.OutputSize Less 10
+phc_named of_phc.OutputSize = phc_fault.OutputSize Less output_min
 phc_named of_phc.TrailingData = phc_fault.TrailingData

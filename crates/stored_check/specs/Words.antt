@@ -9,12 +9,14 @@ use Rattle.stored_check.specs.declared.error.ShaFault.TheVariants as of_sha
 use Rattle.stored_check.specs.declared.error.PhcFault.{PhcFault}
 use Rattle.stored_check.specs.declared.error.PhcFault.TheVariants as of_phc
 
+-- the word of a fault of the modular crypt format
 abbrev pub mcf_word : McfFault → List ℕ
 mcf_word of_mcf.DelimiterInvalid = codes "mcf-delimiter"
 mcf_word of_mcf.IdentifierInvalid = codes "mcf-identifier"
 mcf_word of_mcf.FieldInvalid = codes "mcf-field"
 mcf_word of_mcf.EncodingInvalid = codes "mcf-encoding"
 
+-- the word of a fault of a PHC text
 abbrev pub phc_word : PhcFault → List ℕ
 phc_word of_phc.ParamNameInvalid = codes "phc-name"
 phc_word of_phc.ParamValueTooLong = codes "phc-value-long"

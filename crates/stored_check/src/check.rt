@@ -123,6 +123,10 @@ pub fn check_stored<K: PhcKdf>(
 }
 
 /// Checks as [`check_stored`], with the look-ups and comparisons of the decoded fields and of the tag counted.
+///
+/// On a verdict the counts depend on the stored text alone: 44 look-ups and 36 comparisons for identifier `5`, 88 and 68
+/// for `6`; for a PHC record the look-ups of its salt and its hash, 4 comparisons for each of these two, and one for
+/// each byte of the hash. On a fault at most 156 look-ups and 8 comparisons are added.
 pub fn check_stored_counted<K: PhcKdf>(
     alloc: Global,
     kdf: &K,

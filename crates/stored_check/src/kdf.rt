@@ -1,6 +1,7 @@
 //! Key derivations.
 
 ghost use Rattle.std.specs.Prelude.{◌≡◌, ◌≤◌, ℕ, List, Bool, OnErr, OnOk, length, true};
+ghost use Rattle.phc.specs.Limits.{salt_max};
 ghost use Rattle.phc.specs.declared.password_hash.PasswordHash.{PasswordHash};
 ghost use Rattle.stored_check.specs.Limits.{password_max};
 
@@ -39,7 +40,7 @@ pub trait PhcKdf {
     ) -> Result<(), AllocError>
         requires taken { accepted self.now parsed.now salt.now (length out.old) ≡ true }
         requires short_password { length password.now ≤ password_max }
-        requires short_salt { length salt.now ≤ 48 }
+        requires short_salt { length salt.now ≤ salt_max }
         ensures key { OnOk result (out.new ≡ tag self.now password.now parsed.now salt.now (length out.old)) }
         ensures memory { OnErr result (needs_memory self.now parsed.now ≡ true) };
 

@@ -6,7 +6,7 @@ ghost use Rattle.stored_check.specs.Verdict.{mcf_name, phc_name, sha_format_name
 use crate::{McfFault, PhcFault, ShaFault, ShaFormat, StoredError};
 use sha_crypt::{CheckError, FormatFault};
 
-/// The name of a fault of the modular crypt format, whose grammar gives the first four alone.
+/// The name of a fault of the modular crypt format, whose grammar gives these four alone.
 pub fn mcf_name(e: mcf::Error) -> McfFault
     ensures { result ≡ mcf_name e }
 {
@@ -46,7 +46,7 @@ pub(crate) fn sha_verdict(answer: Result<(), CheckError>) -> Result<bool, Stored
     }
 }
 
-/// The name of a fault of a PHC text, which has no fault of duplicate names and begins with `$`.
+/// The name of a fault of a PHC text. Of a text that begins with `$` these are all: names that stand twice are no fault.
 pub(crate) fn phc_name(e: phc::Error) -> PhcFault
     ensures { result ≡ phc_name e }
 {

@@ -222,41 +222,57 @@ fn want_of_memory(rt: HostRuntime) {
     laws::faults_by_their_names();
 }
 
-// A stored text and its normal text.
-const NORMAL_TEXTS: [(&str, &str); 7] = [
+// A stored text, its normal text, and the verdict on that with the password `Hello world!`.
+const NORMAL_TEXTS: [(&str, &str, Result<bool, StoredError>); 7] = [
     (
         "$5$rounds=+05000$saltstring$5B8vYYiY.CVt1RlTTf8KbXBH3hsxY/GNooZaBBGWEc5",
         "$5$rounds=5000$saltstring$5B8vYYiY.CVt1RlTTf8KbXBH3hsxY/GNooZaBBGWEc5",
+        Ok(true),
     ),
     (
         "$5$saltstringsaltstring$a5C8Ofk71MUIoKve2QuP9FMl.dwNgseF5tR1LGAL7iB",
         "$5$saltstringsaltst$a5C8Ofk71MUIoKve2QuP9FMl.dwNgseF5tR1LGAL7iB",
+        Ok(true),
     ),
     (
         "$5$saltstring$5B8vYYiY.CVt1RlTTf8KbXBH3hsxY/GNooZaBBGWEc5",
         "$5$saltstring$5B8vYYiY.CVt1RlTTf8KbXBH3hsxY/GNooZaBBGWEc5",
+        Ok(true),
     ),
-    ("$5$rounds=999$s$x", "$5$rounds=999$s$x"),
+    (
+        "$5$rounds=999$s$x",
+        "$5$rounds=999$s$x",
+        Err(StoredError::Sha(ShaFault::RoundsError)),
+    ),
     (
         "$2a$12$R9h/cIPz0gi.URNNX3kh2OPST9/PgBkqquzi.Ss7KIUgO2t0jWMUW",
         "$2a$12$R9h/cIPz0gi.URNNX3kh2OPST9/PgBkqquzi.Ss7KIUgO2t0jWMUW",
+        Err(StoredError::Phc(PhcFault::SaltTooShort)),
     ),
-    ("$6$\u{e9}$x", "$6$\u{e9}$x"),
-    ("", ""),
+    (
+        "$6$\u{e9}$x",
+        "$6$\u{e9}$x",
+        Err(StoredError::Mcf(McfFault::EncodingInvalid)),
+    ),
+    ("", "", Err(StoredError::Mcf(McfFault::DelimiterInvalid))),
 ];
 
 #[test]
 fn normal_texts(rt: HostRuntime) {
-    for (stored, normal) in NORMAL_TEXTS {
+    for (stored, normal, verdict) in NORMAL_TEXTS {
+        assert!(rt; stored.len() <= 100 && normal.len() <= 100);
+        // The text stands at the front of its room, and the rest stays as it was.
+        let mut expected = [b'x'; 100];
+        expected[..normal.len()].copy_from_slice(normal.as_bytes());
         let mut room = [b'x'; 100];
-        assert!(rt; stored.len() <= 100);
         assert_eq!(rt; normal_text(stored, &mut room), normal);
+        assert!(rt; room == expected, "{stored:?}");
         let mut room = [b'x'; 100];
-        let len = write_normal(stored, &mut room);
-        assert_eq!(rt; &room[..len], normal.as_bytes());
+        assert_eq!(rt; write_normal(stored, &mut room), normal.len());
+        assert!(rt; room == expected, "{stored:?}");
         assert!(rt;
-            check_stored(rt.alloc(), &Zeros, "Hello world!", normal).is_ok()
-                || check_stored(rt.alloc(), &Zeros, "Hello world!", stored).is_err()
+            check_stored(rt.alloc(), &Zeros, "Hello world!", normal) == verdict,
+            "{stored:?}"
         );
         laws::normal_verdict(&Zeros, b"Hello world!", stored.as_bytes());
         laws::normal_twice(stored.as_bytes());

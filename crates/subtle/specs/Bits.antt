@@ -1,4 +1,4 @@
--- A proof that the model of `Choice` cites: its field comes back from its truth value.
+-- A proof that the model of `Choice` cites: its field comes back from its truth value. No public clause names this word.
 use Rattle.std.specs.Prelude.{◌≡◌, ℕ, zero, suc, ◌==◌, ◌≤◌, if◌then◌else◌}
 use Rattle.std.proofs.Common.{refl, ap, not-suc-le-zero, le_of_suc-le-suc}
 use Rattle.subtle.specs.declared.choice.Choice.TheInside.{Inside}

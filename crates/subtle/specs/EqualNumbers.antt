@@ -1,4 +1,4 @@
--- Proofs that implementations of `ConstantTimeLess` cite: equality agrees with order.
+-- Proofs that implementations of `ConstantTimeLess` cite: equality agrees with order. No public clause names these words.
 use Rattle.std.specs.Prelude.{◌≡◌, ℕ, ◌↔◌, pos, nat_abs, IsTrue, ◌==◌}
 use Rattle.std.specs.Ordering.{int_eq, on}
 use Rattle.std.specs.declared.cmp.Ordering.{Ordering}

@@ -17,8 +17,6 @@ mod order;
 mod ordering;
 mod select;
 mod smear;
-#[cfg(test)]
-mod tests;
 
 pub use black_box::BlackBox;
 pub use choice::Choice;

@@ -7,7 +7,7 @@ ghost use Rattle.subtle.specs.Options.{option_of, MapsTo, ContinuesTo, FallsBack
 
 use crate::{Choice, ConditionallySelectable, ConstantTimeEq};
 
-/// A value that is there where a choice is 1. A value stored under the choice 0 is never shown.
+/// A value that is there where a choice is 1. No call gives a value stored under the choice 0; `Debug` alone prints it.
 #[derive(Clone, Copy, Debug, Drop)]
 pub struct CtOption<T> {
     value: T,

@@ -1,8 +1,8 @@
-//! A source and a sink that take turns: which answers were written at a read.
+//! Sources and a sink that tell what they were asked: which answers were written at a read, and how often was read.
 
 ghost use Rattle.std.specs.Prelude.{None};
 
-use line_io::{Failed, Sink, Source};
+use line_io::{Failed, MemorySource, Sink, Source};
 use std::cell::Cell;
 
 /// A source that gives one piece at a read, and looks how many lines were answered before it.
@@ -51,6 +51,39 @@ impl<'a> Source for Questions<'a> {
         buf[..count].copy_from_slice(&piece[..count]);
         self.asked = self.asked.saturating_add(feeds(piece));
         Ok(count)
+    }
+}
+
+/// A source in memory that counts its reads.
+#[derive(Drop)]
+pub struct Counted<'a> {
+    source: MemorySource<'a>,
+    reads: usize,
+}
+
+impl<'a> Counted<'a> {
+    /// No read yet.
+    pub fn new(source: MemorySource<'a>) -> Counted<'a> {
+        Counted { source, reads: 0 }
+    }
+
+    /// The reads.
+    pub fn reads(&self) -> usize {
+        self.reads
+    }
+}
+
+impl<'a> Source for Counted<'a> {
+    ghost use Rattle.std.specs.Prelude.{Some};
+    ghost use Rattle.line_io.specs.Memory.{source_faults, source_left};
+
+    ghost left = { λ s. Some (source_left s.source) };
+
+    ghost faults = { λ s. source_faults s.source };
+
+    fn read(&mut self, buf: &mut [u8]) -> Result<usize, Failed> {
+        self.reads = self.reads.saturating_add(1);
+        self.source.read(buf)
     }
 }
 

@@ -1,7 +1,7 @@
 use Rattle.std.proofs.Common.{◌≡◌, ◌≤◌, ◌+◌, ◌-◌, ◌*◌, ◌/◌, ◌%◌, ℕ, List, length, take, drop, arith, refl, ap}
 use Rattle.std.proofs.Common.{◌∙◌, sym}
 use Rattle.std.proofs.lemmas.List.{length-take-le}
-use Rattle.base64ct.specs.Wrapping.{characters_from, before}
+use Rattle.base64ct.specs.Wrapping.{characters_from, put_before}
 use Rattle.base64ct.proofs.Written.{front_written, length_written}
 use Rattle.base64ct.proofs.Unpadded.{unpadded-nil}
 use Rattle.base64ct.proofs.Taken.{before-nil}
@@ -17,7 +17,7 @@ parts-init g c =
       c.requires.within,
       (λ j. omega (arith, c.type_inv.out j)),
       sym (before-nil rest)
-          ∙ ap (λ (l : List ℕ). before l rest) (sym (unpadded-nil g.E.Alphabet.alphabet)),
+          ∙ ap (λ (l : List ℕ). put_before l rest) (sym (unpadded-nil g.E.Alphabet.alphabet)),
     )
 
 pub returns-in-None : goal.returns-in-None

@@ -1,6 +1,6 @@
 use Rattle.std.proofs.Common.{◌≡◌, ◌+◌, ◌<◌, ◌≤◌, ℕ, List, length, take, drop, arith, refl, ◌∙◌}
 use Rattle.std.proofs.lemmas.List.{length-set}
-use Rattle.base64ct.specs.Wrapping.{characters_from, before}
+use Rattle.base64ct.specs.Wrapping.{characters_from, put_before}
 use Rattle.base64ct.proofs.Taken.{four_more, taken_more}
 use Rattle.base64ct.proofs.cursor.next_block.Goals as goal
 use Rattle.base64ct.proofs.cursor.next_block.Goals.{then-left-eq0+in-Some, else-left-eq0}
@@ -22,7 +22,7 @@ characters-preserved c =
     let left : ℕ = c.if-left-eq0.left in
     let place : ℕ = c.if-left-eq0.place in
     let held : (characters_from w c.args.room (drop c.args.at body)
-    ≡ before (take c.characters.count c.characters.block) (characters_from w left (drop place body))) × (0 < left)
+    ≡ put_before (take c.characters.count c.characters.block) (characters_from w left (drop place body))) × (0 < left)
     × (c.args.at + c.characters.count ≤ place) × (place < length body) = elim c.if-left-eq0.branch [
       | then-left-eq0+in-Some v ↦
           let none : c.characters.left ≡ 0 = v.if-left-eq0.true in

@@ -4,7 +4,7 @@ use Rattle.base64ct.specs.Tables.{shaped}
 use Rattle.base64ct.proofs.Encodings.{below-take}
 use Rattle.base64ct.proofs.DecodingLaws.{decoding-None, decoding_is}
 use Rattle.base64ct.proofs.DecodingAnswers.{decoding-misaligned}
-use Rattle.base64ct.proofs.CountedAnswers.{comparisons, table_found, table_refused, found_encoding, found_none}
+use Rattle.base64ct.proofs.CountedAnswers.{asked_characters, comparisons, table_found, table_refused, found_encoding, found_none}
 use Rattle.base64ct.proofs.tables.decode_with_into.Goals as goal
 
 pub returns-then-src-ne0-clause-decoded : goal.returns-then-src-ne0-clause-decoded
@@ -73,3 +73,31 @@ returns-else-is_faultless-clause-sames g c =
     c.compare_stem-passed.ensures.sames
     ∙ rw (comparisons a c.args.src.now _ _ (length c.args.dst.now) c.padding_under-padding.ensures.count
     c.bytes_of-len.ensures (omega arith) ok) refl
+
+pub returns-then-is_faultless-clause-spells : goal.returns-then-is_faultless-clause-spells
+returns-then-is_faultless-clause-spells g c =
+    let a = shaped (g.T.CodeTable.characters c.args.table.now) c.args.shape in
+    let ok : IsMisaligned a c.args.src.now → ⊥ = λ wrong. grind (arith, c.else-shape.branch, wrong) in
+    let asked = asked_characters a c.args.src.now _ _ (length c.args.dst.now) c.padding_under-padding.ensures.count
+    c.bytes_of-len.ensures (omega arith) ok in
+    omega (
+      arith,
+      asked,
+      c.compare_stem-passed.ensures.spells,
+      c.read_stem-fault.ensures.spells,
+      c.spell-zero.ensures.spells,
+    )
+
+pub returns-else-is_faultless-clause-spells : goal.returns-else-is_faultless-clause-spells
+returns-else-is_faultless-clause-spells g c =
+    let a = shaped (g.T.CodeTable.characters c.args.table.now) c.args.shape in
+    let ok : IsMisaligned a c.args.src.now → ⊥ = λ wrong. grind (arith, c.else-shape.branch, wrong) in
+    let asked = asked_characters a c.args.src.now _ _ (length c.args.dst.now) c.padding_under-padding.ensures.count
+    c.bytes_of-len.ensures (omega arith) ok in
+    omega (
+      arith,
+      asked,
+      c.compare_stem-passed.ensures.spells,
+      c.read_stem-fault.ensures.spells,
+      c.spell-zero.ensures.spells,
+    )

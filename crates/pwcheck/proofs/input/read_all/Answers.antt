@@ -3,4 +3,4 @@ use Rattle.pwcheck.proofs.input.read_all.Goals as goal
 
 pub returns-in-Err-extend_from_slice-clause-taken : goal.returns-in-Err-extend_from_slice-clause-taken
 returns-in-Err-extend_from_slice-clause-taken g c =
-    (_, consumes_more _ _ _ _ _ c.reads.invariant.taken c.in-Ok.ensures.bytes.0, λ e. absurd (cc))
+    (_, consumes_more _ _ _ _ _ c.reads.invariant.taken c.in-Ok.ensures.bytes.0, search rules, λ e. absurd (cc))

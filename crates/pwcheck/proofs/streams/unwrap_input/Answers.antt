@@ -7,5 +7,6 @@ pub returns-in-Err-clause-outcome : goal.returns-in-Err-clause-outcome
 returns-in-Err-clause-outcome g c =
     let taken = c.in-Err.ensures.taken in
     let s = c.stopped.ensures.statuses in
-    kept_stopped (Unwraps c.args.width) c.stopped.result (min c.args.max longest_kept) _ _ _ _ taken.0 taken.1 refl s.0
-    s.1 s.2 (λ e. omega (arith, c.min.ensures, taken.2 (rw (c.stopped.ensures.budget e) refl)))
+    kept_stopped (Unwraps c.args.width) c.stopped.result (min c.args.max longest_kept) _ _ _ _ taken.0 taken.1 refl
+    (omega (arith, c.min.ensures, taken.2)) s.0 s.1 s.2
+    (λ e. omega (arith, c.min.ensures, taken.3 (rw (c.stopped.ensures.budget e) refl)))
