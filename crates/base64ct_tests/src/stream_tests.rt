@@ -60,7 +60,13 @@ fn encoder_rows(rt: HostRuntime) {
         (9, &six, (&[0; 1], true), 9, None),
         (8, &[], (&[0; 6], false), 0, Some("")),
         (8, &[&[0; 3]], (&[0; 3], false), 4, Some("AAAA")),
-        (64, &[&[1, 2], &[3], &[]], (&[4], true), 4, Some("AQID\nBA==")),
+        (
+            64,
+            &[&[1, 2], &[3], &[]],
+            (&[4], true),
+            4,
+            Some("AQID\nBA=="),
+        ),
         (9, &[&[1]], (&[2], true), 0, Some("AQI=")),
         (3, &[&[1]], (&[], true), 0, None),
     ];
@@ -72,7 +78,16 @@ fn encoder_rows(rt: HostRuntime) {
     let last: (&[u8], bool) = (&[4, 5, 6, 7], true);
     fed::<Base64Unpadded, HostRuntime>(&rt, 32, 5, LineEnding::CR, &parts, last, 9, text);
     let zeros = "AAAAAAAAAAAAAAAAAAAAAAAAAAAAAAAAAAAAAAAAAAAAAAAAAAAAAAAAAAAAAAAA";
-    fed::<Base64, HostRuntime>(&rt, 64, 64, LineEnding::CRLF, &[], (&[0; 48], true), 64, Some(zeros));
+    fed::<Base64, HostRuntime>(
+        &rt,
+        64,
+        64,
+        LineEnding::CRLF,
+        &[],
+        (&[0; 48], true),
+        64,
+        Some(zeros),
+    );
 }
 
 #[test]
@@ -209,8 +224,20 @@ fn decoders_end(rt: HostRuntime) {
     let alloc = rt.alloc();
     appended(&rt, alloc, b"AAAA\r\nAAAA\n", 0, Ok(&[0; 6]));
     appended(&rt, alloc, b"AAAA\nAQID\nBA==\n", 4, Ok(&[2, 3, 4]));
-    appended(&rt, alloc, b"AQ*D\nBA==\n", 0, Err(DecodeVecError::InvalidEncoding));
-    appended(&rt, alloc, b"AAAA\nAA*A\nAAAA\r\n", 2, Err(DecodeVecError::InvalidEncoding));
+    appended(
+        &rt,
+        alloc,
+        b"AQ*D\nBA==\n",
+        0,
+        Err(DecodeVecError::InvalidEncoding),
+    );
+    appended(
+        &rt,
+        alloc,
+        b"AAAA\nAA*A\nAAAA\r\n",
+        2,
+        Err(DecodeVecError::InvalidEncoding),
+    );
 }
 
 // RFC 4648, table 1.
@@ -360,7 +387,10 @@ fn read_in_steps<R: Abort>(
     let mut d = Decoder::<Base64>::new_wrapped(text, width).expect(rt, "made");
     for part in bytes.chunks(step) {
         assert!(rt; part.len() <= room.len());
-        assert_eq!(rt; d.decode(&mut room[..part.len()]).expect(rt, "a part"), part);
+        assert_eq!(rt;
+            d.decode(&mut room[..part.len()]).expect(rt, "a part"),
+            part
+        );
     }
     assert!(rt; d.is_finished());
 }
@@ -399,10 +429,8 @@ fn front<'a, R: Abort>(rt: &R, bytes: &'a [u8], len: usize) -> &'a [u8] {
 
 // Bytes that come again only after 251.
 fn fill_counting(bytes: &mut [u8]) {
-    let mut next = 0u8;
-    for byte in bytes {
-        *byte = next;
-        next = if next == 250 { 0 } else { next + 1 };
+    for i in 0..bytes.len() {
+        bytes[i] = (i % 251) as u8;
     }
 }
 

@@ -3,7 +3,7 @@
 ghost use Rattle.std.specs.Prelude.{◌≡◌, ◌==◌};
 ghost use Rattle.pieces.specs.Characters.{dollar};
 ghost use Rattle.pieces.specs.Pieces.{lent, pieces_left};
-ghost use Rattle.phc.specs.Grammar.{pieces_behind, read_first, has, layout, params_text, layout_from_salt, version_digits};
+ghost use Rattle.phc.specs.Grammar.{pieces_behind, read_first, has_byte, layout, params_text, layout_from_salt, version_digits};
 ghost use Rattle.phc.specs.Views.{parts_of, pieces_of};
 
 use pieces::{behind, first_piece, next_piece};
@@ -19,8 +19,8 @@ pub(crate) struct FormParts<'a> {
 }
 
 // Whether a byte occurs.
-fn has(c: u8, bytes: &[u8]) -> bool
-    ensures { result ≡ has c bytes.now }
+fn has_byte(c: u8, bytes: &[u8]) -> bool
+    ensures { result ≡ has_byte c bytes.now }
 {
     bytes.iter().any(|b| *b == c)
 }
@@ -33,7 +33,7 @@ fn version_digits<'a>(piece: &'a str) -> Option<&'a str>
     let Some(digits) = behind(piece, "v=") else {
         return None;
     };
-    if has(b',', piece.as_bytes()) {
+    if has_byte(b',', piece.as_bytes()) {
         None
     } else {
         Some(digits)
@@ -44,7 +44,7 @@ fn version_digits<'a>(piece: &'a str) -> Option<&'a str>
 fn params_text<'a>(piece: &'a str) -> Option<&'a str>
     ensures { lent result ≡ params_text piece.now }
 {
-    if has(b'=', piece.as_bytes()) {
+    if has_byte(b'=', piece.as_bytes()) {
         Some(piece)
     } else {
         None

@@ -87,16 +87,16 @@ fn values(rt: HostRuntime) -> Result<(), AllocError> {
 #[test]
 fn decoded_values(rt: HostRuntime) {
     let mut room = [7; 4];
-    let no_room = Err(Error::Base64(base64ct::Error::InvalidLength));
-    assert!(rt; value(&rt, "BAUG").b64_decode(&mut room[..2]) == no_room);
+    let no_room = Some(Error::Base64(base64ct::Error::InvalidLength));
+    assert!(rt; value(&rt, "BAUG").b64_decode(&mut room[..2]).err() == no_room);
     assert!(rt; room == [7; 4]);
     assert!(rt; value(&rt, "AgM").b64_decode(&mut room) == Ok([2, 3].as_slice()));
     assert!(rt; room == [2, 3, 7, 7]);
     assert!(rt; value(&rt, "BAUG").b64_decode(&mut room) == Ok([4, 5, 6].as_slice()));
     assert!(rt; room == [4, 5, 6, 7]);
-    let encoding = Err(Error::Base64(base64ct::Error::InvalidEncoding));
+    let encoding = Some(Error::Base64(base64ct::Error::InvalidEncoding));
     for text in ["Mi", "A", "AA-", "...."] {
-        assert!(rt; value(&rt, text).b64_decode(&mut room) == encoding);
+        assert!(rt; value(&rt, text).b64_decode(&mut room).err() == encoding);
     }
 }
 
@@ -257,9 +257,9 @@ fn outputs(rt: HostRuntime) -> Result<(), AllocError> {
     assert_eq!(rt; most.b64_len(), Output::B64_MAX_LENGTH);
     assert_eq!(rt; Output::B64_MAX_LENGTH, 86);
     let mut room = [7; 88];
-    let no_room = Err(Error::Base64(base64ct::Error::InvalidLength));
-    assert!(rt; most.encode(&mut room[..85]) == no_room);
-    assert!(rt; most.b64_encode(&mut room[..85]) == no_room);
+    let no_room = Some(Error::Base64(base64ct::Error::InvalidLength));
+    assert!(rt; most.encode(&mut room[..85]).err() == no_room);
+    assert!(rt; most.b64_encode(&mut room[..85]).err() == no_room);
     assert!(rt; room == [7; 88]);
     assert!(rt; most.encode(&mut room) == Ok(COUNTED_TEXT));
     assert!(rt; room.starts_with(COUNTED_TEXT.as_bytes()) && room.ends_with(&[7, 7]));

@@ -1,10 +1,10 @@
 //! Records: rows that say what is refused, texts from outside, and one call of each kind.
 
+use base64ct::Counts;
 use phc::{
     Error, Ident, Output, ParamsString, PasswordHash, PasswordHashString, PhcStringError, Salt,
     laws,
 };
-use base64ct::Counts;
 use std::alloc::{AllocError, Global};
 use std::cmp::Ordering;
 use std::process::Abort;

@@ -1,7 +1,7 @@
 -- Numbers written plainly: they are the decimals, and what `parse` gives.
 use Rattle.std.proofs.Common.{◌≡◌, ℕ, zero, suc, ◌^◌, ◌<◌, ◌≤◌, Bool, true, false, List, [], ◌∷◌, length, get_or}
 use Rattle.std.proofs.Common.{refl, sym, ap, ◌∙◌, arith, rules, Result, Ok, Err}
-use Rattle.std.specs.Prelude.{◌&&◌, not, nat_le, nat_lt, Option, Some, None, if◌then◌else◌}
+use Rattle.std.specs.Prelude.{◌&&◌, not, nat_le, nat_lt, Some, None, if◌then◌else◌}
 use Rattle.std.specs.Char.{is_ascii_digit}
 use Rattle.std.specs.Fmt.{decimal, digits}
 use Rattle.std.specs.List.{list_all}
@@ -60,7 +60,7 @@ decimal_back bound s n within h =
     let f = found bound s n h in
     ap decimal (sym f.value)
     ∙ decimal-digits_value own s f.plain.digits f.plain.some (lone_zero s f.plain.lead)
-      (omega (arith, within, f.value, f.below))
+    (omega (arith, within, f.value, f.below))
 
 zero_alone : has_leading_zero (decimal 0) ≡ false
 unfolding digits

@@ -1,5 +1,6 @@
 //! Texts and their pieces.
 
+use crate::characters::{has_name_bytes, is_name_byte};
 use crate::places::{first_place, last_place};
 use crate::short_bytes::ShortBytes;
 use crate::text::text_of;
@@ -117,4 +118,17 @@ fn texts_of_bytes(rt: HostRuntime) {
     for bytes in [b"salt\xff".as_slice(), b"abcdefghijklmnop\xff".as_slice()] {
         assert_eq!(rt; text_of(bytes), None);
     }
+}
+
+#[test]
+fn bytes_of_names(rt: HostRuntime) {
+    for (text, all) in [
+        ("argon2id-09", true),
+        ("", true),
+        ("a_b", false),
+        ("Az", false),
+    ] {
+        assert_eq!(rt; has_name_bytes(text.as_bytes()), all);
+    }
+    assert!(rt; is_name_byte(b'-') && !is_name_byte(b'.'));
 }

@@ -1,8 +1,8 @@
 -- Runs that keep their input whole.
-use Rattle.std.proofs.Common.{◌≡◌, ◌≢◌, ℕ, ◌<◌, ◌≤◌, ◌+◌, List, [], ◌∷◌, ◌++◌, length, drop, refl, sym, ap, ◌∙◌, subst}
+use Rattle.std.proofs.Common.{◌≡◌, ◌≢◌, ℕ, ◌<◌, ◌≤◌, ◌+◌, List, [], ◌∷◌, ◌++◌, length, take, drop, refl, sym, ap, ◌∙◌, subst}
 use Rattle.std.proofs.Common.{arith, Option, Some}
 use Rattle.std.specs.Io.KnownBytes.{Consumes, Appends, IsAtEnd}
-use Rattle.std.proofs.lemmas.List.{length-append, nil_from_length}
+use Rattle.std.proofs.lemmas.List.{length-append, length-take, nil_from_length}
 use Rattle.std.proofs.lemmas.Option.{same_Some}
 use Rattle.line_io.specs.Devices.{WhereTold}
 use Rattle.line_io.proofs.Moved.{where_told, where_told_end, appends_none}
@@ -71,6 +71,11 @@ kept_none Gives max a b c d input took end within same none =
       bounded = omega (arith, within);
       nothing = λ _ _. refl;
     }))
+
+-- a front of a read behind what was taken
+pub joined_within : (xs ys : List ℕ) (n most : ℕ) → length xs + n ≤ most → length (xs ++ take n ys) ≤ most
+joined_within xs ys n most h = let part = length-take n ys in let sum = length-append xs (take n ys) in
+    omega (arith, h, part, sum)
 
 -- ---- texts
 

@@ -115,7 +115,14 @@ fn earlier_texts_and_others(rt: HostRuntime) -> Result<(), Fail> {
     let mut long = Vec::new(rt.alloc());
     long.resize(8_193, b'a')?;
     long.extend_from_slice(b"\n$5")?;
-    let got = run_over(&rt, rt.alloc(), &words, &long, SMALL_STEPS, b"toolong\n$5\n");
+    let got = run_over(
+        &rt,
+        rt.alloc(),
+        &words,
+        &long,
+        SMALL_STEPS,
+        b"toolong\n$5\n",
+    );
     assert_eq!(rt; got, 1);
     Ok(())
 }
@@ -295,12 +302,7 @@ const LONG_INPUTS: [(&str, Repeated, Repeated, u8); 6] = [
         0,
     ),
     ("wrap", (b"abc", 349_525, b"ab"), (b"", 0, b""), 6),
-    (
-        "unwrap",
-        (b"YWJj\n", 2_000, b""),
-        (b"abc", 2_000, b""),
-        0,
-    ),
+    ("unwrap", (b"YWJj\n", 2_000, b""), (b"abc", 2_000, b""), 0),
     (
         "unwrap",
         (b"YWJj\r\n", 174_762, b"YWJj"),

@@ -6,16 +6,13 @@ use phc::PasswordHash;
 use std::test::Fail;
 use stored_check::PhcKdf;
 
+// A key of RFC 7914, section 12: no password, no salt, N = 16, r = 1, p = 1.
+const SHORT_KEY: [u8; 64] =
+    *b"\x77\xd6\x57\x62\x38\x65\x7b\x20\x3b\x19\xca\x42\xc1\x8a\x04\x97\xf1\x6b\x48\x44\xe3\x07\x4a\xe8\xdf\xdf\xfa\x3f\xed\xe2\x14\x42\xfc\xd0\x06\x9d\xed\x09\x48\xf8\x32\x6a\x75\x3a\x0f\xc8\x1f\x17\xe8\xd3\xe0\xfb\x2e\x0d\x36\x28\xcf\x35\xe2\x0c\x38\xd1\x89\x06";
+
 // A password, a salt, ln, r, p and the key of 64 bytes: RFC 7914, section 12.
 const KEYS: [(&[u8], &[u8], u32, u32, u32, [u8; 64]); 2] = [
-    (
-        b"",
-        b"",
-        4,
-        1,
-        1,
-        *b"\x77\xd6\x57\x62\x38\x65\x7b\x20\x3b\x19\xca\x42\xc1\x8a\x04\x97\xf1\x6b\x48\x44\xe3\x07\x4a\xe8\xdf\xdf\xfa\x3f\xed\xe2\x14\x42\xfc\xd0\x06\x9d\xed\x09\x48\xf8\x32\x6a\x75\x3a\x0f\xc8\x1f\x17\xe8\xd3\xe0\xfb\x2e\x0d\x36\x28\xcf\x35\xe2\x0c\x38\xd1\x89\x06",
-    ),
+    (b"", b"", 4, 1, 1, SHORT_KEY),
     (
         b"password",
         b"NaCl",
@@ -196,7 +193,7 @@ const LONGER_KEY: [u8; 64] =
 
 // A record, a password, a salt and the key, in the order of their tables' sizes.
 const KEPT: [(&str, &[u8], &[u8], [u8; 64]); 3] = [
-    ("$scrypt$ln=4,r=1,p=1", b"", b"", KEYS[0].5),
+    ("$scrypt$ln=4,r=1,p=1", b"", b"", SHORT_KEY),
     (
         "$scrypt$ln=5,r=2,p=3",
         b"pleaseletmein",

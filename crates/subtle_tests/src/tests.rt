@@ -1,13 +1,13 @@
 //! Worked values, and each call once, the generic ones through their bounds.
 ghost use Rattle.std.specs.Prelude.{◌≡◌};
 
+use std::cell::Cell;
+use std::cmp::Ordering;
 use subtle::{
     BlackBox, Choice, ConditionallyNegatable, ConditionallySelectable, ConstantTimeEq,
     ConstantTimeGreater, ConstantTimeLess, Counting, CtOption, SameByte, ct_eq_slices, eq_with,
     laws,
 };
-use std::cell::Cell;
-use std::cmp::Ordering;
 
 fn choice(yes: bool) -> Choice
     ensures { result ≡ yes }
