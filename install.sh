@@ -26,15 +26,18 @@ put() { # MODE FILE FOLDER
 may_build() { [ -z "${PWCHECK_AS_BUILT:-}" ] && command -v rt >/dev/null 2>&1; }
 
 built() { # PROGRAM
-  local file=$top/crates/$1/out/$1 newer
+  local out=$top/crates/$1/out newer
   if may_build; then
     echo "building $1, which proves what isn't proved: this may take minutes"
-    # The program's own status is no matter: what counts is that the build is newer than its sources.
-    (cd "$top/crates/$1" && rt run </dev/null >/dev/null) || true
+    # rt leaves what the program wrote in out/stdout once it is proved, built and run. Its own status is no matter.
+    rm -f "$out/stdout"
+    (cd "$top/crates/$1" && rt run </dev/null >/dev/null 2>&1) || true
+    [ -e "$out/stdout" ] || fail "$1 isn't proved or not built: see (cd crates/$1 && rt run)"
+    return
   fi
-  [ -e "$file" ] || fail "$file isn't built: see (cd crates/$1 && rt run)"
-  newer=$(find "$top"/crates/*/src "$top"/crates/*/specs -name '*.[ra]*t' -newer "$file" -print -quit)
-  [ -z "$newer" ] || may_build || fail "$file is older than $newer: build it anew by rt"
+  [ -e "$out/$1" ] || fail "$out/$1 isn't built, and the kit's rt isn't here"
+  newer=$(find "$top"/crates/*/src "$top"/crates/*/specs -name '*.[ra]*t' -newer "$out/$1" -print -quit)
+  [ -z "$newer" ] || fail "$out/$1 is older than $newer: build it anew by rt"
 }
 
 for program in $programs; do

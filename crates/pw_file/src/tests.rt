@@ -77,10 +77,7 @@ const KEPT: [(&str, Word); 5] = [
     ),
     ("set\tbob\t$6", Word::Done),
     ("set\tcleo\t", Word::BadText),
-    (
-        "set\tdora\t$scrypt$ln=14,r=8,p=1$abcdabcdabc$A",
-        Word::Done,
-    ),
+    ("set\tdora\t$scrypt$ln=14,r=8,p=1$abcdabcdabc$A", Word::Done),
 ];
 
 #[test]
