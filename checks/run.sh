@@ -1,9 +1,11 @@
 #!/usr/bin/env bash
-# The repository's own checks, behind the prover's: the numbers of the header and of the bindings, the C library, its
-# callers, its installation. Each ends with a status that isn't 0 where it finds a fault.
+# The repository's own checks, behind the prover's. Each ends with a status that isn't 0 where it finds a fault.
 #
-#     checks/run.sh          after `rt ci`; it needs python3, gcc and binutils, and the builds, which it makes by rt
-#     checks/run.sh quick    the numbers alone, in a second, without any build
+#     checks/run.sh quick    the numbers of the header and of the bindings, in a second, without any build: for each push
+#     checks/run.sh          that, and the C library, its callers, a run under sanitizers, the installation
+#
+# The second needs gcc, binutils and pkg-config, and builds the library and the programs by rt, which proves what no
+# check in this clone has proved. It is for releases and for changes of pwcheck_c, bindings, include or install.sh.
 set -eu
 cd "$(dirname "$0")/.."
 export PYTHONDONTWRITEBYTECODE=1
@@ -17,4 +19,6 @@ python3 bindings/try.py "$work/try"
 gcc -std=c99 -g -O1 -Wall -Wextra -Werror -fsanitize=address,undefined -fno-sanitize-recover=all \
   -I "$work/lib/include" checks/c_calls.c "$work/lib/lib/libpwcheck.a" -o "$work/c_calls"
 "$work/c_calls"
-checks/prefixes.sh "$work/prefixes"
+# The programs are built once; the prefixes take what is built.
+./install.sh "$work/first" >&2
+PWCHECK_AS_BUILT=1 checks/prefixes.sh "$work/prefixes"
