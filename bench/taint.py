@@ -52,9 +52,9 @@ REASONS = {
                     "where the stored text has a `$`"), BOTH),
     "taken": (Reason("J", r"pwcheck_c::(sha_text|scrypt_text)::.*|pwcheck_(sha(256|512)_crypt|scrypt)_text", 1,
                      "whether the password is UTF-8"), BOTH),
-    "grammar": (Reason("J", r"pwcheck_check(_limited)?|pwcheck_c::cost::.*|mcf::.*", 12,
+    "grammar": (Reason("J", r"pwcheck_check(_limited)?|pwcheck_c::(check|cost)::.*|mcf::.*", 12,
                        "the grammar of stored texts"), BOTH),
-    "verdict": (Reason("J", r"stored_check::names::sha_verdict|pwcheck_check(_limited)?|pwcheck_c::sha_check::.*"
+    "verdict": (Reason("J", r"stored_check::names::sha_verdict|pwcheck_check(_limited)?|pwcheck_c::(sha_)?check::.*"
                        r"|pwcheck_sha(256|512)_check", 3,
                        "match, mismatch or refused"), BOTH),
 }
