@@ -1,14 +1,21 @@
 #!/usr/bin/env bash
 # Installs the programs, the C library, its header and pkg-config file, and the manual pages under a prefix.
 #
-#     ./install.sh [PREFIX]      (/usr/local if left out; DESTDIR is put before it)
+#     ./install.sh [PREFIX]      (/usr/local if left out; DESTDIR is put before it; PREFIX may be relative)
 #
-# What isn't built yet is built first, by the kit's `rt run` and `rt lib`: that proves it too. It says what it did.
+# Where the kit's rt is there, it is asked for each build (`rt run`, `rt lib`): that proves what isn't proved, and does
+# nothing where nothing changed. Without rt, or with PWCHECK_AS_BUILT=1, what stands in crates/*/out is installed as it
+# is, unless a source is newer: that is refused. It says what it did.
 set -eu
 top=$(cd "$(dirname "$0")" && pwd)
-prefix=${1:-/usr/local}
+prefix=$(realpath -m -- "${1:-/usr/local}")
 root=${DESTDIR:-}$prefix
 programs="pwcheck wrapstream pwkdf pwlegacy pwfile"
+
+fail() {
+  echo "install.sh: $*" >&2
+  exit 1
+}
 
 put() { # MODE FILE FOLDER
   install -d "$root/$3"
@@ -16,33 +23,43 @@ put() { # MODE FILE FOLDER
   echo "installed $root/$3/$(basename "$2")"
 }
 
-built() { # FILE CRATE COMMAND..
-  local file=$1 crate=$2
-  shift 2
-  if [ ! -e "$file" ]; then
-    command -v rt >/dev/null 2>&1 || { echo "install.sh: $file isn't built, and the kit's rt isn't here" >&2; exit 1; }
-    echo "building $crate, which proves it: this may take minutes"
-    (cd "$top/crates/$crate" && "$@" </dev/null >/dev/null) || [ -e "$file" ] || {
-      echo "install.sh: $crate can't be built: see (cd crates/$crate && $*)" >&2
-      exit 1
-    }
+may_build() { [ -z "${PWCHECK_AS_BUILT:-}" ] && command -v rt >/dev/null 2>&1; }
+
+built() { # PROGRAM
+  local out=$top/crates/$1/out newer
+  if may_build; then
+    echo "building $1, which proves what isn't proved: this may take minutes"
+    # rt leaves what the program wrote in out/stdout once it is proved, built and run. Its own status is no matter.
+    rm -f "$out/stdout"
+    (cd "$top/crates/$1" && rt run </dev/null >/dev/null 2>&1) || true
+    [ -e "$out/stdout" ] || fail "$1 isn't proved or not built: see (cd crates/$1 && rt run)"
+    return
   fi
+  [ -e "$out/$1" ] || fail "$out/$1 isn't built, and the kit's rt isn't here"
+  newer=$(find "$top"/crates/*/src "$top"/crates/*/specs -name '*.[ra]*t' -newer "$out/$1" -print -quit)
+  [ -z "$newer" ] || fail "$out/$1 is older than $newer: build it anew by rt"
 }
 
 for program in $programs; do
-  built "$top/crates/$program/out/$program" "$program" rt run
-  put 755 "$top/crates/$program/out/$program" bin
+  built "$program"
 done
 library=$(mktemp -d)
 trap 'rm -rf "$library"' EXIT
-python3 "$top/bindings/library.py" "$library"
+python3 "$top/bindings/library.py" "$library" "$prefix"
+for program in $programs; do
+  put 755 "$top/crates/$program/out/$program" bin
+done
 put 644 "$library/lib/libpwcheck.a" lib
-put 644 "$library/lib/libpwcheck.so" lib
+for shared in "$library"/lib/libpwcheck.so*; do
+  if [ -L "$shared" ]; then
+    cp -P "$shared" "$root/lib/"
+    echo "linked $root/lib/$(basename "$shared")"
+  else
+    put 644 "$shared" lib
+  fi
+done
 put 644 "$top/include/pwcheck.h" include
-install -d "$root/lib/pkgconfig"
-sed "s|@PREFIX@|$prefix|" "$top/include/pwcheck.pc.in" > "$root/lib/pkgconfig/pwcheck.pc"
-chmod 644 "$root/lib/pkgconfig/pwcheck.pc"
-echo "installed $root/lib/pkgconfig/pwcheck.pc"
+put 644 "$library/lib/pkgconfig/pwcheck.pc" lib/pkgconfig
 for page in "$top"/man/*.[135]; do
   put 644 "$page" "share/man/man${page##*.}"
 done

@@ -1,18 +1,23 @@
 #!/usr/bin/env bash
 # Takes away what install.sh put under a prefix, and nothing else.
 #
-#     ./uninstall.sh [PREFIX]      (/usr/local if left out; DESTDIR is put before it)
+#     ./uninstall.sh [PREFIX]      (/usr/local if left out; DESTDIR is put before it; PREFIX may be relative)
 set -eu
 top=$(cd "$(dirname "$0")" && pwd)
-root=${DESTDIR:-}${1:-/usr/local}
-files="bin/pwcheck bin/wrapstream bin/pwkdf bin/pwlegacy bin/pwfile include/pwcheck.h lib/pkgconfig/pwcheck.pc"
-files="$files lib/libpwcheck.a lib/libpwcheck.so"
-for page in "$top"/man/*.[135]; do
-  files="$files share/man/man${page##*.}/$(basename "$page")"
-done
-for file in $files; do
-  if [ -e "$root/$file" ]; then
-    rm "$root/$file"
-    echo "took away $root/$file"
+root=${DESTDIR:-}$(realpath -m -- "${1:-/usr/local}")
+
+take() { # FILE
+  if [ -e "$root/$1" ] || [ -L "$root/$1" ]; then
+    rm "$root/$1"
+    echo "took away $root/$1"
   fi
+}
+
+version=$(sed -n 's/^#define PWCHECK_VERSION "\(.*\)"$/\1/p' "$top/include/pwcheck.h")
+for file in bin/pwcheck bin/wrapstream bin/pwkdf bin/pwlegacy bin/pwfile include/pwcheck.h lib/pkgconfig/pwcheck.pc \
+  lib/libpwcheck.a lib/libpwcheck.so "lib/libpwcheck.so.${version%%.*}" "lib/libpwcheck.so.$version"; do
+  take "$file"
+done
+for page in "$top"/man/*.[135]; do
+  take "share/man/man${page##*.}/$(basename "$page")"
 done

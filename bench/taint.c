@@ -4,8 +4,8 @@
  * usage: taint decode|decode_ending_public ALPHABET TEXT
  *        taint encode ALPHABET COUNT
  *        taint same A B
- *        taint sha256|sha512|field256|field512|text256|text512|scrypt PASSWORD
- *        taint check|check256|check512 password|hash PASSWORD STORED
+ *        taint sha256|sha512|field256|field512|text256|text512|scrypt|scrypt_text PASSWORD
+ *        taint check|check_limited|check256|check512 password|hash PASSWORD STORED
  *        taint control_compare A B | taint control_table TEXT
  * Of a stored text the field behind the last '$' is the secret one. */
 #include <pwcheck.h>
@@ -55,6 +55,8 @@ static int32_t made(const char *what, const uint8_t *a, size_t m, uint8_t *out, 
     if (!strcmp(what, "field512")) return pwcheck_sha512_crypt_b64(a, m, salt, 10, 1000, out, 86);
     if (!strcmp(what, "text256")) return pwcheck_sha256_crypt_text(a, m, salt, 10, 1000, out, ROOM, len);
     if (!strcmp(what, "text512")) return pwcheck_sha512_crypt_text(a, m, salt, 10, 1000, out, ROOM, len);
+    if (!strcmp(what, "scrypt_text"))
+        return pwcheck_scrypt_text(a, m, (const uint8_t *)"sixteen letters.", 16, 4, 8, 1, out, ROOM, len);
     return pwcheck_scrypt(a, m, salt, 10, 4, 8, 1, out, 32);
 }
 
@@ -90,6 +92,7 @@ int main(int argc, char **argv)
         if (!strcmp(argv[2], "password")) hide(a, n);
         else hide(b + field, stored - field);
         status = !strcmp(what, "check256") ? pwcheck_sha256_check(a, n, b, stored)
+               : !strcmp(what, "check_limited") ? pwcheck_check_limited(a, n, b, stored, 10000, 1 << 20)
                : !strcmp(what, "check512") ? pwcheck_sha512_check(a, n, b, stored)
                                            : pwcheck_check(a, n, b, stored);
     } else {

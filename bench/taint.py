@@ -50,8 +50,11 @@ REASONS = {
     "utf8_place": (Reason("A", r"pwcheck_c::check::text_of", 8, "where bytes aren't ASCII"), OWN),
     "cuts": (Reason("J", r"pieces::.*|core::iter::words::find_ascii|sha_crypt::fields::(from_salt|text_parts)", 4,
                     "where the stored text has a `$`"), BOTH),
-    "grammar": (Reason("J", r"pwcheck_check|mcf::.*", 12, "the grammar of stored texts"), BOTH),
-    "verdict": (Reason("J", r"stored_check::names::sha_verdict|pwcheck_check|pwcheck_c::sha_check::.*"
+    "taken": (Reason("J", r"pwcheck_c::(sha_text|scrypt_text)::.*|pwcheck_(sha(256|512)_crypt|scrypt)_text", 1,
+                     "whether the password is UTF-8"), BOTH),
+    "grammar": (Reason("J", r"pwcheck_check(_limited)?|pwcheck_c::(check|cost)::.*|mcf::.*", 12,
+                       "the grammar of stored texts"), BOTH),
+    "verdict": (Reason("J", r"stored_check::names::sha_verdict|pwcheck_check(_limited)?|pwcheck_c::(sha_)?check::.*"
                        r"|pwcheck_sha(256|512)_check", 3,
                        "match, mismatch or refused"), BOTH),
 }
@@ -65,7 +68,7 @@ PADDED_TEXTS = ["AAAA" * 10, "5B8vYYiYACVt1RlTTf8KbXBH3hsxYAGNooZaBBGWEcA=", "AA
 CHECKS = [("check", "Hello world!", SHA256), ("check", "Hello world", SHA256),
           ("check", "correct horse battery staple", SHA512),
           ("check256", "Hello world!", SHA256), ("check256", "Hello world", SHA256),
-          ("check512", "correct horse battery staple", SHA512)]
+          ("check512", "correct horse battery staple", SHA512), ("check_limited", "Hello world!", SHA256)]
 CONTROLS = [["control_compare", "aaaa", "aaab"], ["control_table", "AB"]]
 
 
@@ -79,9 +82,12 @@ def cases():
     for other in ["a" * 64, "b" + "a" * 63, "a" * 63 + "b", "a" * 63]:
         yield ["same", "a" * 64, other], []
     for password in ["", "password", "p" * 100]:
-        for what in ["sha256", "sha512", "field256", "field512", "text256", "text512"]:
+        for what in ["sha256", "sha512", "field256", "field512"]:
             yield [what, password], ["copies"]
+        for what in ["text256", "text512"]:
+            yield [what, password], ["copies", "utf8", "utf8_place", "taken"]
         yield ["scrypt", password], ["rows"]
+        yield ["scrypt_text", password], ["rows", "utf8", "utf8_place", "taken"]
     for what, password, stored in CHECKS:
         yield [what, "password", password, stored], ["utf8", "utf8_place", "copies", "verdict"]
         yield [what, "hash", password, stored], ["utf8", "utf8_place", "cuts", "grammar", "counted", "verdict"]

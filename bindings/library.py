@@ -1,16 +1,21 @@
 #!/usr/bin/env python3
-"""Lays out the C library in a folder as a package would: include/pwcheck.h, lib/libpwcheck.a, lib/libpwcheck.so and
-lib/pkgconfig/pwcheck.pc.
+"""Lays out the C library in a folder as a package would: include/pwcheck.h, lib/libpwcheck.a, lib/libpwcheck.so.1.0
+with the links libpwcheck.so.1 and libpwcheck.so, and lib/pkgconfig/pwcheck.pc.
 
-    bindings/library.py FOLDER
+    bindings/library.py FOLDER [PREFIX]
 
-libpwcheck.a is the archive that `rt lib` makes in crates/pwcheck_c, joined with the kit's allocator for C programs, so
-that it needs the C library alone. Where the archive isn't there, `rt lib` makes it first. It needs gcc and binutils.
+PREFIX is what pwcheck.pc names, where the folder is to be moved there (else the folder itself). libpwcheck.a is the
+archive that `rt lib` makes in crates/pwcheck_c, joined with the kit's allocator for C programs to one object that
+defines the exports alone, so that it needs the C library only. Where rt is there, `rt lib` is run always: it does
+nothing where nothing changed. Without it (or with PWCHECK_AS_BUILT=1) the archive is taken as it stands, unless a
+source is newer. It needs gcc and binutils.
 """
 import os
+import re
 import shutil
 import subprocess
 import sys
+import tempfile
 
 HERE = os.path.dirname(os.path.abspath(__file__))
 TOP = os.path.dirname(HERE)
@@ -30,44 +35,96 @@ def run(*command, **more):
     return done
 
 
+def newer_source(path):
+    """A source under crates/ that is newer than this file, if there is one."""
+    built = os.path.getmtime(path)
+    for folder, folders, files in os.walk(CRATES):
+        folders[:] = [name for name in folders if name not in ("out", "must-fail")]
+        for name in files:
+            source = os.path.join(folder, name)
+            if name.endswith((".rt", ".antt")) and os.path.getmtime(source) > built:
+                return os.path.relpath(source, TOP)
+    return None
+
+
 def made(path, crate, *command):
-    """This file, which the command makes in the folder of a crate where it isn't there."""
-    if not os.path.exists(path):
-        need(shutil.which("rt"), f"{os.path.relpath(path)} isn't there, and no rt that makes it")
+    """This file, made anew by the command in the folder of a crate where rt is there. Without rt it is taken as it is,
+    and refused where a source is newer: it would be another program than the one that is proved."""
+    if shutil.which("rt") and not os.environ.get("PWCHECK_AS_BUILT"):
         print(f"{' '.join(command)} in crates/{crate}", file=sys.stderr)
         run(*command, cwd=os.path.join(CRATES, crate), stdin=subprocess.DEVNULL, stdout=subprocess.DEVNULL)
+        return path
+    need(os.path.exists(path), f"{os.path.relpath(path)} isn't there, and no rt that makes it")
+    newer = newer_source(path)
+    need(not newer, f"{os.path.relpath(path)} is older than {newer}: build it anew by rt")
     return path
 
 
 def archives():
     """The crate's archive, and the kit's allocator for it."""
     kit = os.environ.get("KIT") or os.path.dirname(run("rt", "doc", capture_output=True, text=True).stdout.strip())
-    return [made(ARCHIVE, "pwcheck_c", "rt", "lib"), os.path.join(kit, "c", "liblibc_c.a")]
+    archive = ARCHIVE if "LIBPWCHECK_C" in os.environ else made(ARCHIVE, "pwcheck_c", "rt", "lib")
+    return [archive, os.path.join(kit, "c", "liblibc_c.a")]
 
 
 def program():
-    return made(PROGRAM, "pwcheck", "rt", "run", "--", "check")
+    return PROGRAM if "PWCHECK" in os.environ else made(PROGRAM, "pwcheck", "rt", "run", "--", "check")
 
 
-def laid_out(folder):
+def version():
+    """The version, as the header has it."""
+    with open(os.path.join(TOP, "include", "pwcheck.h"), encoding="utf-8") as source:
+        return re.search(r'^#define PWCHECK_VERSION "([0-9]+\.[0-9]+)"$', source.read(), re.M).group(1)
+
+
+def make_static(static, scratch):
+    """One object with all of both archives, of which the exports alone are global."""
+    whole = os.path.join(scratch, "pwcheck.o")
+    run("ld", "-r", "-o", whole, "--whole-archive", *archives())
+    run("objcopy", "--wildcard", "--keep-global-symbol=pwcheck_*", whole)
+    if os.path.exists(static):
+        os.remove(static)
+    run("ar", "rcsD", static, whole)
+
+
+def make_shared(lib, static):
+    """The shared library under its full version, with the links that the loader and the linker look for."""
+    full = "libpwcheck.so." + version()
+    soname = "libpwcheck.so." + version().split(".", maxsplit=1)[0]
+    run("gcc", "-shared", "-o", os.path.join(lib, full), "-Wl,-soname," + soname, "-Wl,--whole-archive", static,
+        "-Wl,--no-whole-archive", "-Wl,--version-script," + os.path.join(HERE, "exports.map"), "-Wl,-z,defs,-z,text",
+        "-Wl,-z,relro,-z,now,-z,noexecstack")
+    for link, target in [(soname, full), ("libpwcheck.so", soname)]:
+        path = os.path.join(lib, link)
+        if os.path.lexists(path):
+            os.remove(path)
+        os.symlink(target, path)
+
+
+def pkg_config(prefix):
+    """The text of pwcheck.pc. A blank, a quotation mark and the like are escaped: pkg-config reads a shell's words."""
+    with open(os.path.join(TOP, "include", "pwcheck.pc.in"), encoding="utf-8") as source:
+        text = source.read()
+    escaped = re.sub(r"([^A-Za-z0-9_./+@%,:=~-])", r"\\\1", prefix)
+    return text.replace("@VERSION@", version()).replace("@PREFIX@", escaped)
+
+
+def laid_out(folder, prefix=None):
     """The folder of the libraries, laid out."""
     lib, include = os.path.join(folder, "lib"), os.path.join(folder, "include")
     os.makedirs(os.path.join(lib, "pkgconfig"), exist_ok=True)
     os.makedirs(include, exist_ok=True)
     shutil.copy(os.path.join(TOP, "include", "pwcheck.h"), include)
-    static, shared = os.path.join(lib, "libpwcheck.a"), os.path.join(lib, "libpwcheck.so")
-    joined = "".join(f"addlib {path}\n" for path in archives())
-    run("ar", "-M", input=f"create {static}\n{joined}save\nend\n", text=True)
-    run("gcc", "-shared", "-o", shared, "-Wl,-soname,libpwcheck.so", "-Wl,--whole-archive", static,
-        "-Wl,--no-whole-archive", "-Wl,--version-script," + os.path.join(HERE, "exports.map"), "-Wl,-z,defs,-z,text")
-    with open(os.path.join(TOP, "include", "pwcheck.pc.in"), encoding="utf-8") as source:
-        text = source.read().replace("@PREFIX@", os.path.abspath(folder))
+    static = os.path.join(lib, "libpwcheck.a")
+    with tempfile.TemporaryDirectory() as scratch:
+        make_static(static, scratch)
+    make_shared(lib, static)
     with open(os.path.join(lib, "pkgconfig", "pwcheck.pc"), "w", encoding="utf-8") as out:
-        out.write(text)
+        out.write(pkg_config(prefix or os.path.abspath(folder)))
     return lib
 
 
 if __name__ == "__main__":
-    need(len(sys.argv) == 2, "usage: library.py FOLDER")
-    need(shutil.which("gcc") and shutil.which("ar"), "it needs gcc and binutils")
-    laid_out(sys.argv[1])
+    need(len(sys.argv) in (2, 3), "usage: library.py FOLDER [PREFIX]")
+    need(shutil.which("gcc") and shutil.which("ld") and shutil.which("objcopy"), "it needs gcc and binutils")
+    laid_out(*sys.argv[1:])

@@ -6,10 +6,12 @@
 What is missing is built by `rt lib` and `rt run`. The library is laid out (bindings/library.py) in a new folder, or in
 the one that is named. Each line of examples/passwords.txt and of the lines below is answered by `pwcheck check`, by the
 C caller (static and shared, by pkg-config), by Python and by Rust, and the words have to be the same. What Python's own
-library knows, scrypt, Base64 and texts by `crypt`, is compared too; what is refused has to be refused; and a scrypt
-line under too little memory has to be answered by want of memory. What this machine lacks is said and left out.
+library knows, scrypt, Base64 and texts by `crypt`, is compared too; what is refused has to be refused, and leave `out`
+as it was; scrypt under too little memory has to be answered by want of memory. What this machine lacks is said and left
+out.
 """
 import base64
+import ctypes
 import hashlib
 import os
 import resource
@@ -19,7 +21,7 @@ import sys
 import tempfile
 import warnings
 
-from library import HERE, TOP, laid_out, need, program, run
+from library import HERE, TOP, laid_out, need, program, run, version
 
 EXAMPLES = os.path.join(TOP, "examples", "passwords.txt")
 SHA = b"$5$saltstring$5B8vYYiY.CVt1RlTTf8KbXBH3hsxY/GNooZaBBGWEc5"
@@ -66,6 +68,22 @@ def callers(folder, lib):
     return found
 
 
+def faults_told(found):
+    """The C caller says where it can't read or write."""
+    for name in found:
+        if name.startswith("C_"):
+            command, more = found[name]
+            env = {**os.environ, **more}
+            with open("/dev/full", "wb") as full:
+                done = subprocess.run(command, input=b"\t" + SHA + b"\n", stdout=full, stderr=subprocess.DEVNULL,
+                                      env=env, check=False)
+            need(done.returncode == 4, f"{name} ends with {done.returncode} on /dev/full")
+            folder = os.open(HERE, os.O_RDONLY)
+            done = subprocess.run(command, stdin=folder, capture_output=True, env=env, check=False)
+            os.close(folder)
+            need(done.returncode == 3, f"{name} ends with {done.returncode} on a folder")
+
+
 def words(command, source, more=None):
     done = subprocess.run(command, input=source, capture_output=True, env={**os.environ, **(more or {})}, check=False)
     need(done.returncode in (0, 1), f"{command[0]} ended with {done.returncode}: {done.stderr.decode()}")
@@ -98,7 +116,8 @@ def compare_scrypt(pwcheck):
         want = hashlib.scrypt(b"password", salt=b"NaCl", n=1 << ln, r=r, p=p, dklen=size, maxmem=1 << 28)
         need(pwcheck.scrypt(b"password", b"NaCl", ln, r, p, size) == want, "scrypt differs")
     for cost in [(0, 8, 1, 32), (25, 8, 1, 32), (4, 0, 1, 32), (4, 8, 0, 32), (4, 8, 1, 0), (4, 8, 1, 65),
-                 (22, 8, 1, 32)]:
+                 (22, 8, 1, 32), ((1 << 32) + 4, 8, 1, 32), (4, (1 << 32) + 8, 1, 32), (4, 8, -1, 32),
+                 (4, 8, 1, 1 << 64)]:
         refused(pwcheck.scrypt, b"password", b"NaCl", *cost)
 
 
@@ -113,8 +132,10 @@ def compare_base64(pwcheck):
             need(pwcheck.b64decode(alphabet + 1, text.rstrip(b"=")) == data, "Base64 differs")
         for alphabet in range(4, 8):
             need(pwcheck.b64decode(alphabet, pwcheck.b64encode(alphabet, data)) == data, "Base64 isn't taken back")
-    for alphabet, text in [(0, b"Zg="), (0, b"Zh=="), (1, b"Z"), (3, b"Zg+/"), (8, b"")]:
+    for alphabet, text in [(0, b"Zg="), (0, b"Zh=="), (1, b"Z"), (3, b"Zg+/"), (8, b""), (1 << 32, b""), (-1, b"")]:
         refused(pwcheck.b64decode, alphabet, text)
+    for alphabet in (8, 1 << 32, -1):
+        refused(pwcheck.b64encode, alphabet, b"")
 
 
 def compare_text(pwcheck, crypt, bits, password, salt, rounds):
@@ -124,9 +145,11 @@ def compare_text(pwcheck, crypt, bits, password, salt, rounds):
     setting = f"${'5' if bits == 256 else '6'}${f'rounds={rounds}$' if rounds != 5000 else ''}{salt}$"
     need(not crypt or crypt.crypt(password, setting).encode() == text, "a text differs")
     need(pwcheck.sha_field(bits, data, salt.encode(), rounds) == text.rpartition(b"$")[2], "a field differs")
-    for asked, answer in [(data, pwcheck.MATCH), (data + b"a", pwcheck.MISMATCH)]:
+    for asked, answer in [(data, pwcheck.Answer.MATCH), (data + b"a", pwcheck.Answer.MISMATCH)]:
         need(pwcheck.check(asked, text) == pwcheck.sha_check(bits, asked, text) == answer, "not the verdict on a text")
-    need(pwcheck.sha_check(768 - bits, data, text) == 9, "a text of the other family isn't told")
+    need(pwcheck.sha_check(768 - bits, data, text) == pwcheck.Answer.SHA_IDENTIFIER, "the other family isn't told")
+    limited = [pwcheck.check_limited(data, text, bound, 0) for bound in (rounds - 1, rounds)]
+    need(limited == [pwcheck.Answer.OVER_COST, pwcheck.Answer.MATCH], "the bound on rounds isn't kept")
 
 
 def compare_texts(pwcheck):
@@ -141,9 +164,50 @@ def compare_texts(pwcheck):
             for salt in ["x", "./AZaz09", "1234567890123456"]:
                 for rounds in [1000, 5000, 10_000]:
                     compare_text(pwcheck, crypt, bits, password, salt, rounds)
-        for salt, rounds in [(b"", 5000), (b"a$b", 5000), (b"=", 5000), (b"a" * 17, 5000), (b"a", 999), (b"a", 10**9)]:
+        for salt, rounds in [(b"", 5000), (b"a$b", 5000), (b"=", 5000), (b"a" * 17, 5000), (b"a", 999), (b"a", 10**9),
+                             (b"a", (1 << 32) + 1000), (b"a", -1)]:
             refused(pwcheck.sha_text, bits, b"a", salt, rounds)
+        for password in (b"p\xe4ss", b"a" * 4097):
+            refused(pwcheck.sha_text, bits, password, b"a", 1000)
         refused(pwcheck.sha_digest, bits, b"a", b"a", 999)
+        refused(pwcheck.sha_digest, bits, b"a" * 4097, b"a", 1000)
+        refused(pwcheck.sha_field, bits, b"a" * 4097, b"a", 1000)
+        need(pwcheck.sha_check(bits, b"a" * 4097, b"$") == pwcheck.Answer.PASSWORD_TOO_LONG, "a long password")
+    refused(pwcheck.sha_text, 384, b"a", b"a")
+
+
+def compare_scrypt_texts(pwcheck):
+    """Texts of scrypt, beside hashlib's keys, their verdicts, and the bound on their cost."""
+    for k, (ln, r, p) in enumerate([(14, 8, 1), (4, 8, 1), (1, 1, 1), (10, 1, 16), (2, 2048, 1)]):
+        salt, password = bytes((17 * k + i) % 256 for i in range(16)), f"pässwört {k}".encode()
+        key = hashlib.scrypt(password, salt=salt, n=1 << ln, r=r, p=p, dklen=32, maxmem=1 << 28)
+        fields = [base64.b64encode(part).rstrip(b"=") for part in (salt, key)]
+        want = b"$scrypt$ln=%d,r=%d,p=%d$%b$%b" % (ln, r, p, *fields)
+        need(pwcheck.scrypt_text(password, salt, ln, r, p) == want, "a text of scrypt differs")
+        need(pwcheck.check(password, want) == pwcheck.Answer.MATCH, "a text of scrypt doesn't match")
+        cost = 128 * r * p << ln
+        limited = [pwcheck.check_limited(password, want, 0, bound) for bound in (cost - 1, cost)]
+        need(limited == [pwcheck.Answer.OVER_COST, pwcheck.Answer.MATCH], "the bound on bytes isn't kept")
+    for password, salt, cost in [(b"\xe4", bytes(16), (4, 8, 1)), (b"a" * 4097, bytes(16), (4, 8, 1)),
+                                 (b"a", bytes(15), (4, 8, 1)), (b"a", bytes(17), (4, 8, 1)),
+                                 (b"a", bytes(16), (0, 8, 1)), (b"a", bytes(16), (4, 8, 1025)),
+                                 (b"a", bytes(16), ((1 << 32) + 4, 8, 1))]:
+        refused(pwcheck.scrypt_text, password, salt, *cost)
+
+
+def compare_limits(pwcheck):
+    """A text that takes hours is answered at once, and faults come before the bound."""
+    costly = b"$5$rounds=999999999$x$kIBhdUvT3pHpfTjzR8s1XJu3y/HRJeFxMSffBtF8jx9"
+    need(pwcheck.check_limited(b"", costly, 999_999_998, 1 << 63) == pwcheck.Answer.OVER_COST, "no bound on rounds")
+    for line in LINES:
+        password, tab, stored = line.rpartition(b"\t")
+        answer = pwcheck.check_limited(password, stored, 0, 0)
+        want = pwcheck.check(password, stored)
+        if want in (pwcheck.Answer.MATCH, pwcheck.Answer.MISMATCH):
+            want = pwcheck.Answer.OVER_COST
+        need(answer == want, f"{answer!r} for {want!r} within no cost: {line[:60]!r}")
+    refused(pwcheck.check_limited, b"", costly, 1 << 32, 0)
+    refused(pwcheck.check_limited, b"", costly, 0, 1 << 64)
 
 
 def compare_memory(pwcheck):
@@ -152,9 +216,16 @@ def compare_memory(pwcheck):
     with open("/proc/self/statm", encoding="ascii") as source:
         now = int(source.read().split()[0]) * resource.getpagesize()
     resource.setrlimit(resource.RLIMIT_AS, (now + (16 << 20), hard))
-    answer = pwcheck.check(b"password", big)
+    out, n, call = (ctypes.c_uint8 * 96)(*range(96)), ctypes.c_size_t(77), pwcheck._lib
+    answers = [pwcheck.check(b"password", big), pwcheck.check_limited(b"password", big, 0, 1 << 40)]
+    statuses = [pwcheck._scrypt(b"password", 8, b"salt", 4, 16, 8, 1, ctypes.cast(out, ctypes.c_char_p), 64),
+                call.pwcheck_scrypt_text(b"password", 8, bytes(16), 16, 16, 8, 1, ctypes.cast(out, ctypes.c_char_p), 96,
+                                         ctypes.byref(n))]
     resource.setrlimit(resource.RLIMIT_AS, (soft, hard))
-    need(pwcheck.word(answer) == "no-memory", "want of memory isn't told")
+    need([pwcheck.word(answer) for answer in answers] == ["no-memory"] * 2, "want of memory isn't told")
+    need(statuses == [-2, -2], "want of memory isn't told")
+    need(bytes(out) == bytes(range(96)) and n.value == 77, "want of memory leaves something in `out`")
+    need(pwcheck.check_limited(b"password", big, 0, 1) == pwcheck.Answer.OVER_COST, "a bound on bytes isn't kept")
 
 
 def compare_python(lib):
@@ -165,9 +236,13 @@ def compare_python(lib):
     compare_scrypt(pwcheck)
     compare_base64(pwcheck)
     compare_texts(pwcheck)
+    compare_scrypt_texts(pwcheck)
+    compare_limits(pwcheck)
+    need(pwcheck.version() == pwcheck.VERSION == version(), "another version")
     need(pwcheck.same(b"abc", b"abc") and not pwcheck.same(b"abc", b"abd") and not pwcheck.same(b"abc", b"ab"), "same")
-    need([pwcheck.word(n) for n in (-1, 30, 1 << 30)] == [""] * 3, "a word for no answer")
-    need(len({pwcheck.word(n) for n in range(30)} - {""}) == 24, "not the words of the header")
+    for number in (-1, 31, 1 << 30, 1 << 32, -1 << 31):
+        refused(pwcheck.word, number)
+    need(len({pwcheck.word(answer) for answer in pwcheck.Answer}) == 25, "not the words of the header")
     print("Python: scrypt, Base64 and SHA-crypt as its own library has them")
     compare_memory(pwcheck)
     print("Python: want of memory is told")
@@ -179,7 +254,9 @@ def main():
         return
     with tempfile.TemporaryDirectory() as scratch:
         lib = laid_out(sys.argv[1] if len(sys.argv) > 1 else scratch)
-        compare_words(callers(scratch, lib))
+        found = callers(scratch, lib)
+        compare_words(found)
+        faults_told(found)
         compare_python(lib)
 
 

@@ -3,7 +3,7 @@
 #
 #     packaging/deb.sh [FOLDER]      (the package goes there; the current folder if left out)
 #
-# It needs dpkg-deb, and builds what isn't built (see install.sh).
+# It needs dpkg-deb, and builds what isn't built (see install.sh). The programs need the GNU C library 2.34.
 set -eu
 top=$(cd "$(dirname "$0")/.." && pwd)
 folder=${1:-.}
@@ -13,8 +13,7 @@ version=$(sed -n 's/^#define PWCHECK_VERSION "\(.*\)"$/\1/p' "$top/include/pwche
 tree=$(mktemp -d)
 trap 'rm -rf "$tree"' EXIT
 chmod 755 "$tree"
-DESTDIR=$tree "$top/install.sh" /usr > "$tree.log"
-rm -f "$tree.log"
+DESTDIR=$tree "$top/install.sh" /usr >&2
 gzip -9 -n "$tree"/usr/share/man/man*/*
 install -d "$tree/DEBIAN"
 cat > "$tree/DEBIAN/control" <<CONTROL
@@ -22,7 +21,7 @@ Package: pwcheck
 Version: ${version:-0}
 Architecture: amd64
 Maintainer: Bovchiril maintainers <maintainers@users.noreply.bovchiril.example>
-Depends: libc6
+Depends: libc6 (>= 2.34)
 Section: admin
 Priority: optional
 Installed-Size: $(du -sk "$tree/usr" | cut -f1)

@@ -4,6 +4,8 @@
  *
  *     check_lines < FILE
  *     check_lines make PASSWORD SALT     prints a SHA-256-crypt text of 5,000 rounds, and what its check answers
+ *
+ * It ends with 3 where the input can't be read, and with 4 where the output can't be written.
  */
 #define _GNU_SOURCE
 #include <pwcheck.h>
@@ -34,7 +36,7 @@ static int make(const char *password, const char *salt)
     size_t n;
     if (pwcheck_sha256_crypt_text(bytes(password), strlen(password), bytes(salt), strlen(salt), 5000, text, sizeof text,
                                   &n) != PWCHECK_DONE) {
-        fputs("the salt is no salt, or the password too long\n", stderr);
+        fputs("the salt is no salt, or the password is too long or no UTF-8\n", stderr);
         return 2;
     }
     pwcheck_word(pwcheck_check(bytes(password), strlen(password), text, n), (uint8_t *)word, sizeof word);
@@ -42,15 +44,29 @@ static int make(const char *password, const char *salt)
     return 0;
 }
 
-int main(int argc, char **argv)
+/* Answers the lines of standard input. A line may hold zero bytes: fgets would cut it there. */
+static int answer_lines(void)
 {
-    if (argc == 4 && !strcmp(argv[1], "make")) return make(argv[2], argv[3]);
     char *line = NULL, word[PWCHECK_WORD_SIZE];
     size_t size = 0;
     ssize_t got;
-    /* A line may hold zero bytes: fgets would cut it there. */
     while ((got = getline(&line, &size, stdin)) > 0)
-        puts(answer_line(line, line[got - 1] == '\n' ? got - 1 : got, word));
+        if (puts(answer_line(line, line[got - 1] == '\n' ? got - 1 : got, word)) == EOF) break;
     free(line);
+    if (!feof(stdin) && !ferror(stdout)) {
+        perror("check_lines: the input can't be read");
+        return 3;
+    }
     return 0;
+}
+
+int main(int argc, char **argv)
+{
+    int status = argc == 4 && !strcmp(argv[1], "make") ? make(argv[2], argv[3]) : answer_lines();
+    /* An answer that isn't written is a fault, not a silence. */
+    if (fflush(stdout) == EOF || ferror(stdout)) {
+        perror("check_lines: the output can't be written");
+        return 4;
+    }
+    return status;
 }

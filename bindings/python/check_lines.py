@@ -12,8 +12,8 @@ def answer(line):
     if len(line) > LINE_MAX:
         return "toolong"
     password, tab, stored = line.rpartition(b"\t")
-    number = pwcheck.check(password, stored) if tab else pwcheck.NOT_UTF8
-    return "badline" if number == pwcheck.NOT_UTF8 else pwcheck.word(number)
+    number = pwcheck.check(password, stored) if tab else pwcheck.Answer.NOT_UTF8
+    return "badline" if number == pwcheck.Answer.NOT_UTF8 else pwcheck.word(number)
 
 
 for line in sys.stdin.buffer:

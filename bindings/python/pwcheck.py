@@ -1,30 +1,104 @@
-"""The exports of libpwcheck.so by ctypes; the file is named by LIBPWCHECK, or found as the loader finds libraries.
+"""The exports of libpwcheck.so by ctypes. The file is named by LIBPWCHECK, or found as the loader finds libraries.
 
-Answers of the three checks are numbers, of which `word` tells the word; what is out of range raises ValueError, want of
-memory in `scrypt` MemoryError.
+Each check returns an `Answer`, of which `MATCH` alone is leave to enter: compare with it, since `MATCH` is 0 and false.
+A number or a length that is out of range raises ValueError, want of memory in `scrypt` and `scrypt_text` MemoryError.
+Passwords, stored texts and salts are bytes, of which the library keeps none.
 """
 import ctypes as c
+import enum
 import os
+from typing import Any, Callable
 
-MATCH, MISMATCH, NOT_UTF8, WANT_OF_MEMORY = 0, 1, 2, 3
-DONE, OUT_OF_RANGE, NO_MEMORY, NO_ROOM, NOT_BASE64 = 0, -1, -2, -3, -4
-WORD_SIZE, DIGEST_SIZES, FIELD_SIZES, TEXT_MAX = 18, {256: 32, 512: 64}, {256: 43, 512: 86}, 123
+__all__ = ["Answer", "Alphabet", "VERSION", "check", "check_limited", "sha_check", "word", "version", "scrypt",
+           "scrypt_text", "sha_digest", "sha_field", "sha_text", "b64encode", "b64decode", "same"]
 
-_lib = c.CDLL(os.environ.get("LIBPWCHECK", "libpwcheck.so"))
+
+class Answer(enum.IntEnum):
+    """What the checks answer: a verdict, or the first cause that there is none."""
+
+    MATCH = 0
+    MISMATCH = 1
+    NOT_UTF8 = 2
+    OUT_OF_MEMORY = 3
+    PASSWORD_TOO_LONG = 4
+    MCF_DELIMITER = 5
+    MCF_IDENTIFIER = 6
+    MCF_FIELD = 7
+    MCF_ENCODING = 8
+    SHA_IDENTIFIER = 9
+    SHA_NO_FIELDS = 10
+    SHA_NO_SALT = 11
+    SHA_ROUNDS_NOT_NUMBER = 12
+    SHA_NO_HASH = 13
+    SHA_TRAILING = 14
+    SHA_ROUNDS = 15
+    SHA_SALT_TOO_LONG = 16
+    SHA_BASE64 = 17
+    PHC_NAME = 18
+    PHC_VALUE_LONG = 19
+    PHC_VALUE = 20
+    PHC_PARAMS_LONG = 21
+    PHC_SALT_SHORT = 22
+    PHC_SALT_LONG = 23
+    PHC_B64 = 24
+    PHC_HASH_LONG = 25
+    PHC_HASH_SHORT = 26
+    PHC_TRAILING = 27
+    NO_HASH = 28
+    KDF = 29
+    OVER_COST = 30
+
+
+class Alphabet(enum.IntEnum):
+    """The alphabets of Base64."""
+
+    BASE64 = 0
+    BASE64_UNPADDED = 1
+    BASE64_URL = 2
+    BASE64_URL_UNPADDED = 3
+    BASE64_BCRYPT = 4
+    BASE64_CRYPT = 5
+    BASE64_PBKDF2 = 6
+    BASE64_SHA_CRYPT = 7
+
+
+class Status(enum.IntEnum):
+    """What the other calls of the library answer; the functions here raise an exception instead."""
+
+    DONE = 0
+    OUT_OF_RANGE = -1
+    NO_MEMORY = -2
+    NO_ROOM = -3
+    NOT_BASE64 = -4
+
+
+WORD_SIZE = 18
+SHA256_DIGEST_SIZE, SHA512_DIGEST_SIZE = 32, 64
+SHA256_FIELD_SIZE, SHA512_FIELD_SIZE = 43, 86
+SHA256_TEXT_MAX, SHA512_TEXT_MAX, SCRYPT_TEXT_MAX = 80, 123, 93
+SCRYPT_SALT_SIZE, PASSWORD_MAX = 16, 4096
+VERSION_MAJOR, VERSION_MINOR = 1, 0
+VERSION = f"{VERSION_MAJOR}.{VERSION_MINOR}"
+
+_lib = c.CDLL(os.environ.get("LIBPWCHECK", f"libpwcheck.so.{VERSION_MAJOR}"))
 _bytes = [c.c_char_p, c.c_size_t]
 _len = c.POINTER(c.c_size_t)
 _sha = [*_bytes, *_bytes, c.c_uint32, *_bytes]
+_cost = [c.c_uint32, c.c_uint32, c.c_uint32]
 
 
-def _export(name, result, *arguments):
+def _export(name: str, result: Any, *arguments: Any) -> Callable[..., int]:
     call = getattr(_lib, "pwcheck_" + name)
     call.restype, call.argtypes = result, list(arguments)
     return call
 
 
 _check = _export("check", c.c_int32, *_bytes, *_bytes)
+_check_limited = _export("check_limited", c.c_int32, *_bytes, *_bytes, c.c_uint32, c.c_uint64)
 _word = _export("word", c.c_size_t, c.c_int32, *_bytes)
-_scrypt = _export("scrypt", c.c_int32, *_bytes, *_bytes, c.c_uint32, c.c_uint32, c.c_uint32, *_bytes)
+_version = _export("version", c.c_size_t, *_bytes)
+_scrypt = _export("scrypt", c.c_int32, *_bytes, *_bytes, *_cost, *_bytes)
+_scrypt_text = _export("scrypt_text", c.c_int32, *_bytes, *_bytes, *_cost, *_bytes, _len)
 _checks = {bits: _export(f"sha{bits}_check", c.c_int32, *_bytes, *_bytes) for bits in (256, 512)}
 _digests = {bits: _export(f"sha{bits}_crypt", c.c_int32, *_sha) for bits in (256, 512)}
 _fields = {bits: _export(f"sha{bits}_crypt_b64", c.c_int32, *_sha) for bits in (256, 512)}
@@ -35,63 +109,123 @@ _decode = _export("base64_decode", c.c_int32, c.c_uint32, *_bytes, *_bytes, _len
 _encode = _export("base64_encode", c.c_int32, c.c_uint32, *_bytes, *_bytes, _len)
 _same = _export("same_bytes", c.c_bool, *_bytes, *_bytes)
 
-
-def _done(status):
-    if status == NO_MEMORY:
-        raise MemoryError
-    if status != DONE:
-        raise ValueError({OUT_OF_RANGE: "out of range", NO_ROOM: "no room", NOT_BASE64: "no Base64"}[status])
+_DIGEST_SIZES = {256: SHA256_DIGEST_SIZE, 512: SHA512_DIGEST_SIZE}
+_FIELD_SIZES = {256: SHA256_FIELD_SIZE, 512: SHA512_FIELD_SIZE}
+_TEXT_MAX = {256: SHA256_TEXT_MAX, 512: SHA512_TEXT_MAX}
 
 
-def _filled(size, call, *arguments):
+def _natural(n: int, bits: int = 32) -> int:
+    """The number, which ctypes would otherwise take modulo 2^bits."""
+    if not 0 <= n < 1 << bits:
+        raise ValueError(f"{n} is out of range")
+    return n
+
+
+def _of(calls: dict, bits: int) -> Any:
+    """The entry of SHA-256-crypt or SHA-512-crypt."""
+    if bits not in calls:
+        raise ValueError(f"{bits} is neither 256 nor 512")
+    return calls[bits]
+
+
+def _done(number: int) -> None:
+    status = Status(number)
+    if status == Status.NO_MEMORY:
+        raise MemoryError("no memory for scrypt")
+    if status != Status.DONE:
+        raise ValueError(status.name.lower().replace("_", " "))
+
+
+def _filled(size: int, call: Callable[..., int], *arguments: Any) -> bytes:
     out = c.create_string_buffer(max(size, 1))
     _done(call(*arguments, out, size))
     return out.raw[:size]
 
 
-def _written(room, call, *arguments):
+def _written(room: int, call: Callable[..., int], *arguments: Any) -> bytes:
     out, n = c.create_string_buffer(max(room, 1)), c.c_size_t(0)
     _done(call(*arguments, out, room, c.byref(n)))
     return out.raw[: n.value]
 
 
-def check(password: bytes, stored: bytes) -> int:
-    return _check(password, len(password), stored, len(stored))
-
-
-def sha_check(bits: int, password: bytes, stored: bytes) -> int:
-    return _checks[bits](password, len(password), stored, len(stored))
-
-
-def word(answer: int) -> str:
-    out = c.create_string_buffer(WORD_SIZE)
-    _word(answer, out, len(out))
+def _told(room: int, call: Callable[..., int], *arguments: Any) -> str:
+    out = c.create_string_buffer(room)
+    call(*arguments, out, room)
     return out.value.decode()
 
 
+def check(password: bytes, stored: bytes) -> Answer:
+    """Checks a password against a stored text, SHA-crypt or a PHC record of scrypt."""
+    return Answer(_check(password, len(password), stored, len(stored)))
+
+
+def check_limited(password: bytes, stored: bytes, max_rounds: int, max_bytes: int) -> Answer:
+    """Checks as `check`, but answers OVER_COST, and computes nothing, for a valid text of more than `max_rounds` rounds
+    of SHA-crypt, or of scrypt that mixes more than `max_bytes` bytes (128 r p 2^ln)."""
+    return Answer(_check_limited(password, len(password), stored, len(stored), _natural(max_rounds),
+                                 _natural(max_bytes, 64)))
+
+
+def sha_check(bits: int, password: bytes, stored: bytes) -> Answer:
+    """Checks a password against a text of SHA-256-crypt or SHA-512-crypt alone (`bits` is 256 or 512)."""
+    return Answer(_of(_checks, bits)(password, len(password), stored, len(stored)))
+
+
+def word(answer: int) -> str:
+    """The word of an answer, as `pwcheck check` writes it."""
+    if not -1 << 31 <= answer < 1 << 31:
+        raise ValueError(f"{answer} is out of range")
+    told = _told(WORD_SIZE, _word, answer)
+    if not told:
+        raise ValueError(f"{answer} is no answer")
+    return told
+
+
+def version() -> str:
+    """The version of the library that is loaded."""
+    return _told(32, _version)
+
+
 def scrypt(password: bytes, salt: bytes, ln: int, r: int, p: int, size: int) -> bytes:
-    return _filled(size, _scrypt, password, len(password), salt, len(salt), ln, r, p)
+    """The key of scrypt (RFC 7914) of 1 to 64 bytes, with N = 2^ln."""
+    return _filled(_natural(size, 16), _scrypt, password, len(password), salt, len(salt), _natural(ln), _natural(r),
+                   _natural(p))
+
+
+def scrypt_text(password: bytes, salt: bytes, ln: int = 14, r: int = 8, p: int = 1) -> bytes:
+    """The PHC text of a password of at most 4,096 bytes of UTF-8, for a salt of 16 bytes, as `os.urandom(16)`."""
+    return _written(SCRYPT_TEXT_MAX, _scrypt_text, password, len(password), salt, len(salt), _natural(ln), _natural(r),
+                    _natural(p))
 
 
 def sha_digest(bits: int, password: bytes, salt: bytes, rounds: int = 5000) -> bytes:
-    return _filled(DIGEST_SIZES[bits], _digests[bits], password, len(password), salt, len(salt), rounds)
+    """The digest of SHA-256-crypt or SHA-512-crypt, of which the first 16 bytes of the salt count."""
+    return _filled(_of(_DIGEST_SIZES, bits), _digests[bits], password, len(password), salt, len(salt), _natural(rounds))
 
 
 def sha_field(bits: int, password: bytes, salt: bytes, rounds: int = 5000) -> bytes:
-    return _filled(FIELD_SIZES[bits], _fields[bits], password, len(password), salt, len(salt), rounds)
+    """The hash field of that digest."""
+    return _filled(_of(_FIELD_SIZES, bits), _fields[bits], password, len(password), salt, len(salt), _natural(rounds))
 
 
 def sha_text(bits: int, password: bytes, salt: bytes, rounds: int = 5000) -> bytes:
-    return _written(TEXT_MAX, _texts[bits], password, len(password), salt, len(salt), rounds)
+    """The text `$5$..` or `$6$..` of a password of at most 4,096 bytes of UTF-8, for a salt of 1 to 16 characters of
+    [./0-9A-Za-z] that the caller draws, as by `secrets.choice`."""
+    return _written(_of(_TEXT_MAX, bits), _texts[bits], password, len(password), salt, len(salt), _natural(rounds))
 
 
 def b64encode(alphabet: int, data: bytes) -> bytes:
-    return _written(_encoded_len(alphabet, len(data)), _encode, alphabet, data, len(data))
+    """The encoding of bytes in an alphabet."""
+    n = _natural(alphabet)
+    return _written(_encoded_len(n, len(data)), _encode, n, data, len(data))
 
 
 def b64decode(alphabet: int, text: bytes) -> bytes:
-    return _written(_decoded_len(alphabet, text, len(text)), _decode, alphabet, text, len(text))
+    """The bytes whose one encoding in an alphabet is this text."""
+    n = _natural(alphabet)
+    return _written(_decoded_len(n, text, len(text)), _decode, n, text, len(text))
 
 
 def same(a: bytes, b: bytes) -> bool:
-    return _same(a, len(a), b, len(b))
+    """Whether two lists of bytes are the same, by steps that depend on their lengths alone."""
+    return bool(_same(a, len(a), b, len(b)))

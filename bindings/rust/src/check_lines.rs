@@ -14,7 +14,7 @@ fn answer(line: &[u8]) -> String {
         return "badline".into();
     };
     match check(&line[..tab], &line[tab + 1..]) {
-        Answer::NOT_UTF8 => "badline".into(),
+        Answer::NotUtf8 => "badline".into(),
         checked => checked.word(),
     }
 }

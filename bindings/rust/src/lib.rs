@@ -1,70 +1,301 @@
 //! Stored passwords checked and made by the C library pwcheck.
+//!
+//! Each check returns an [`Answer`], of which [`Answer::Match`] alone is leave to enter. What isn't taken is an
+//! [`Error`].
 
-mod c {
-    unsafe extern "C" {
-        pub fn pwcheck_check(password: *const u8, password_len: usize, stored: *const u8, stored_len: usize) -> i32;
-        pub fn pwcheck_word(number: i32, out: *mut u8, out_len: usize) -> usize;
-        pub fn pwcheck_sha512_crypt_text(
-            password: *const u8,
-            password_len: usize,
-            salt: *const u8,
-            salt_len: usize,
-            rounds: u32,
-            out: *mut u8,
-            out_len: usize,
-            len: *mut usize,
-        ) -> i32;
-        pub fn pwcheck_same_bytes(a: *const u8, a_len: usize, b: *const u8, b_len: usize) -> bool;
-    }
+mod c;
+
+use std::fmt;
+
+/// Room for each word and the zero behind it.
+const WORD_SIZE: usize = 18;
+const SHA256_TEXT_MAX: usize = 80;
+const SHA512_TEXT_MAX: usize = 123;
+const SCRYPT_TEXT_MAX: usize = 93;
+
+/// What a password and a stored text are answered with: a verdict, or the first cause that there is none. A number that
+/// a later library answers is [`Answer::Unknown`]; `include/pwcheck.h` tells each number.
+#[derive(Clone, Copy, Debug, PartialEq, Eq)]
+#[must_use]
+pub enum Answer {
+    Match,
+    Mismatch,
+    NotUtf8,
+    OutOfMemory,
+    PasswordTooLong,
+    McfDelimiter,
+    McfIdentifier,
+    McfField,
+    McfEncoding,
+    ShaIdentifier,
+    ShaNoFields,
+    ShaNoSalt,
+    ShaRoundsNotNumber,
+    ShaNoHash,
+    ShaTrailing,
+    ShaRounds,
+    ShaSaltTooLong,
+    ShaBase64,
+    PhcName,
+    PhcValueLong,
+    PhcValue,
+    PhcParamsLong,
+    PhcSaltShort,
+    PhcSaltLong,
+    PhcB64,
+    PhcHashLong,
+    PhcHashShort,
+    PhcTrailing,
+    NoHash,
+    Kdf,
+    OverCost,
+    /// The answer of a later library.
+    Unknown(i32),
 }
 
-const WORD_SIZE: usize = 18;
-const SHA512_TEXT_MAX: usize = 123;
-
-/// What a password and a stored text are answered with; `include/pwcheck.h` lists the numbers.
-#[derive(Clone, Copy, Debug, PartialEq, Eq)]
-pub struct Answer(pub i32);
+/// The answers by their numbers.
+pub const ANSWERS: [Answer; 31] = [
+    Answer::Match,
+    Answer::Mismatch,
+    Answer::NotUtf8,
+    Answer::OutOfMemory,
+    Answer::PasswordTooLong,
+    Answer::McfDelimiter,
+    Answer::McfIdentifier,
+    Answer::McfField,
+    Answer::McfEncoding,
+    Answer::ShaIdentifier,
+    Answer::ShaNoFields,
+    Answer::ShaNoSalt,
+    Answer::ShaRoundsNotNumber,
+    Answer::ShaNoHash,
+    Answer::ShaTrailing,
+    Answer::ShaRounds,
+    Answer::ShaSaltTooLong,
+    Answer::ShaBase64,
+    Answer::PhcName,
+    Answer::PhcValueLong,
+    Answer::PhcValue,
+    Answer::PhcParamsLong,
+    Answer::PhcSaltShort,
+    Answer::PhcSaltLong,
+    Answer::PhcB64,
+    Answer::PhcHashLong,
+    Answer::PhcHashShort,
+    Answer::PhcTrailing,
+    Answer::NoHash,
+    Answer::Kdf,
+    Answer::OverCost,
+];
 
 impl Answer {
-    pub const MATCH: Answer = Answer(0);
-    pub const MISMATCH: Answer = Answer(1);
-    pub const NOT_UTF8: Answer = Answer(2);
-    pub const WANT_OF_MEMORY: Answer = Answer(3);
+    /// The answer with this number.
+    fn of(number: i32) -> Answer {
+        let known = usize::try_from(number).ok().and_then(|at| ANSWERS.get(at));
+        known.copied().unwrap_or(Answer::Unknown(number))
+    }
 
-    /// The word, empty for a number that is no answer's.
+    /// The number.
+    pub fn number(self) -> i32 {
+        match self {
+            Answer::Unknown(number) => number,
+            known => ANSWERS.iter().position(|&a| a == known).map_or(-1, |at| at as i32),
+        }
+    }
+
+    /// The word, empty for one that the library doesn't know.
     pub fn word(self) -> String {
         let mut out = [0; WORD_SIZE];
         // The call writes at most the bytes that it is given.
-        let n = unsafe { c::pwcheck_word(self.0, out.as_mut_ptr(), out.len()) };
+        let n = unsafe { c::pwcheck_word(self.number(), out.as_mut_ptr(), out.len()) };
         String::from_utf8_lossy(&out[..n]).into_owned()
     }
 }
 
-/// Checks a password against a stored text.
-pub fn check(password: &[u8], stored: &[u8]) -> Answer {
-    // Pointers of slices are never null, and the call only reads them.
-    Answer(unsafe { c::pwcheck_check(password.as_ptr(), password.len(), stored.as_ptr(), stored.len()) })
+/// Why a call of the library isn't done.
+#[derive(Clone, Copy, Debug, PartialEq, Eq)]
+pub enum Error {
+    /// A number or a length is outside what is taken.
+    OutOfRange,
+    /// There is no memory for scrypt.
+    NoMemory,
+    /// The buffer is too short.
+    NoRoom,
+    /// The text is the encoding of no bytes.
+    NotBase64,
+    /// The status of a later library.
+    Unknown(i32),
 }
 
-/// The SHA-512-crypt text of a password of less than 2^30 bytes, with a salt of 1 to 16 characters of `[./0-9A-Za-z]`
-/// and 1,000 to 999,999,999 rounds.
-pub fn sha512_text(password: &[u8], salt: &[u8], rounds: u32) -> Option<String> {
-    let mut out = [0; SHA512_TEXT_MAX];
+impl fmt::Display for Error {
+    fn fmt(&self, f: &mut fmt::Formatter<'_>) -> fmt::Result {
+        match self {
+            Error::OutOfRange => write!(f, "a number or a length is out of range"),
+            Error::NoMemory => write!(f, "there is no memory for scrypt"),
+            Error::NoRoom => write!(f, "the buffer is too short"),
+            Error::NotBase64 => write!(f, "the text is the encoding of no bytes"),
+            Error::Unknown(number) => write!(f, "the library answers {number}"),
+        }
+    }
+}
+
+impl std::error::Error for Error {}
+
+/// The alphabets of Base64.
+#[derive(Clone, Copy, Debug, PartialEq, Eq)]
+#[repr(u32)]
+pub enum Alphabet {
+    Base64 = 0,
+    Base64Unpadded = 1,
+    Base64Url = 2,
+    Base64UrlUnpadded = 3,
+    Base64Bcrypt = 4,
+    Base64Crypt = 5,
+    Base64Pbkdf2 = 6,
+    Base64ShaCrypt = 7,
+}
+
+/// The cost of scrypt: N = 2^`ln`, blocks of 128 * `r` bytes, `p` parts.
+#[derive(Clone, Copy, Debug, PartialEq, Eq)]
+pub struct Cost {
+    pub ln: u32,
+    pub r: u32,
+    pub p: u32,
+}
+
+fn done(status: i32) -> Result<(), Error> {
+    match status {
+        0 => Ok(()),
+        -1 => Err(Error::OutOfRange),
+        -2 => Err(Error::NoMemory),
+        -3 => Err(Error::NoRoom),
+        -4 => Err(Error::NotBase64),
+        other => Err(Error::Unknown(other)),
+    }
+}
+
+/// The bytes that a call writes to the front of a buffer of `room` bytes.
+fn written(room: usize, call: impl FnOnce(&mut [u8], &mut usize) -> i32) -> Result<Vec<u8>, Error> {
+    let mut out = vec![0; room];
     let mut n = 0;
-    // The two slices are only read; `out` and `n` are this function's own.
-    let status = unsafe {
-        c::pwcheck_sha512_crypt_text(
-            password.as_ptr(),
-            password.len(),
-            salt.as_ptr(),
-            salt.len(),
-            rounds,
-            out.as_mut_ptr(),
-            out.len(),
-            &mut n,
+    done(call(&mut out, &mut n))?;
+    out.truncate(n);
+    Ok(out)
+}
+
+fn text(bytes: Vec<u8>) -> String {
+    String::from_utf8_lossy(&bytes).into_owned()
+}
+
+// In each block below the pointers are those of slices, which are never null; the call reads the ones it is given as
+// `*const`, and writes at most the bytes of the others, which are this crate's own or lent to it alone.
+
+/// Checks a password against a stored text, SHA-crypt or a PHC record of scrypt.
+pub fn check(password: &[u8], stored: &[u8]) -> Answer {
+    Answer::of(unsafe { c::pwcheck_check(password.as_ptr(), password.len(), stored.as_ptr(), stored.len()) })
+}
+
+/// Checks as [`check`], but answers [`Answer::OverCost`], and computes nothing, for a valid text of more than
+/// `max_rounds` rounds of SHA-crypt, or of scrypt that mixes more than `max_bytes` bytes (128 r p 2^ln).
+pub fn check_limited(password: &[u8], stored: &[u8], max_rounds: u32, max_bytes: u64) -> Answer {
+    let (p, s) = (password, stored);
+    Answer::of(unsafe { c::pwcheck_check_limited(p.as_ptr(), p.len(), s.as_ptr(), s.len(), max_rounds, max_bytes) })
+}
+
+/// Checks a password against a text of SHA-256-crypt alone.
+pub fn sha256_check(password: &[u8], stored: &[u8]) -> Answer {
+    Answer::of(unsafe { c::pwcheck_sha256_check(password.as_ptr(), password.len(), stored.as_ptr(), stored.len()) })
+}
+
+/// Checks a password against a text of SHA-512-crypt alone.
+pub fn sha512_check(password: &[u8], stored: &[u8]) -> Answer {
+    Answer::of(unsafe { c::pwcheck_sha512_check(password.as_ptr(), password.len(), stored.as_ptr(), stored.len()) })
+}
+
+/// The version of the library that is linked.
+pub fn version() -> String {
+    let mut out = [0; 32];
+    let n = unsafe { c::pwcheck_version(out.as_mut_ptr(), out.len()) };
+    String::from_utf8_lossy(&out[..n.min(out.len())]).into_owned()
+}
+
+/// Writes the key of scrypt (RFC 7914) to `out`, of 1 to 64 bytes.
+pub fn scrypt(password: &[u8], salt: &[u8], cost: Cost, out: &mut [u8]) -> Result<(), Error> {
+    let (p, s) = (password, salt);
+    done(unsafe {
+        let out_len = out.len();
+        c::pwcheck_scrypt(
+            p.as_ptr(), p.len(), s.as_ptr(), s.len(), cost.ln, cost.r, cost.p, out.as_mut_ptr(), out_len,
         )
+    })
+}
+
+/// The PHC text of a password of at most 4,096 bytes, for a salt that the caller draws at random.
+pub fn scrypt_text(password: &str, salt: &[u8; 16], cost: Cost) -> Result<String, Error> {
+    let (p, s) = (password.as_bytes(), salt);
+    written(SCRYPT_TEXT_MAX, |out, n| unsafe {
+        c::pwcheck_scrypt_text(
+            p.as_ptr(), p.len(), s.as_ptr(), s.len(), cost.ln, cost.r, cost.p, out.as_mut_ptr(), out.len(), n,
+        )
+    })
+    .map(text)
+}
+
+macro_rules! sha_crypt {
+    ($name:literal, $digest:ident, $field:ident, $text:ident, $size:literal, $field_size:literal, $text_max:ident,
+     $c_digest:ident, $c_field:ident, $c_text:ident) => {
+        #[doc = concat!("The digest of ", $name, ". The first 16 bytes of the salt count.")]
+        pub fn $digest(password: &[u8], salt: &[u8], rounds: u32) -> Result<[u8; $size], Error> {
+            let (p, s, mut out) = (password, salt, [0; $size]);
+            done(unsafe {
+                c::$c_digest(p.as_ptr(), p.len(), s.as_ptr(), s.len(), rounds, out.as_mut_ptr(), out.len())
+            })?;
+            Ok(out)
+        }
+
+        #[doc = concat!("The hash field of the digest of ", $name, ".")]
+        pub fn $field(password: &[u8], salt: &[u8], rounds: u32) -> Result<String, Error> {
+            let (p, s, mut out) = (password, salt, [0; $field_size]);
+            done(unsafe {
+                c::$c_field(p.as_ptr(), p.len(), s.as_ptr(), s.len(), rounds, out.as_mut_ptr(), out.len())
+            })?;
+            Ok(String::from_utf8_lossy(&out).into_owned())
+        }
+
+        #[doc = concat!("The ", $name, " text of a password of at most 4,096 bytes, for a salt of 1 to 16 characters ",
+                        "of `[./0-9A-Za-z]` that the caller draws at random, and 1,000 to 999,999,999 rounds.")]
+        pub fn $text(password: &str, salt: &[u8], rounds: u32) -> Result<String, Error> {
+            let (p, s) = (password.as_bytes(), salt);
+            written($text_max, |out, n| unsafe {
+                c::$c_text(p.as_ptr(), p.len(), s.as_ptr(), s.len(), rounds, out.as_mut_ptr(), out.len(), n)
+            })
+            .map(text)
+        }
     };
-    (status == 0).then(|| String::from_utf8_lossy(&out[..n]).into_owned())
+}
+
+sha_crypt!("SHA-256-crypt", sha256_digest, sha256_field, sha256_text, 32, 43, SHA256_TEXT_MAX,
+           pwcheck_sha256_crypt, pwcheck_sha256_crypt_b64, pwcheck_sha256_crypt_text);
+sha_crypt!("SHA-512-crypt", sha512_digest, sha512_field, sha512_text, 64, 86, SHA512_TEXT_MAX,
+           pwcheck_sha512_crypt, pwcheck_sha512_crypt_b64, pwcheck_sha512_crypt_text);
+
+/// The encoding of bytes in an alphabet.
+pub fn base64_encode(alphabet: Alphabet, data: &[u8]) -> Result<String, Error> {
+    let alphabet = alphabet as u32;
+    let room = unsafe { c::pwcheck_base64_encoded_len(alphabet, data.len()) };
+    written(room, |out, n| unsafe {
+        c::pwcheck_base64_encode(alphabet, data.as_ptr(), data.len(), out.as_mut_ptr(), out.len(), n)
+    })
+    .map(text)
+}
+
+/// The bytes whose one encoding in an alphabet is this text.
+pub fn base64_decode(alphabet: Alphabet, text: &[u8]) -> Result<Vec<u8>, Error> {
+    let alphabet = alphabet as u32;
+    let room = unsafe { c::pwcheck_base64_decoded_len(alphabet, text.as_ptr(), text.len()) };
+    written(room, |out, n| unsafe {
+        c::pwcheck_base64_decode(alphabet, text.as_ptr(), text.len(), out.as_mut_ptr(), out.len(), n)
+    })
 }
 
 /// Whether two lists of bytes are the same, by steps that depend on their lengths alone.
@@ -73,21 +304,4 @@ pub fn same_bytes(a: &[u8], b: &[u8]) -> bool {
 }
 
 #[cfg(test)]
-mod tests {
-    use super::*;
-
-    // libxcrypt, `crypt("", "$6$rounds=1000$x$")`.
-    const TEXT: &str = concat!(
-        "$6$rounds=1000$x$JUgHESfT/mKR2X.Qz/PrkEgBINN.wbH/GsJhhFRcgrb0",
-        "a4MjVYFixxXtKicccBbv9PSG/n1kVdpVqZiR7Brv1."
-    );
-
-    #[test]
-    fn made_and_checked() {
-        assert_eq!(sha512_text(b"", b"x", 1_000).as_deref(), Some(TEXT));
-        assert_eq!(sha512_text(b"", b"$", 1_000), None);
-        assert_eq!(check(b"", TEXT.as_bytes()), Answer::MATCH);
-        assert_eq!(check(b"a", TEXT.as_bytes()).word(), "mismatch");
-        assert!(same_bytes(b"ab", b"ab") && !same_bytes(b"ab", b"ac"));
-    }
-}
+mod tests;

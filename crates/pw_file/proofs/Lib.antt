@@ -1,5 +1,5 @@
 pub mod Cuts
-pub mod Fresh
+pub mod UpgradedTexts
 pub mod TextBytes
 pub mod Content
 pub mod Calls

@@ -24,7 +24,7 @@ use Rattle.stored_check.specs.Verdict.{may_lack_memory, same_text, text_answer, 
 use Rattle.stored_check.specs.declared.error.StoredError.{StoredError}
 use Rattle.stored_check.specs.declared.error.StoredError.TheVariants as stored
 use Rattle.scrypt_plain.specs.Profile.{accepted, key, needs_memory}
-use Rattle.pw_file.specs.Verdicts.{fresh, fresh_key, verdict_on}
+use Rattle.pw_file.specs.Verdicts.{upgraded_text, upgraded_key, verdict_on}
 use Rattle.pieces.specs.Faults.{first_fault, unless}
 use Rattle.pw_file.specs.Answers.{IsAnswer, bad_text, check_answer, check_may_lack, checked, has_room, set_fault}
 use Rattle.pw_file.specs.Answers.{upgrade_answer, is_match, upgrade_may_lack}
@@ -217,8 +217,8 @@ key_fits bytes n small size room (inr short) = omega (arith, encoded_length byte
 pub fresh_text : (password salt salt_is bytes a b c d : List ℕ) → decoding salt ≡ Some salt_is
     → bytes ≡ scrypt password salt_is (2 ^ 14) 8 1 32
     → a ≡ codes "$scrypt$ln=14,r=8,p=1$" → b ≡ a ++ salt → c ≡ b ++ codes "$" → d ≡ c ++ encoding bytes
-    → d ≡ fresh password salt
-unfolding fresh
+    → d ≡ upgraded_text password salt
+unfolding upgraded_text
 fresh_text password salt salt_is bytes a b c d decodes key_is first second third fourth =
     let whole : d ≡ ((codes "$scrypt$ln=14,r=8,p=1$" ++ salt) ++ codes "$") ++ encoding bytes =
     rw (fourth, third, second, first) refl in
@@ -226,7 +226,7 @@ fresh_text password salt salt_is bytes a b c d decodes key_is first second third
     ≡ codes "$scrypt$ln=14,r=8,p=1$" ++ (salt ++ 36 ∷ encoding bytes) =
     append_assoc (codes "$scrypt$ln=14,r=8,p=1$" ++ salt) (codes "$") (encoding bytes)
     ∙ append_assoc (codes "$scrypt$ln=14,r=8,p=1$") salt (codes "$" ++ encoding bytes) in
-    let bytes_are : bytes ≡ fresh_key password salt =
+    let bytes_are : bytes ≡ upgraded_key password salt =
     key_is ∙ ap (λ (o : Option (List ℕ)). scrypt password (unwrap_or o []) (2 ^ 14) 8 1 32) (sym decodes) in
     whole ∙ grouped ∙ ap (λ (k : List ℕ). codes "$scrypt$ln=14,r=8,p=1$" ++ (salt ++ 36 ∷ encoding k)) bytes_are
 

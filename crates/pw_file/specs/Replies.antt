@@ -27,20 +27,24 @@ error_word (refused.BadSalt fault) = BadSalt
 error_word (refused.Check fault) = Invalid
 error_word refused.OutOfMemory = Invalid
 
+-- the word of the answer of `set`
 abbrev pub set_word : Result (Unit {0}) FileError → Word
 set_word (Ok done) = Done
 set_word (Err e) = error_word e
 
+-- the word of the answer of `check`
 abbrev pub check_word : Result Bool FileError → Word
 check_word (Ok true) = Match
 check_word (Ok false) = Mismatch
 check_word (Err e) = error_word e
 
+-- the word of the answer of `upgrade`
 abbrev pub upgrade_word : Result Bool FileError → Word
 upgrade_word (Ok true) = Upgraded
 upgrade_word (Ok false) = Mismatch
 upgrade_word (Err e) = error_word e
 
+-- the text of a word
 abbrev pub word_text : Word → List ℕ
 word_text TooLong = codes "toolong"
 word_text BadCommand = codes "bad-command"
@@ -72,13 +76,14 @@ rows h = map (λ user. (user, unwrap_or (text h user) [])) (users h)
 
 -- the reply to a command, by the text that each user has, by how many users have one, and by the rows of a listing
 abbrev pub reply_by : (List ℕ → Option (List ℕ)) → ℕ → Rows → Option Command → Reply
-reply_by had users listed None = Says BadCommand
-reply_by had users listed (Some (of.Set user new)) = Says (set_word (set_answer (had user) users new))
-reply_by had users listed (Some (of.Check user password)) = Says (check_word (check_answer (had user) password))
-reply_by had users listed (Some (of.Upgrade user salt password)) =
-    Says (upgrade_word (upgrade_answer (had user) password salt))
-reply_by had users listed (Some of.Listing) = Lists listed
+reply_by text_of count listed None = Says BadCommand
+reply_by text_of count listed (Some (of.Set user new)) = Says (set_word (set_answer (text_of user) count new))
+reply_by text_of count listed (Some (of.Check user password)) = Says (check_word (check_answer (text_of user) password))
+reply_by text_of count listed (Some (of.Upgrade user salt password)) =
+    Says (upgrade_word (upgrade_answer (text_of user) password salt))
+reply_by text_of count listed (Some of.Listing) = Lists listed
 
+-- the reply to a command, over the lines before it
 abbrev pub reply_to : History → Option Command → Reply
 reply_to h c = reply_by (text h) (length (users h)) (rows h) c
 
@@ -98,6 +103,7 @@ history lines = fold answered [] lines
 abbrev pub file_output : List ℕ → List ℕ
 file_output input = flat_map (λ pair. reply_text pair.1) (history (lines input))
 
+-- the words that are good
 abbrev pub is_good_word : Word → Bool
 is_good_word Done = true
 is_good_word Match = true
@@ -113,12 +119,13 @@ is_good (Lists rows) = true
 
 -- a text that is taken, a verdict that needs memory, or an upgrade of a text that matches or whose verdict needs memory
 abbrev pub is_costly_by : (List ℕ → Option (List ℕ)) → ℕ → Option Command → Bool
-is_costly_by had users None = false
-is_costly_by had users (Some (of.Set user new)) = is_ok (set_answer (had user) users new)
-is_costly_by had users (Some (of.Check user password)) = check_may_lack (had user) password
-is_costly_by had users (Some (of.Upgrade user salt password)) = upgrade_may_lack (had user) password salt
-is_costly_by had users (Some of.Listing) = false
+is_costly_by text_of count None = false
+is_costly_by text_of count (Some (of.Set user new)) = is_ok (set_answer (text_of user) count new)
+is_costly_by text_of count (Some (of.Check user password)) = check_may_lack (text_of user) password
+is_costly_by text_of count (Some (of.Upgrade user salt password)) = upgrade_may_lack (text_of user) password salt
+is_costly_by text_of count (Some of.Listing) = false
 
+-- memory may be wanting for a command
 abbrev pub command_is_costly : History → Option Command → Bool
 command_is_costly h c = is_costly_by (text h) (length (users h)) c
 

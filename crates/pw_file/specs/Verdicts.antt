@@ -15,9 +15,9 @@ abbrev pub may_lack : List ℕ → List ℕ → Bool
 may_lack password stored = may_lack_memory accepted needs_memory key password stored
 
 -- the key of an upgraded text, at N = 2 ^ 14, r = 8 and p = 1 (RFC 7914, section 2)
-abbrev pub fresh_key : List ℕ → List ℕ → List ℕ
-fresh_key password salt = scrypt password (unwrap_or (decoding salt) []) (2 ^ 14) 8 1 32
+abbrev pub upgraded_key : List ℕ → List ℕ → List ℕ
+upgraded_key password salt = scrypt password (unwrap_or (decoding salt) []) (2 ^ 14) 8 1 32
 
 -- the text that an upgrade makes of a password and the text of a salt
-unfoldable pub fresh : List ℕ → List ℕ → List ℕ
-fresh password salt = codes "$scrypt$ln=14,r=8,p=1$" ++ (salt ++ 36 ∷ encoding (fresh_key password salt))
+unfoldable pub upgraded_text : List ℕ → List ℕ → List ℕ
+upgraded_text password salt = codes "$scrypt$ln=14,r=8,p=1$" ++ (salt ++ 36 ∷ encoding (upgraded_key password salt))

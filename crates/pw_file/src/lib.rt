@@ -5,9 +5,9 @@
 mod answer;
 mod command;
 mod error;
+mod faults;
 pub mod laws;
 mod listing;
-mod names;
 mod reply;
 mod responder;
 mod run;

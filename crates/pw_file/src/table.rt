@@ -7,12 +7,12 @@ ghost use Rattle.pw_file.specs.Answers.{IsAnswer, check_answer, check_may_lack, 
 ghost use Rattle.pw_file.specs.Calls.{after_check, after_set, after_upgrade, rows_after_set, rows_after_upgrade, with_text};
 ghost use Rattle.pw_file.specs.History.{History, IsContentOf, text_in};
 ghost use Rattle.pw_file.specs.Replies.{row_line};
-ghost use Rattle.pw_file.specs.Verdicts.{fresh};
+ghost use Rattle.pw_file.specs.Verdicts.{upgraded_text};
 ghost use Rattle.pw_file.specs.Limits.{text_max, users_max};
 ghost use Rattle.stored_check.specs.Limits.{password_max};
 
 use crate::FileError;
-use crate::names::checked;
+use crate::faults::checked;
 use base64ct::{Base64Unpadded, Encoding};
 use indexmap::IndexMap;
 use mcf::PasswordHashRef;
@@ -68,14 +68,14 @@ fn encoded<'a>(key: &[u8], room: &'a mut [u8]) -> &'a str
 }
 
 // The text that an upgrade makes.
-fn fresh(
+fn upgraded_text(
     alloc: Global,
     kdf: &ScryptKept,
     password: &str,
     salt: &SaltString,
 ) -> Result<String, AllocError>
     requires short { length password.now ≤ password_max }
-    ensures text { IfOk result (λ text. string_bytes text ≡ fresh password.now salt.now) }
+    ensures text { IfOk result (λ text. string_bytes text ≡ upgraded_text password.now salt.now) }
     ensures length { IfOk result (λ text. length (string_bytes text) ≤ text_max) }
 {
     let mut key = [0; 32];
@@ -238,6 +238,7 @@ impl Table {
         match self.set_fault(user, text) {
             Some(e) => Err(e),
             None => {
+                // That the name is UTF-8 bytes of a name, which the prover has from this call.
                 let _name = user.as_str();
                 self.put_copy(user, text)
             }
@@ -279,6 +280,7 @@ impl Table {
         };
         match self.check(user, password) {
             Ok(true) => {
+                // That the name is UTF-8 bytes of a name, which the prover has from this call.
                 let _name = user.as_str();
                 self.renew(user, password, &salt)
             }
@@ -294,7 +296,7 @@ impl Table {
         ensures answer { (result ≡ Ok true) ⊎ (result ≡ Err FileError.OutOfMemory) }
         ensures rows { self.new ≡ rows_after_upgrade self.old user password.now salt.now result }
     {
-        let Ok(text) = fresh(self.alloc, &self.kdf, password, salt) else {
+        let Ok(text) = upgraded_text(self.alloc, &self.kdf, password, salt) else {
             return Err(FileError::OutOfMemory);
         };
         match self.put(user, text) {

@@ -6,13 +6,11 @@ use phc::Ident;
 use stored_check::{McfFault, StoredError};
 
 // Lines, and their replies over one table.
-const OVER_A_DIGEST: [(&str, Word); 5] = [
+const OVER_A_DIGEST: [(&str, Word); 3] = [
     (
         "set\tann\t$5$saltstring$5B8vYYiY.CVt1RlTTf8KbXBH3hsxY/GNooZaBBGWEc5",
         Word::Done,
     ),
-    ("check\tann\tHello world!", Word::Match),
-    ("upgrade\tann\tabcdabcdabc\tHello world!", Word::Upgraded),
     ("check\tann\tHello world!", Word::Match),
     ("check\tbob\tx", Word::NoUser),
 ];
@@ -37,7 +35,11 @@ fn lines_over_a_digest(rt: HostRuntime) {
             "{line:?}"
         );
     }
-    let Some(text) = table.get(Ident::new_unwrap("ann")) else {
+    let ann = Ident::new_unwrap("ann");
+    assert!(rt; table.upgrade(ann, "Hello world", "abcdabcdabc") == Ok(false));
+    assert!(rt; table.upgrade(ann, "Hello world!", "abcdabcdabc") == Ok(true));
+    assert!(rt; table.check(ann, "Hello world!") == Ok(true));
+    let Some(text) = table.get(ann) else {
         panic!(rt; "ann has a text")
     };
     assert!(rt; text.starts_with("$scrypt$ln=14,r=8,p=1$abcdabcdabc$"));
@@ -66,20 +68,23 @@ fn lines_without_a_digest(rt: HostRuntime) {
     assert_eq!(rt; Word::Invalid.as_str(), "invalid");
 }
 
-// Commands that leave three users with their texts.
-const KEPT: [&str; 5] = [
-    "set\tbob\t$1$a$b",
-    "set\tann\t$5$saltstring$5B8vYYiY.CVt1RlTTf8KbXBH3hsxY/GNooZaBBGWEc5",
-    "set\tbob\t$6",
-    "set\tcleo\t",
-    "set\tdora\t$scrypt$ln=14,r=8,p=1$abcdabcdabc$A",
+// Commands that leave three users with their texts, and the replies.
+const KEPT: [(&str, Word); 5] = [
+    ("set\tbob\t$1$a$b", Word::Done),
+    (
+        "set\tann\t$5$saltstring$5B8vYYiY.CVt1RlTTf8KbXBH3hsxY/GNooZaBBGWEc5",
+        Word::Done,
+    ),
+    ("set\tbob\t$6", Word::Done),
+    ("set\tcleo\t", Word::BadText),
+    ("set\tdora\t$scrypt$ln=14,r=8,p=1$abcdabcdabc$A", Word::Done),
 ];
 
 #[test]
 fn restart(rt: HostRuntime) {
     let mut table = Table::new(rt.alloc());
-    for line in KEPT {
-        let _reply = answer_line(&mut table, line.as_bytes());
+    for (line, word) in KEPT {
+        assert!(rt; answer_line(&mut table, line.as_bytes()) == Some(LineReply::Word(word)));
     }
     assert_eq!(rt; table.len(), 3);
     // Each line of the listing is a command of another table.
@@ -128,7 +133,7 @@ fn refusals(rt: HostRuntime) {
 #[test]
 fn laws_are_calls(_rt: HostRuntime) {
     laws::own_pairs();
-    laws::fresh_matches();
+    laws::upgraded_matches();
     laws::listed_again();
 }
 

@@ -1,2 +1,6 @@
 pub mod EncodedLens
 pub mod Salts
+pub mod Matches
+pub mod MadeTexts
+pub mod StoredCosts
+pub mod ScryptTexts

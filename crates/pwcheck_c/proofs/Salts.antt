@@ -1,7 +1,8 @@
--- Salts of crypt(5) have neither `$` nor `=`.
+-- What SHA-crypt texts are made of; salts have neither `$` nor `=`.
 use Rattle.std.proofs.Common.{◌≡◌, ℕ, ◌≤◌, Bool, true, false, List, length, refl, sym, subst, ap, ◌∙◌, arith}
 use Rattle.std.specs.Prelude.{◌==◌, ◌&&◌, not, nat_le, ℤ, Result, Ok, Err}
 use Rattle.std.specs.List.{list_all}
+use Rattle.std.specs.Str.{is_utf8}
 use Rattle.std.proofs.lemmas.Bool.{and_parts, eqb-true, false≢true}
 use Rattle.std.proofs.lemmas.Bool.Decides.{nat_tests}
 use Rattle.mcf.specs.Grammar.{is_field_byte}
@@ -9,7 +10,7 @@ use Rattle.phc.proofs.Characters.{all_weaker}
 use Rattle.sha_crypt.proofs.MadeTexts.{IsSalt, is_not}
 use Rattle.sha_crypt.specs.declared.errors.CryptError.{CryptError}
 use Rattle.stored_check.specs.declared.error.StoredError.{StoredError}
-use Rattle.pwcheck_c.specs.Inputs.{is_salt, is_salt_character, is_short, rounds_taken, text_takes}
+use Rattle.pwcheck_c.specs.Inputs.{is_password, is_salt, is_salt_character, rounds_taken, text_takes}
 use Rattle.pwcheck_c.specs.Written.{IsPut}
 
 -- what is no character of a salt is another one
@@ -44,9 +45,35 @@ salt_for_text salt is =
 pub rounds_in_range : (password : List ℕ) (rounds : ℕ) → rounds_taken password rounds ≡ true
     → (1000 ≤ rounds) × (rounds ≤ 999999999)
 rounds_in_range password rounds is =
-    let parts = and_parts (is_short password && nat_le 1000 rounds) (nat_le rounds 999999999) is in
-    let first = and_parts (is_short password) (nat_le 1000 rounds) parts.0 in
+    let parts = and_parts (is_password password && nat_le 1000 rounds) (nat_le rounds 999999999) is in
+    let first = and_parts (is_password password) (nat_le 1000 rounds) parts.0 in
     (grind (arith, nat_tests, first.1), grind (arith, nat_tests, parts.1))
+
+-- what a text is made of
+pub record IsTaken (password salt : List ℕ) (rounds : ℕ) : Type 0 where
+  pub least : 1000 ≤ rounds
+  pub most : rounds ≤ 999999999
+  pub short : is_password password ≡ true
+  pub fits : length password ≤ 4096
+  pub text : is_utf8 password ≡ true
+  pub good : is_salt salt ≡ true
+
+pub taken_parts : (password salt : List ℕ) (rounds : ℕ) → text_takes password salt rounds ≡ true
+    → IsTaken password salt rounds
+taken_parts password salt rounds is =
+    let parts = and_parts (rounds_taken password rounds && is_utf8 password) (is_salt salt) is in
+    let first = and_parts (rounds_taken password rounds) (is_utf8 password) parts.0 in
+    let range = rounds_in_range password rounds first.0 in
+    let some = and_parts (is_password password && nat_le 1000 rounds) (nat_le rounds 999999999) first.0 in
+    let one = and_parts (is_password password) (nat_le 1000 rounds) some.0 in
+    record {
+      least = range.0;
+      most = range.1;
+      short = one.0;
+      fits = grind (arith, nat_tests, one.0);
+      text = first.1;
+      good = parts.1;
+    }
 
 -- parameters that are made with these rounds have them
 rounds_once : (m n : ℕ) (r : Result ℕ CryptError) → r ≡ Ok m → r ≡ Ok n → m ≡ n
@@ -60,8 +87,8 @@ pub text_put : (text_of : List ℕ → List ℕ → ℕ → List ℕ) (password 
     → text ≡ text_of password salt params → IsPut text old new n_old n_new status
     → IsPut (text_of password salt rounds) old new n_old n_new status
 text_put text_of password salt text old new rounds params n_old n_new status made taken inside is text_is put =
-    let range = rounds_in_range password rounds (and_parts (rounds_taken password rounds) (is_salt salt) taken).0 in
-    let same : params ≡ rounds = rounds_once params rounds made is (inside range.0 range.1) in
+    let parts = taken_parts password salt rounds taken in
+    let same : params ≡ rounds = rounds_once params rounds made is (inside parts.least parts.most) in
     subst (λ (t : List ℕ). IsPut t old new n_old n_new status)
     (text_is ∙ ap (λ (n : ℕ). text_of password salt n) same) put
 

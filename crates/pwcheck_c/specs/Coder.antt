@@ -21,6 +21,7 @@ alphabets =
     ∷ base64_sha_crypt
     ∷ []
 
+-- the alphabet of a number, if it is one's
 abbrev pub alphabet_of : ℕ → Option Alphabet
 alphabet_of n = slice_get alphabets n
 

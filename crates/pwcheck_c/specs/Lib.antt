@@ -1,7 +1,11 @@
 pub mod Numbers
 pub mod Words
 pub mod Verdicts
+pub mod Costs
 pub mod Coder
 pub mod Inputs
+pub mod Texts
 pub mod Statuses
 pub mod Written
+pub mod Version
+pub mod Laws

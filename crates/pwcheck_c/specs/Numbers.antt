@@ -8,9 +8,10 @@ use Rattle.stored_check.specs.declared.error.ShaFault.TheVariants as of_sha
 use Rattle.stored_check.specs.declared.error.ShaFormat.TheVariants as of_format
 use Rattle.stored_check.specs.declared.error.StoredError.TheVariants as of_stored
 use Rattle.pwcheck_c.specs.declared.answer.Answer.{Answer}
-use Rattle.pwcheck_c.specs.declared.answer.Answer.TheVariants.{NotText, OtherIdentifier, Checked}
+use Rattle.pwcheck_c.specs.declared.answer.Answer.TheVariants.{NotText, OtherIdentifier, OverCost, Checked}
 
--- the verdicts, the causes of this library's own, and the others in the order in which they are found
+-- the verdicts, the causes of this library's own, and the others in the order in which they are found; what came later
+-- goes last
 abbrev pub answers : List Answer
 answers =
     Checked (Ok true)
@@ -43,6 +44,7 @@ answers =
     ∷ Checked (Err (of_stored.Phc of_phc.TrailingData))
     ∷ Checked (Err of_stored.NoHash)
     ∷ Checked (Err of_stored.Kdf)
+    ∷ OverCost
     ∷ []
 
 -- the answer of a number, if it is one's

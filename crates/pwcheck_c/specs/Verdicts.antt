@@ -6,7 +6,8 @@ use Rattle.sha_crypt.specs.declared.errors.CheckError.{CheckError}
 use Rattle.sha_crypt.specs.declared.errors.CheckError.TheVariants.{InvalidFormat}
 use Rattle.sha_crypt.specs.declared.errors.FormatFault.TheVariants.{NoDollar, WrongId}
 use Rattle.stored_check.specs.Verdict.{may_lack_memory, sha_verdict, verdict}
-use Rattle.stored_check.specs.declared.error.StoredError.TheVariants.{OutOfMemory}
+use Rattle.stored_check.specs.declared.error.StoredError.TheVariants.{OutOfMemory, PasswordTooLong}
+use Rattle.pwcheck_c.specs.Inputs.{is_password}
 use Rattle.pwcheck_c.specs.declared.answer.Answer.{Answer}
 use Rattle.pwcheck_c.specs.declared.answer.Answer.TheVariants.{NotText, OtherIdentifier, Checked}
 
@@ -37,6 +38,12 @@ of_family (Err (InvalidFormat NoDollar)) = OtherIdentifier
 of_family (Err (InvalidFormat (WrongId family))) = OtherIdentifier
 of_family checked = Checked (sha_verdict checked)
 
--- the answer of this check
+-- the answer of a family's check to two texts, for a password of at most 4,096 bytes
+abbrev pub short_answer : (List ℕ → List ℕ → Result (Unit {0}) CheckError) → List ℕ → List ℕ → Answer
+short_answer check password stored =
+    if is_password password then of_family (check password stored) else Checked (Err PasswordTooLong)
+
+-- the answer of a family's check, whose causes stand in the order of `answer`
 unfoldable pub family_answer : (List ℕ → List ℕ → Result (Unit {0}) CheckError) → List ℕ → List ℕ → Answer
-family_answer check password stored = if are_text password stored then of_family (check password stored) else NotText
+family_answer check password stored =
+    if are_text password stored then short_answer check password stored else NotText

@@ -15,13 +15,15 @@ pub enum Answer {
     NotText,
     /// The text that was to be of one family of SHA-crypt doesn't begin with its identifier.
     OtherIdentifier,
+    /// The stored text is valid, and its cost is above the caller's bound.
+    OverCost,
     /// What `check_stored` answers.
     Checked(Result<bool, StoredError>),
 }
 
 /// The answers by their numbers: the verdicts, the causes of this library's own, and the others in the order in which
-/// they are found.
-pub const ANSWERS: [Answer; 30] = [
+/// they are found; what came later goes last.
+pub const ANSWERS: [Answer; 31] = [
     Answer::Checked(Ok(true)),
     Answer::Checked(Ok(false)),
     Answer::NotText,
@@ -52,6 +54,7 @@ pub const ANSWERS: [Answer; 30] = [
     Answer::Checked(Err(StoredError::Phc(PhcFault::TrailingData))),
     Answer::Checked(Err(StoredError::NoHash)),
     Answer::Checked(Err(StoredError::Kdf)),
+    Answer::OverCost,
 ];
 
 // The number of a fault of the modular crypt format.
@@ -124,6 +127,7 @@ impl Answer {
             Answer::Checked(Err(StoredError::Phc(fault))) => phc_number(fault),
             Answer::Checked(Err(StoredError::NoHash)) => 28,
             Answer::Checked(Err(StoredError::Kdf)) => 29,
+            Answer::OverCost => 30,
         }
     }
 
@@ -144,6 +148,7 @@ impl Answer {
         match self {
             Answer::NotText => "not-utf8",
             Answer::OtherIdentifier => "sha-identifier",
+            Answer::OverCost => "over-cost",
             Answer::Checked(Err(StoredError::OutOfMemory)) => "no-memory",
             Answer::Checked(verdict) => word(&verdict),
         }

@@ -4,8 +4,10 @@ ghost use Rattle.std.specs.Prelude.{◌≡◌, MatchOption, IsSomeAnd, true, fal
 ghost use Rattle.std.specs.Str.{is_utf8};
 ghost use Rattle.pwcheck_c.specs.Numbers.{answer_of};
 ghost use Rattle.pwcheck_c.specs.Verdicts.{IsAnswer};
+ghost use Rattle.pwcheck_c.specs.Costs.{IsLimitedAnswer};
 
 use crate::answer::Answer;
+use crate::cost::{Bounds, over_cost};
 use scrypt_plain::ScryptPlain;
 use std::alloc::Global;
 use stored_check::check_stored;
@@ -40,4 +42,34 @@ pub extern "C" fn pwcheck_check(alloc: Global, password: &[u8], stored: &[u8]) -
     ensures answer { IsSomeAnd (answer_of result) (λ a. IsAnswer password.now stored.now a) }
 {
     answer_to(alloc, password, stored).number()
+}
+
+// The answer to two texts within bounds on the cost.
+fn limited_answer_to(alloc: Global, password: &[u8], stored: &[u8], bounds: Bounds) -> Answer
+    ensures answer { IsLimitedAnswer bounds.rounds bounds.bytes password.now stored.now result }
+{
+    if over_cost(password, stored, bounds) {
+        return Answer::OverCost;
+    }
+    answer_to(alloc, password, stored)
+}
+
+/// Checks as `pwcheck_check`, but for a valid stored text of more than `max_rounds` rounds of SHA-crypt, or more than
+/// `max_bytes` bytes that scrypt mixes: no digest or key is computed for it, and the answer is a number of its own.
+#[unsafe(no_mangle)]
+pub extern "C" fn pwcheck_check_limited(
+    alloc: Global,
+    password: &[u8],
+    stored: &[u8],
+    max_rounds: u32,
+    max_bytes: u64,
+) -> i32
+    ensures answer { IsSomeAnd (answer_of result)
+        (λ a. IsLimitedAnswer max_rounds max_bytes password.now stored.now a) }
+{
+    let bounds = Bounds {
+        rounds: max_rounds,
+        bytes: max_bytes,
+    };
+    limited_answer_to(alloc, password, stored, bounds).number()
 }

@@ -9,10 +9,11 @@ ghost use Rattle.pwcheck_c.specs.Inputs.{sha_takes};
 ghost use Rattle.sha_crypt.specs.Limits.{pw_size_sha256, pw_size_sha512};
 ghost use Rattle.pwcheck_c.specs.Statuses.{status_done, status_out_of_range};
 
-use crate::statuses::{DONE, LONG, OUT_OF_RANGE};
+use crate::statuses::{DONE, OUT_OF_RANGE};
 use sha_crypt::{
     Sha256Params, Sha512Params, encode_sha256, encode_sha512, sha256_crypt, sha512_crypt,
 };
+use stored_check::PASSWORD_MAX;
 
 /// Writes the SHA-256-crypt digest of 32 bytes.
 #[unsafe(no_mangle)]
@@ -27,7 +28,7 @@ pub extern "C" fn pwcheck_sha256_crypt(
     ensures refused { sha_takes 32 password.now rounds (length out.old) ≡ false
         → (result ≡ status_out_of_range) × (out.new ≡ out.old) }
 {
-    if password.len() >= LONG || out.len() != 32 {
+    if password.len() > PASSWORD_MAX || out.len() != 32 {
         return OUT_OF_RANGE;
     }
     match Sha256Params::new(rounds as usize) {
@@ -52,7 +53,7 @@ pub extern "C" fn pwcheck_sha512_crypt(
     ensures refused { sha_takes 64 password.now rounds (length out.old) ≡ false
         → (result ≡ status_out_of_range) × (out.new ≡ out.old) }
 {
-    if password.len() >= LONG || out.len() != 64 {
+    if password.len() > PASSWORD_MAX || out.len() != 64 {
         return OUT_OF_RANGE;
     }
     match Sha512Params::new(rounds as usize) {
@@ -77,7 +78,7 @@ pub extern "C" fn pwcheck_sha256_crypt_b64(
     ensures refused { sha_takes pw_size_sha256 password.now rounds (length out.old) ≡ false
         → (result ≡ status_out_of_range) × (out.new ≡ out.old) }
 {
-    if password.len() >= LONG || out.len() != 43 {
+    if password.len() > PASSWORD_MAX || out.len() != 43 {
         return OUT_OF_RANGE;
     }
     match Sha256Params::new(rounds as usize) {
@@ -103,7 +104,7 @@ pub extern "C" fn pwcheck_sha512_crypt_b64(
     ensures refused { sha_takes pw_size_sha512 password.now rounds (length out.old) ≡ false
         → (result ≡ status_out_of_range) × (out.new ≡ out.old) }
 {
-    if password.len() >= LONG || out.len() != 86 {
+    if password.len() > PASSWORD_MAX || out.len() != 86 {
         return OUT_OF_RANGE;
     }
     match Sha512Params::new(rounds as usize) {

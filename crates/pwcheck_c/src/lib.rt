@@ -1,5 +1,6 @@
-//! What C programs call: the verdict on a password and a stored text and its word, the digests and keys, the texts
-//! and hash fields made of them, Base64, and a comparison of secret bytes. `include/pwcheck.h` declares it.
+//! What C programs call: the verdict on a password and a stored text, within a bound on its cost too, and its word; the
+//! digests and keys, the texts and hash fields made of them; Base64; a comparison of secret bytes; and the version.
+//! `include/pwcheck.h` declares it.
 //!
 //! Each export calls one function of a library and states its clauses again. What the library requires is
 //! tested here, as nothing makes a C program keep it: no export has a `requires`. A slice is a pointer and a length.
@@ -10,13 +11,17 @@ mod answer;
 mod base64;
 mod check;
 mod compare;
+mod cost;
 mod digests;
 mod keys;
 pub mod laws;
 mod lengths;
+mod put;
+mod scrypt_text;
 mod sha_check;
 mod sha_text;
 mod statuses;
 #[cfg(test)]
 mod tests;
+mod version;
 mod words;

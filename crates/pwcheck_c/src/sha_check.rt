@@ -1,16 +1,14 @@
 //! The checks of one family of SHA-crypt.
 
-ghost use Rattle.std.specs.Prelude.{◌≡◌, ◌^◌, ◌<◌, ◌≤◌, Some, length};
+ghost use Rattle.std.specs.Prelude.{◌≡◌, Some};
 ghost use Rattle.sha_crypt.specs.Families.{sha256_answer, sha512_answer};
 ghost use Rattle.pwcheck_c.specs.Numbers.{answer_of};
-ghost use Rattle.pwcheck_c.specs.Verdicts.{family_answer, of_family};
-ghost use Rattle.pwcheck_c.specs.Statuses.{status_out_of_range};
+ghost use Rattle.pwcheck_c.specs.Verdicts.{family_answer, of_family, short_answer};
 
 use crate::answer::Answer;
 use crate::check::text_of;
-use crate::statuses::{LONG, OUT_OF_RANGE};
 use sha_crypt::{CheckError, FormatFault, sha256_check, sha512_check};
-use stored_check::{ShaFault, ShaFormat, StoredError};
+use stored_check::{PASSWORD_MAX, ShaFault, ShaFormat, StoredError};
 
 // The fault of a text of the family.
 fn format_answer(fault: FormatFault) -> Answer
@@ -41,54 +39,60 @@ fn of_family(checked: Result<(), CheckError>) -> Answer
     }
 }
 
+// The answer of SHA-256-crypt to two texts.
+fn short_answer_of_sha256(password: &str, stored: &str) -> Answer
+    ensures answer { result ≡ short_answer sha256_answer password.now stored.now }
+{
+    if password.len() > PASSWORD_MAX {
+        return Answer::Checked(Err(StoredError::PasswordTooLong));
+    }
+    of_family(sha256_check(password, stored))
+}
+
 // The answer of SHA-256-crypt.
 #[tactic(auto, unfolding(crate::specs::Verdicts::family_answer))]
 fn answer_of_sha256(password: &[u8], stored: &[u8]) -> Answer
-    requires short { length password.now < 2 ^ 30 }
     ensures answer { result ≡ family_answer sha256_answer password.now stored.now }
 {
     match (text_of(password), text_of(stored)) {
-        (Some(password), Some(stored)) => of_family(sha256_check(password, stored)),
+        (Some(password), Some(stored)) => short_answer_of_sha256(password, stored),
         _ => Answer::NotText,
     }
+}
+
+// The answer of SHA-512-crypt to two texts.
+fn short_answer_of_sha512(password: &str, stored: &str) -> Answer
+    ensures answer { result ≡ short_answer sha512_answer password.now stored.now }
+{
+    if password.len() > PASSWORD_MAX {
+        return Answer::Checked(Err(StoredError::PasswordTooLong));
+    }
+    of_family(sha512_check(password, stored))
 }
 
 // The answer of SHA-512-crypt.
 #[tactic(auto, unfolding(crate::specs::Verdicts::family_answer))]
 fn answer_of_sha512(password: &[u8], stored: &[u8]) -> Answer
-    requires short { length password.now < 2 ^ 30 }
     ensures answer { result ≡ family_answer sha512_answer password.now stored.now }
 {
     match (text_of(password), text_of(stored)) {
-        (Some(password), Some(stored)) => of_family(sha512_check(password, stored)),
+        (Some(password), Some(stored)) => short_answer_of_sha512(password, stored),
         _ => Answer::NotText,
     }
 }
 
-/// Checks a password against a SHA-256-crypt text, and answers by a number. It takes longer passwords than
-/// `pwcheck_check`, below 2^30 bytes.
+/// Checks a password against a SHA-256-crypt text, and answers by a number.
 #[unsafe(no_mangle)]
 pub extern "C" fn pwcheck_sha256_check(password: &[u8], stored: &[u8]) -> i32
-    ensures answer { length password.now < 2 ^ 30
-        → answer_of result ≡ Some (family_answer sha256_answer password.now stored.now) }
-    ensures refused { 2 ^ 30 ≤ length password.now → result ≡ status_out_of_range }
+    ensures answer { answer_of result ≡ Some (family_answer sha256_answer password.now stored.now) }
 {
-    if password.len() >= LONG {
-        return OUT_OF_RANGE;
-    }
     answer_of_sha256(password, stored).number()
 }
 
-/// Checks a password against a SHA-512-crypt text, and answers by a number. It takes longer passwords than
-/// `pwcheck_check`, below 2^30 bytes.
+/// Checks a password against a SHA-512-crypt text, and answers by a number.
 #[unsafe(no_mangle)]
 pub extern "C" fn pwcheck_sha512_check(password: &[u8], stored: &[u8]) -> i32
-    ensures answer { length password.now < 2 ^ 30
-        → answer_of result ≡ Some (family_answer sha512_answer password.now stored.now) }
-    ensures refused { 2 ^ 30 ≤ length password.now → result ≡ status_out_of_range }
+    ensures answer { answer_of result ≡ Some (family_answer sha512_answer password.now stored.now) }
 {
-    if password.len() >= LONG {
-        return OUT_OF_RANGE;
-    }
     answer_of_sha512(password, stored).number()
 }

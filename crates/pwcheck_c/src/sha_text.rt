@@ -4,17 +4,22 @@ ghost use Rattle.std.specs.Prelude.{◌≡◌, ◌≤◌, ◌<◌, ◌+◌, ◌^
 ghost use Rattle.std.specs.List.{list_all};
 ghost use Rattle.sha_crypt.specs.Records.{rounds_part};
 ghost use Rattle.sha_crypt.specs.Simple.{sha256_text, sha512_text};
-ghost use Rattle.pwcheck_c.specs.Inputs.{is_salt, is_salt_character, text_takes};
+ghost use Rattle.pwcheck_c.specs.Inputs.{is_password, is_salt, is_salt_character, text_takes};
 ghost use Rattle.pwcheck_c.specs.Written.{IsPut};
+ghost use Rattle.std.specs.Str.{is_utf8};
+ghost use Rattle.stored_check.specs.Limits.{password_max};
 ghost use Rattle.sha_crypt.specs.Limits.{pw_size_sha512, rounds_default, salt_max_len};
 ghost use Rattle.pwcheck_c.specs.Statuses.{status_out_of_range};
 
-use crate::statuses::{DONE, LONG, NO_ROOM, OUT_OF_RANGE};
+use crate::check::text_of;
+use crate::put::put;
+use crate::statuses::OUT_OF_RANGE;
 use pieces::short_bytes::ShortBytes;
 use sha_crypt::{
     ROUNDS_DEFAULT, SALT_MAX_LEN, Sha256Params, Sha512Params, encode_sha256, encode_sha512,
     sha256_crypt, sha512_crypt,
 };
+use stored_check::PASSWORD_MAX;
 
 // Room for the longest text: 28 bytes that name the rounds, 16 of salt, 86 of hash, the identifier and three `$`.
 const TEXT_MAX: usize = 134;
@@ -39,6 +44,14 @@ fn is_salt(salt: &[u8]) -> bool
     ensures short { result ≡ true → length salt.now ≤ salt_max_len }
 {
     1 <= salt.len() && salt.len() <= SALT_MAX_LEN && are_salt_characters(salt)
+}
+
+// Whether a check can match this password.
+fn is_password(password: &[u8]) -> bool
+    ensures test { result ≡ (is_password password.now && is_utf8 password.now) }
+    ensures short { result ≡ true → length password.now ≤ password_max }
+{
+    password.len() <= PASSWORD_MAX && text_of(password).is_some()
 }
 
 // Appends what names the rounds, where they aren't the default.
@@ -73,22 +86,10 @@ fn joined(id: &[u8], rounds: usize, salt: &[u8], hash: &[u8]) -> ShortBytes<TEXT
     text
 }
 
-// Writes the text to the front of `out`, where there is room.
-fn put(text: &[u8], out: &mut [u8], len: &mut usize) -> i32
-    ensures put { IsPut text.now out.old out.new len.old len.new result }
-{
-    if out.len() < text.len() {
-        return NO_ROOM;
-    }
-    out[..text.len()].copy_from_slice(text);
-    *len = text.len();
-    DONE
-}
-
 // The SHA-256-crypt text of a password and a salt.
 #[tactic(auto, unfolding(sha_crypt::specs::Records::record_text))]
 fn sha256_text(password: &[u8], salt: &[u8], params: &Sha256Params) -> ShortBytes<TEXT_MAX>
-    requires password { length password.now < 2 ^ 30 }
+    requires password { length password.now ≤ password_max }
     requires salt { length salt.now ≤ salt_max_len }
     ensures { result ≡ sha256_text password.now salt.now params.now }
 {
@@ -99,7 +100,7 @@ fn sha256_text(password: &[u8], salt: &[u8], params: &Sha256Params) -> ShortByte
 // The SHA-512-crypt text of a password and a salt.
 #[tactic(auto, unfolding(sha_crypt::specs::Records::record_text))]
 fn sha512_text(password: &[u8], salt: &[u8], params: &Sha512Params) -> ShortBytes<TEXT_MAX>
-    requires password { length password.now < 2 ^ 30 }
+    requires password { length password.now ≤ password_max }
     requires salt { length salt.now ≤ salt_max_len }
     ensures { result ≡ sha512_text password.now salt.now params.now }
 {
@@ -122,7 +123,7 @@ pub extern "C" fn pwcheck_sha256_crypt_text(
     ensures refused { text_takes password.now salt.now rounds ≡ false
         → (result ≡ status_out_of_range) × (out.new ≡ out.old) × (len.new ≡ len.old) }
 {
-    if password.len() >= LONG || !is_salt(salt) {
+    if !is_password(password) || !is_salt(salt) {
         return OUT_OF_RANGE;
     }
     match Sha256Params::new(rounds as usize) {
@@ -146,7 +147,7 @@ pub extern "C" fn pwcheck_sha512_crypt_text(
     ensures refused { text_takes password.now salt.now rounds ≡ false
         → (result ≡ status_out_of_range) × (out.new ≡ out.old) × (len.new ≡ len.old) }
 {
-    if password.len() >= LONG || !is_salt(salt) {
+    if !is_password(password) || !is_salt(salt) {
         return OUT_OF_RANGE;
     }
     match Sha512Params::new(rounds as usize) {

@@ -15,5 +15,5 @@ pub const NO_ROOM: i32 = -3;
 /// The text is the encoding of no bytes.
 pub const NOT_BASE64: i32 = -4;
 
-/// The length from which on passwords and salts are refused: each message that is hashed is then short enough.
-pub const LONG: usize = 1 << 30;
+/// The length from which on scrypt's passwords and salts are refused: each message that is hashed is then short enough.
+pub const TOO_LONG: usize = 1 << 30;

@@ -7,8 +7,8 @@ ghost use Rattle.pwcheck_c.specs.Written.{IsWritten};
 
 use crate::answer::Answer;
 
-// Writes the text and a zero to the front of `out` where there is room, and gives the length of the text.
-fn put_text(text: &str, out: &mut [u8]) -> usize
+/// Writes the text and a zero to the front of `out` where there is room, and gives the length of the text.
+pub(crate) fn put_text(text: &str, out: &mut [u8]) -> usize
     ensures written { IsWritten text.now out.old out.new result }
 {
     let n = text.len();

@@ -2,9 +2,9 @@ pub mod Causes
 mod ComparedFields
 mod Counted
 pub mod MadeTexts
-mod FamilyTexts
+pub mod FamilyTexts
 mod NamedFaults
 pub mod Normals
 pub mod Records
 mod Vectors
-mod Walk
+pub mod Walk

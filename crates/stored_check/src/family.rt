@@ -10,7 +10,7 @@ use base64ct::Counts;
 use sha_crypt::{CheckError, Family, sha256_check_counted, sha512_check_counted};
 
 /// The family that an identifier names, if it names one.
-pub(crate) fn named_family(id: &str) -> Option<Family>
+pub fn named_family(id: &str) -> Option<Family>
     ensures { result ≡ named_family id.now }
 {
     if id == "5" {

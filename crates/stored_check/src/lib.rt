@@ -17,6 +17,7 @@ mod words;
 
 pub use check::{PASSWORD_MAX, check_stored, check_stored_counted};
 pub use error::{McfFault, PhcFault, ShaFault, ShaFormat, StoredError};
+pub use family::named_family;
 pub use kdf::PhcKdf;
 pub use names::mcf_name;
 pub use normal::{normal_text, write_normal};

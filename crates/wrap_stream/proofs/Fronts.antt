@@ -1,7 +1,7 @@
 -- The front of a text is what a reader makes of it.
 use Rattle.std.proofs.Common.{◌≡◌, ℕ, zero, suc, ◌+◌, ◌-◌, ◌<◌, ◌≤◌, Bool, true, false, List, [], ◌∷◌, ◌++◌, length}
 use Rattle.std.proofs.Common.{take, drop, slice_index, Some, None, refl, sym, ap, ◌∙◌, arith, inl, inr}
-use Rattle.std.specs.Prelude.{◌==◌, ◌||◌, ◌&&◌, ◌⊎◌, nat_lt, if◌then◌else◌}
+use Rattle.std.specs.Prelude.{◌==◌, ◌||◌, ◌&&◌, ◌⊎◌, nat_lt, if◌then◌else◌, unwrap_or, Option}
 use Rattle.std.proofs.lemmas.List.{append-nil, append_assoc, length-append, length-drop, length-take-le}
 use Rattle.std.proofs.lemmas.List.{take-append-drop, take-append-le, take_at}
 use Rattle.std.proofs.lemmas.Bool.{cases_lt, eqb-true, and_parts}
@@ -15,9 +15,9 @@ use Rattle.base64ct.proofs.GoodBlocks.{encoding-append}
 use Rattle.base64ct.proofs.Encodings.{below-three}
 use Rattle.base64ct.proofs.GoodBlocks.{below-append}
 use Rattle.wrap_stream.specs.Front.{BeginsWrapped, IsFront, IsWrapped, bytes_of_whole, characters, is_end, is_whole}
-use Rattle.wrap_stream.specs.Front.{or_none, whole_block_bytes}
+use Rattle.wrap_stream.specs.Front.{whole_block_bytes}
 use Rattle.base64ct.specs.Wrapping.{AreLines}
-use Rattle.wrap_stream.specs.Reading.{State, at, begins_block, completed, fresh, front, grown, is_complete, is_stuck}
+use Rattle.wrap_stream.specs.Reading.{State, at, begins_block, completed, at_start, front, grown, is_complete, is_stuck}
 use Rattle.wrap_stream.specs.Reading.{end_bytes, moved, next, output, run, stuck, waiting}
 use Rattle.wrap_stream.specs.declared.place.Place.{Place}
 use Rattle.wrap_stream.specs.declared.place.Place.TheVariants.{Within, AfterReturn, LastReturn, Over, Stuck}
@@ -28,6 +28,9 @@ use Rattle.wrap_stream.proofs.Runs.{read_line, read_lines, run-append, run-cons,
 use Rattle.wrap_stream.proofs.Laid.{Sane, Shape, grown_true, grown_false, laid, stuck_is}
 
 -- ---- a text that is read to an end is a wrapped encoding
+
+abbrev bytes_or_none : Option (List ℕ) → List ℕ
+bytes_or_none o = unwrap_or o []
 
 nothing_decodes : decoding base64 [] ≡ Some []
 nothing_decodes = decoding_is base64 [] [] lawful (λ i. omega arith) (sym encoding-nil)
@@ -42,34 +45,34 @@ complete_decodes (c ∷ d ∷ e ∷ f ∷ []) good done = let h = completes (c �
     (h.0, ap (decoding base64) (sym (completed_four c d e f)) ∙ h.1)
 complete_decodes (c ∷ d ∷ e ∷ f ∷ g ∷ block) good done = let h = good.short in absurd (omega arith)
 
-pub wrapped_read : (w : ℕ) (text : List ℕ) → 0 < w → is_stuck (run w (fresh w) text).place ≡ false
-    → is_complete (run w (fresh w) text).block ≡ true
-    → ((text ≡ []) × (front w text ++ end_bytes (run w (fresh w) text) ≡ []))
-    ⊎ IsWrapped w text (front w text ++ end_bytes (run w (fresh w) text))
+pub wrapped_read : (w : ℕ) (text : List ℕ) → 0 < w → is_stuck (run w (at_start w) text).place ≡ false
+    → is_complete (run w (at_start w) text).block ≡ true
+    → ((text ≡ []) × (front w text ++ end_bytes (run w (at_start w) text) ≡ []))
+    ⊎ IsWrapped w text (front w text ++ end_bytes (run w (at_start w) text))
 wrapped_read w text pos unstuck done =
     let l = laid w pos text (Within w) [] [] [] (refl, omega arith) good_none unstuck in
-    let d = complete_decodes (run w (fresh w) text).block l.adds.good done in
-    let parts = decoding-Some base64 (run w (fresh w) text).block d.0 d.1 in
-    let last : end_bytes (run w (fresh w) text) ≡ d.0 = ap or_none d.1 in
+    let d = complete_decodes (run w (at_start w) text).block l.adds.good done in
+    let parts = decoding-Some base64 (run w (at_start w) text).block d.0 d.1 in
+    let last : end_bytes (run w (at_start w) text) ≡ d.0 = ap bytes_or_none d.1 in
     let enc : encoding base64 (front w text ++ d.0) ≡ l.cs =
     encoding-append base64 (front w text) d.0 l.adds.below l.adds.whole
     ∙ ap (λ (x : List ℕ). unpadded_encoding base64 (front w text) ++ x) (sym parts.1) ∙ l.adds.text in
     by_shape d.0 l.cs last enc (below-append (front w text) d.0 l.adds.below parts.0) l.shape
   where
     none : (b : List ℕ) → EachBelow 256 b → encoding base64 b ≡ [] → b ≡ []
-    none b below is = ap or_none (sym (decoding_is base64 [] b lawful below (sym is)) ∙ nothing_decodes)
+    none b below is = ap bytes_or_none (sym (decoding_is base64 [] b lawful below (sym is)) ∙ nothing_decodes)
 
-    by_shape : (tail cs : List ℕ) → end_bytes (run w (fresh w) text) ≡ tail
+    by_shape : (tail cs : List ℕ) → end_bytes (run w (at_start w) text) ≡ tail
         → encoding base64 (front w text ++ tail) ≡ cs → EachBelow 256 (front w text ++ tail) → Shape w [] [] text cs
-        → ((text ≡ []) × (front w text ++ end_bytes (run w (fresh w) text) ≡ []))
-        ⊎ IsWrapped w text (front w text ++ end_bytes (run w (fresh w) text))
+        → ((text ≡ []) × (front w text ++ end_bytes (run w (at_start w) text) ≡ []))
+        ⊎ IsWrapped w text (front w text ++ end_bytes (run w (at_start w) text))
     by_shape tail cs last enc below (inl (empty, no_cs)) =
         inl (empty, rw last (none (front w text ++ tail) below (enc ∙ no_cs)))
     by_shape tail cs last enc below (inr h) = inr (rw last (below, rw enc h))
 
 -- ---- a wrapped encoding is read to an end
 
-pub read_wrapped : (w : ℕ) (text b : List ℕ) → 0 < w → IsWrapped w text b → ReadsAll w (fresh w) text b
+pub read_wrapped : (w : ℕ) (text b : List ℕ) → 0 < w → IsWrapped w text b → ReadsAll w (at_start w) text b
 read_wrapped w text b pos (below, (lines, are, join)) =
     read_lines w lines text [] b pos are (record { text = sym join; below = below; few = λ h. omega arith })
 
@@ -80,7 +83,7 @@ last_read w s text b (place, unstuck, r) =
     let same : r.block ≡ encoding base64 r.more = sym (append-nil r.block) ∙ r.waits.text in
     let last : end_bytes (run w s text) ≡ r.more =
     ap (λ (x : State). end_bytes x) r.is
-    ∙ ap or_none (decoding_is base64 r.block r.more lawful r.waits.below same) in (
+    ∙ ap bytes_or_none (decoding_is base64 r.block r.more lawful r.waits.below same) in (
       rw r.is unstuck,
       rw r.is (waits_complete r.block r.more r.waits),
       r.cut
@@ -204,17 +207,17 @@ begins_none w wide = (
 )
 
 -- the beginning of a wrapped encoding is what a reader isn't stuck at
-pub begins_read : (w : ℕ) (text : List ℕ) → 4 ≤ w → is_stuck (run w (fresh w) text).place ≡ false → BeginsWrapped w text
+pub begins_read : (w : ℕ) (text : List ℕ) → 4 ≤ w → is_stuck (run w (at_start w) text).place ≡ false → BeginsWrapped w text
 begins_read w text wide unstuck =
     let pos : 0 < w = omega arith in
     let l = laid w pos text (Within w) [] [] [] (refl, omega arith) good_none unstuck in
-    let e = ends w (run w (fresh w) text).place (run w (fresh w) text).block _ wide refl l.sane l.adds.good in
-    let on = run-append w (fresh w) text e.0 in
+    let e = ends w (run w (at_start w) text).place (run w (at_start w) text).block _ wide refl l.sane l.adds.good in
+    let on = run-append w (at_start w) text e.0 in
     by_end e.0 (wrapped_read w (text ++ e.0) pos (rw on e.1) (rw on e.2))
   where
     by_end : (rest : List ℕ)
-        → ((text ++ rest ≡ []) × (front w (text ++ rest) ++ end_bytes (run w (fresh w) (text ++ rest)) ≡ []))
-        ⊎ IsWrapped w (text ++ rest) (front w (text ++ rest) ++ end_bytes (run w (fresh w) (text ++ rest)))
+        → ((text ++ rest ≡ []) × (front w (text ++ rest) ++ end_bytes (run w (at_start w) (text ++ rest)) ≡ []))
+        ⊎ IsWrapped w (text ++ rest) (front w (text ++ rest) ++ end_bytes (run w (at_start w) (text ++ rest)))
         → BeginsWrapped w text
     by_end rest (inr h) = (rest, _, h)
     by_end rest (inl (none, _)) = let n = ap length none in
@@ -240,10 +243,10 @@ by_stuck : (b : Bool) → (b ≡ true → ⊥) → b ≡ false
 by_stuck true h = absurd (h refl)
 by_stuck false h = refl
 
-pub read_begins : (w : ℕ) (text : List ℕ) → 0 < w → BeginsWrapped w text → is_stuck (run w (fresh w) text).place ≡ false
+pub read_begins : (w : ℕ) (text : List ℕ) → 0 < w → BeginsWrapped w text → is_stuck (run w (at_start w) text).place ≡ false
 read_begins w text pos (rest, b, wrapped) =
-    let h = last_read w (fresh w) (text ++ rest) b (read_wrapped w (text ++ rest) b pos wrapped) in
-    by_stuck (is_stuck (run w (fresh w) text).place) (λ t. stuck_is _ (stays_stuck w (fresh w) text rest t) h.0)
+    let h = last_read w (at_start w) (text ++ rest) b (read_wrapped w (text ++ rest) b pos wrapped) in
+    by_stuck (is_stuck (run w (at_start w) text).place) (λ t. stuck_is _ (stays_stuck w (at_start w) text rest t) h.0)
 
 -- ---- what each byte does
 
@@ -458,12 +461,12 @@ stops w (c ∷ text) place block unstuck = by_sure (stops w text) (sure w place 
         by_stop kept rest (inr (d, more, e, t)) =
             inr (d, more, e, rw (run-cons w (at place block) c (kept ++ d ∷ []) _ refl) t)
 
-no_longer : (w : ℕ) (text : List ℕ) (s : Stops w (fresh w) text) → 0 < w → (more left : List ℕ) → text ≡ more ++ left
+no_longer : (w : ℕ) (text : List ℕ) (s : Stops w (at_start w) text) → 0 < w → (more left : List ℕ) → text ≡ more ++ left
     → BeginsWrapped w more → length more ≤ length s.kept
 no_longer w text s pos more left cut begins = by_stop s.stop
   where
     by_stop : (s.rest ≡ [])
-        ⊎ ((c : ℕ) × (t : List ℕ) × (s.rest ≡ c ∷ t) × (is_stuck (run w (fresh w) (s.kept ++ c ∷ [])).place ≡ true))
+        ⊎ ((c : ℕ) × (t : List ℕ) × (s.rest ≡ c ∷ t) × (is_stuck (run w (at_start w) (s.kept ++ c ∷ [])).place ≡ true))
         → length more ≤ length s.kept
     by_stop (inl none) = omega (
       arith,
@@ -486,7 +489,7 @@ no_longer w text s pos more left cut begins = by_stop s.stop
             ∙ ap (λ (x : List ℕ). take n x) (sym cut ∙ whole) ∙ take_at (s.kept ++ c ∷ []) t n one in
             let parts : (s.kept ++ c ∷ []) ++ drop n more ≡ more =
             ap (λ (x : List ℕ). x ++ drop n more) (sym front_is) ∙ take-append-drop n more in
-            absurd (stuck_is _ (rw parts at (stays_stuck w (fresh w) (s.kept ++ c ∷ []) (drop n more) stuck_there))
+            absurd (stuck_is _ (rw parts at (stays_stuck w (at_start w) (s.kept ++ c ∷ []) (drop n more) stuck_there))
             (read_begins w more pos begins))
 
 -- what is read is the front

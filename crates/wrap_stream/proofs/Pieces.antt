@@ -1,7 +1,7 @@
 -- What a run of wrapping has read and written, and how it ends.
 use Rattle.std.proofs.Common.{◌≡◌, ℕ, ◌+◌, ◌-◌, ◌*◌, ◌/◌, ◌%◌, ◌<◌, ◌≤◌, List, [], ◌∷◌, ◌++◌, length, take, drop}
 use Rattle.std.proofs.Common.{Option, refl, sym, ap, ◌∙◌, arith, take-add, inl, inr, true}
-use Rattle.std.specs.Io.KnownBytes.{Appends, Consumes, IsAtEnd}
+use Rattle.std.specs.Io.KnownBytes.{Appends, Consumes, IsAtEnd, Keeps}
 use Rattle.std.proofs.lemmas.List.{append-nil, append_assoc, length-append, length-drop, length-take-le}
 use Rattle.std.proofs.lemmas.List.{take-append-drop, take-take, take_at}
 use Rattle.std.proofs.Math.Seq.{take-append-add, drop-append-add}
@@ -13,7 +13,7 @@ use Rattle.base64ct.proofs.Encodings.{below-take, below-drop}
 use Rattle.base64ct.proofs.Padding.{length-encoding, padding_count}
 use Rattle.line_io.specs.Devices.{AppendsPrefix, WhereTold}
 use Rattle.line_io.specs.Runs.{IsPrefix}
-use Rattle.line_io.proofs.Moved.{appends_more, appends_none, consumes_more, consumes_none, where_told}
+use Rattle.line_io.proofs.Moved.{appends_more, appends_none, consumes_more, consumes_none, where_told, consumes_keeps}
 use Rattle.line_io.proofs.Moved.{where_told_end, consumes_no_more}
 use Rattle.base64ct.specs.Encoders.{whole_blocks}
 use Rattle.wrap_stream.specs.Outcomes.{WrapOutcome, wrapped}
@@ -97,40 +97,44 @@ more_blocks bytes chunk =
 
 -- ---- the rows of the table
 
-row_done : (w max : ℕ) (held taken added : List ℕ) → length held ≤ max → taken ≡ held → added ≡ wrapped w held
+row_done : (w max : ℕ) (held taken added : List ℕ) → length taken ≤ max + 16384 → length held ≤ max → taken ≡ held → added ≡ wrapped w held
     → WrapOutcome w 0 max held taken added
-row_done w max held taken added fits all h =
+row_done w max held taken added few fits all h =
     record {
+      bounded = few;
       done = λ e. (fits, all, h);
       read_fault = λ e. absurd (omega arith);
       write_fault = λ e. absurd (omega arith);
       budget = λ e. absurd (omega arith);
     }
 
-row_failed : (w max : ℕ) (held taken added : List ℕ) → added ≡ wrapped w (whole_blocks taken)
+row_failed : (w max : ℕ) (held taken added : List ℕ) → length taken ≤ max + 16384 → added ≡ wrapped w (whole_blocks taken)
     → WrapOutcome w 3 max held taken added
-row_failed w max held taken added h =
+row_failed w max held taken added few h =
     record {
+      bounded = few;
       done = λ e. absurd (omega arith);
       read_fault = λ e. h;
       write_fault = λ e. absurd (omega arith);
       budget = λ e. absurd (omega arith);
     }
 
-row_cut : (w max : ℕ) (held taken added : List ℕ) → IsPrefix added (wrapped w held)
+row_cut : (w max : ℕ) (held taken added : List ℕ) → length taken ≤ max + 16384 → IsPrefix added (wrapped w held)
     → WrapOutcome w 4 max held taken added
-row_cut w max held taken added p =
+row_cut w max held taken added few p =
     record {
+      bounded = few;
       done = λ e. absurd (omega arith);
       read_fault = λ e. absurd (omega arith);
       write_fault = λ e. p;
       budget = λ e. absurd (omega arith);
     }
 
-row_budget : (w max : ℕ) (held taken added : List ℕ) → max < length held
+row_budget : (w max : ℕ) (held taken added : List ℕ) → length taken ≤ max + 16384 → max < length held
     → added ≡ wrapped w (whole_blocks (take max held)) → WrapOutcome w 6 max held taken added
-row_budget w max held taken added more h =
+row_budget w max held taken added few more h =
     record {
+      bounded = few;
       done = λ e. absurd (omega arith);
       read_fault = λ e. absurd (omega arith);
       write_fault = λ e. absurd (omega arith);
@@ -210,16 +214,16 @@ module _ (w : ℕ) (left left_mid left_now written written_mid written_now : Opt
     }
 
     -- a write failed
-    pub wrap_cut : (max : ℕ) (given after : List ℕ) → Consumes left_mid left_now given → given ≡ chunk ++ after
+    pub wrap_cut : (max : ℕ) (given after : List ℕ) → taken ≤ max → length given ≤ 16384 → Consumes left_mid left_now given → given ≡ chunk ++ after
         → AppendsPrefix written_mid written_now (wrap_from w (10 ∷ []) room (encoding base64 piece))
         → WhereTold left left_now written written_now (λ held taken added. WrapOutcome w 4 max held taken added)
-    wrap_cut max given after c cut part =
+    wrap_cut max given after fits one c cut part =
         where_told left left_now written written_now (h.bytes ++ given) (wrapped w (whole_blocks h.bytes) ++ part.0)
         (λ held taken added. WrapOutcome w 4 max held taken added)
         (consumes_more left left_mid left_now h.bytes given h.consumed c)
         (appends_more written written_mid written_now (wrapped w (whole_blocks h.bytes)) part.0 h.added part.3)
         (λ held rest e k. row_cut w max held (h.bytes ++ given) (wrapped w (whole_blocks h.bytes) ++ part.0)
-        (prefix held rest k))
+        (omega (arith, length-append h.bytes given, h.count)) (prefix held rest k))
       where
         prefix : (held rest : List ℕ) → held ≡ (h.bytes ++ given) ++ rest
             → IsPrefix (wrapped w (whole_blocks h.bytes) ++ part.0) (wrapped w held)
@@ -246,11 +250,11 @@ module _ (w : ℕ) (left left_mid left_now written written_mid written_now : Opt
             )
 
     -- more than max bytes
-    pub wrap_over : (max : ℕ) (given after : List ℕ) → Consumes left_mid left_now given → given ≡ chunk ++ after
+    pub wrap_over : (max : ℕ) (given after : List ℕ) → taken ≤ max → length given ≤ 16384 → Consumes left_mid left_now given → given ≡ chunk ++ after
         → Appends written_mid written_now (wrap_from w (10 ∷ []) room (encoding base64 piece))
         → length (h.bytes ++ chunk) ≡ max → 0 < length after
         → WhereTold left left_now written written_now (λ held taken added. WrapOutcome w 6 max held taken added)
-    wrap_over max given after c cut a full more =
+    wrap_over max given after fits one c cut a full more =
         where_told left left_now written written_now (h.bytes ++ given)
         (wrapped w (whole_blocks h.bytes) ++ wrap_from w (10 ∷ []) room (encoding base64 piece))
         (λ held taken added. WrapOutcome w 6 max held taken added)
@@ -262,7 +266,7 @@ module _ (w : ℕ) (left left_mid left_now written written_mid written_now : Opt
         let whole : held ≡ t ++ (after ++ rest) = k ∙ ap (λ (x : List ℕ). (h.bytes ++ x) ++ rest) cut
         ∙ ap (λ (x : List ℕ). x ++ rest) (sym (append_assoc h.bytes chunk after)) ∙ append_assoc t after rest in
         let among : take max held ≡ t = ap (λ (x : List ℕ). take max x) whole ∙ take_at t (after ++ rest) max full in
-        row_budget w max held (h.bytes ++ given) _
+        row_budget w max held (h.bytes ++ given) _ (omega (arith, length-append h.bytes given, h.count))
         (omega (arith, ap length whole, length-append t (after ++ rest), length-append after rest, full))
         (sym text ∙ ap (λ (x : List ℕ). wrapped w (whole_blocks x)) (sym among)))
 
@@ -284,18 +288,27 @@ module _ (w : ℕ) (left left_mid left_now written written_mid written_now : Opt
       (consumes_no_more left left_mid left_now h.bytes h.consumed c) end
       (appends_more written written_mid written_now (wrapped w (whole_blocks h.bytes))
       (wrap_from w (10 ∷ []) room (encoding base64 waiting)) h.added a)
-      (row_done w max h.bytes h.bytes _ (omega (arith, h.count)) refl (sym end_text))
+      (row_done w max h.bytes h.bytes _ (omega (arith, h.count)) (omega (arith, h.count)) refl (sym end_text))
+
+  -- a read failed
+  pub wrap_failed : (max : ℕ) → taken ≤ max → Keeps left_mid left_now
+      → WhereTold left left_now written written_mid (λ held taken added. WrapOutcome w 3 max held taken added)
+  wrap_failed max fits k =
+      where_told left left_now written written_mid h.bytes (wrapped w (whole_blocks h.bytes))
+      (λ held taken added. WrapOutcome w 3 max held taken added)
+      (consumes_keeps left left_mid left_now h.bytes h.consumed k) h.added
+      (λ held rest e k. row_failed w max held h.bytes _ (omega (arith, h.count)) refl)
 
   -- the last write failed
-  pub wrap_cut_end : (max : ℕ) → Consumes left_mid left_now [] → IsAtEnd left_now
+  pub wrap_cut_end : (max : ℕ) → Consumes left_mid left_now [] → IsAtEnd left_now → taken ≤ max
       → AppendsPrefix written_mid written_now (wrap_from w (10 ∷ []) room (encoding base64 waiting))
       → WhereTold left left_now written written_now (λ held taken added. WrapOutcome w 4 max held taken added)
-  wrap_cut_end max c end part =
+  wrap_cut_end max c end fits part =
       where_told_end left left_now written written_now h.bytes (wrapped w (whole_blocks h.bytes) ++ part.0)
       (λ held taken added. WrapOutcome w 4 max held taken added)
       (consumes_no_more left left_mid left_now h.bytes h.consumed c) end
       (appends_more written written_mid written_now (wrapped w (whole_blocks h.bytes)) part.0 h.added part.3)
-      (row_cut w max h.bytes h.bytes _ (
+      (row_cut w max h.bytes h.bytes _ (omega (arith, h.count)) (
         part.1,
         append_assoc (wrapped w (whole_blocks h.bytes)) part.0 part.1
             ∙ ap (λ (x : List ℕ). wrapped w (whole_blocks h.bytes) ++ x) part.2 ∙ sym end_text,
@@ -335,7 +348,8 @@ module _ (buf waiting : List ℕ) (k n whole : ℕ) (is : waiting ≡ take k buf
 module _ (w : ℕ) (left left_mid left_now written written_mid written_now : Option (List ℕ)) (waiting : List ℕ)
     (room taken : ℕ) (h : Pieces w left left_mid written written_mid waiting room taken) (wide : 4 ≤ w)
     (max : ℕ) (buf : List ℕ) (k n : ℕ) (below : EachBelow 256 buf) (is : waiting ≡ take k buf)
-    (c : Consumes left_mid left_now (take n (drop k buf))) (small : k + n ≤ length buf) (fits : taken ≤ max) where
+    (c : Consumes left_mid left_now (take n (drop k buf))) (small : k + n ≤ length buf) (fits : taken ≤ max)
+    (one : n ≤ 16384) where
   chunk_below : (m : ℕ) → EachBelow 256 (take m (drop k buf))
   chunk_below m = below-take 256 m (drop k buf) (omega arith) (below-drop 256 k buf below)
 
@@ -347,7 +361,7 @@ module _ (w : ℕ) (left left_mid left_now written written_mid written_now : Opt
       → WhereTold left left_now written written_now (λ held taken added. WrapOutcome w 4 max held taken added)
   step_cut whole count part =
       wrap_cut w left left_mid left_now written written_mid written_now waiting room taken h wide (take n (drop k buf))
-      (chunk_below n) max (take n (drop k buf)) [] c (sym (append-nil (take n (drop k buf))))
+      (chunk_below n) max (take n (drop k buf)) [] fits (omega (arith, length-chunk n small)) c (sym (append-nil (take n (drop k buf))))
       (rw (piece_is buf waiting k n whole is small count) part)
 
   pub step_more : (whole : ℕ) (waiting' : List ℕ) (room' m : ℕ) → whole ≡ (k + n) / 3 * 3
@@ -373,16 +387,16 @@ module _ (w : ℕ) (left left_mid left_now written written_mid written_now : Opt
           → WhereTold left left_now written written_now (λ held taken added. WrapOutcome w 4 max held taken added)
       over_cut part =
           wrap_cut w left left_mid left_now written written_mid written_now waiting room taken h wide
-          (take first (drop k buf)) (chunk_below first) max (take n (drop k buf)) (drop first (take n (drop k buf))) c
-          cut
+          (take first (drop k buf)) (chunk_below first) max (take n (drop k buf)) (drop first (take n (drop k buf))) fits
+          (omega (arith, length-chunk n small)) c cut
           (rw (piece_is buf waiting k first whole is (omega arith) count) part)
 
       pub over_done : Appends written_mid written_now (wrap_from w (10 ∷ []) room (encoding base64 (take whole buf)))
           → WhereTold left left_now written written_now (λ held taken added. WrapOutcome w 6 max held taken added)
       over_done a =
           wrap_over w left left_mid left_now written written_mid written_now waiting room taken h wide
-          (take first (drop k buf)) (chunk_below first) max (take n (drop k buf)) (drop first (take n (drop k buf))) c
-          cut
+          (take first (drop k buf)) (chunk_below first) max (take n (drop k buf)) (drop first (take n (drop k buf))) fits
+          (omega (arith, length-chunk n small)) c cut
           (rw (piece_is buf waiting k first whole is (omega arith) count) a)
           (omega (arith, length-append h.bytes (take first (drop k buf)), length-chunk first (omega arith), h.count))
           (omega (arith, length-drop first (take n (drop k buf)), length-chunk n small))
@@ -398,4 +412,4 @@ module _ (w : ℕ) (left left_mid left_now written written_mid written_now : Opt
       → WhereTold left left_now written written_now (λ held taken added. WrapOutcome w 4 max held taken added)
   end_cut none end part =
       wrap_cut_end w left left_mid left_now written written_mid written_now waiting room taken h wide max (rw none at c)
-      end (rw is part)
+      end fits (rw is part)

@@ -1,5 +1,5 @@
 -- The bytes at the front of a wrapped text.
-use Rattle.std.specs.Prelude.{◌≡◌, ℕ, ◌≤◌, ◌==◌, ◌&&◌, ◌||◌, Bool, not, List, [], ◌∷◌, ◌++◌, length, Option, Some, None}
+use Rattle.std.specs.Prelude.{◌≡◌, ℕ, ◌≤◌, ◌==◌, ◌&&◌, ◌||◌, Bool, not, List, [], ◌∷◌, ◌++◌, length, unwrap_or}
 use Rattle.std.specs.Prelude.{if◌then◌else◌}
 use Rattle.std.specs.List.{flat_map, list_any}
 use Rattle.base64ct.specs.Encoding.{encoding, equals_sign, EachBelow}
@@ -36,13 +36,9 @@ characters (c ∷ text) = if is_end c then characters text else c ∷ characters
 abbrev pub is_whole : List ℕ → Bool
 is_whole block = (length block == 4) && not (list_any (λ c. c == equals_sign) block)
 
-abbrev pub or_none : Option (List ℕ) → List ℕ
-or_none None = []
-or_none (Some bytes) = bytes
-
 -- the bytes of a whole block; of another none
 abbrev pub whole_block_bytes : List ℕ → List ℕ
-whole_block_bytes block = if is_whole block then or_none (decoding base64 block) else []
+whole_block_bytes block = if is_whole block then unwrap_or (decoding base64 block) [] else []
 
 -- the bytes of the whole blocks among characters
 abbrev pub bytes_of_whole : List ℕ → List ℕ

@@ -1,5 +1,5 @@
 -- What a run did, for each status.
-use Rattle.std.specs.Prelude.{◌≡◌, ◌≢◌, ◌⊎◌, ℕ, ◌<◌, ◌≤◌, List, [], ◌∷◌, length, take}
+use Rattle.std.specs.Prelude.{◌≡◌, ◌≢◌, ◌⊎◌, ℕ, ◌+◌, ◌<◌, ◌≤◌, List, [], ◌∷◌, length, take}
 use Rattle.base64ct.specs.Encoding.{encoding}
 use Rattle.base64ct.specs.Alphabets.{base64}
 use Rattle.line_io.specs.Runs.{IsPrefix}
@@ -7,12 +7,18 @@ use Rattle.base64ct.specs.Wrapping.{wrap}
 use Rattle.base64ct.specs.Encoders.{whole_blocks}
 use Rattle.wrap_stream.specs.Front.{BeginsWrapped, IsFront, IsWrapped}
 
+-- the most bytes of one read
+abbrev pub read_max : ℕ
+read_max = 16384
+
 -- the encoding of bytes in lines of w characters, with a line feed between two lines
 abbrev pub wrapped : ℕ → List ℕ → List ℕ
 wrapped w bytes = wrap (encoding base64 bytes) w (10 ∷ [])
 
 -- Wrapping. The source held `held`, of which `taken` was taken; `added` was added to the sink.
 pub record WrapOutcome (w status max : ℕ) (held taken added : List ℕ) : Type 0 where
+  -- whatever the status: no read follows one that passed the bound
+  pub bounded : length taken ≤ max + read_max
   -- 0: all was taken and is wrapped
   pub done : status ≡ 0 → (length held ≤ max) × (taken ≡ held) × (added ≡ wrapped w held)
   -- 3: a read failed; the whole blocks that were taken are wrapped
@@ -28,6 +34,8 @@ NotWrapped w text = (bytes : List ℕ) → IsWrapped w text bytes → ⊥
 
 -- Unwrapping.
 pub record UnwrapOutcome (w status max : ℕ) (held taken added : List ℕ) : Type 0 where
+  -- whatever the status: no read follows one that passed the bound
+  pub bounded : length taken ≤ max + read_max
   -- 0: all was taken; it is the wrapped encoding of what was written, or empty
   pub done : status ≡ 0 → (length held ≤ max) × (taken ≡ held) × (((held ≡ []) × (added ≡ [])) ⊎ IsWrapped w held added)
   -- 3: a read failed; the front of what was taken is written
@@ -37,7 +45,7 @@ pub record UnwrapOutcome (w status max : ℕ) (held taken added : List ℕ) : Ty
       × IsPrefix added bytes
   -- 6: the source holds more than `max` bytes; the front of the first of these is written
   pub budget : status ≡ 6 → (max < length held) × IsFront w (take max held) added
-  -- 7: the first `max` bytes are the beginning of no wrapped encoding, or all was taken and is none
+  -- 7: what was taken, or its first `max` bytes, is the beginning of no wrapped encoding; or all was taken and is none
   pub bad_text : status ≡ 7 → IsFront w taken added
       × ((BeginsWrapped w (take max taken) → ⊥)
       ⊎ ((length held ≤ max) × (taken ≡ held) × (held ≢ []) × NotWrapped w held))

@@ -1,0 +1,237 @@
+#!/usr/bin/env python3
+"""Compares each number of include/pwcheck.h and of the bindings with the definitions under crates/*/specs, and the
+version where it stands.
+
+    bindings/numbers.py [HEADER]
+    bindings/numbers.py swaps        swaps each two numbers of the header in turn, and finds each such header refused
+
+An enumerator's number is the place of its answer in the table `answers` of pwcheck_c/specs/Numbers, its status in
+specs/Statuses, or the place of its alphabet in specs/Coder; a #define is a length that the definitions give. Each name
+of the header has to be known here, and each answer, status and alphabet there has to have a name. It ends with 1 where
+two differ.
+"""
+import os
+import re
+import sys
+
+HERE = os.path.dirname(os.path.abspath(__file__))
+TOP = os.path.dirname(HERE)
+HEADER = os.path.join(TOP, "include", "pwcheck.h")
+
+# The names of the header for the answers, statuses and alphabets of the definitions.
+ANSWERS = {
+    "Checked (Ok true)": "MATCH",
+    "Checked (Ok false)": "MISMATCH",
+    "NotText": "NOT_UTF8",
+    "Checked (Err of_stored.OutOfMemory)": "OUT_OF_MEMORY",
+    "Checked (Err of_stored.PasswordTooLong)": "PASSWORD_TOO_LONG",
+    "Checked (Err (of_stored.Mcf of_mcf.DelimiterInvalid))": "MCF_DELIMITER",
+    "Checked (Err (of_stored.Mcf of_mcf.IdentifierInvalid))": "MCF_IDENTIFIER",
+    "Checked (Err (of_stored.Mcf of_mcf.FieldInvalid))": "MCF_FIELD",
+    "Checked (Err (of_stored.Mcf of_mcf.EncodingInvalid))": "MCF_ENCODING",
+    "OtherIdentifier": "SHA_IDENTIFIER",
+    "Checked (Err (of_stored.Sha (of_sha.InvalidFormat of_format.NoFields)))": "SHA_NO_FIELDS",
+    "Checked (Err (of_stored.Sha (of_sha.InvalidFormat of_format.NoSalt)))": "SHA_NO_SALT",
+    "Checked (Err (of_stored.Sha (of_sha.InvalidFormat of_format.RoundsNotNumber)))": "SHA_ROUNDS_NOT_NUMBER",
+    "Checked (Err (of_stored.Sha (of_sha.InvalidFormat of_format.NoHash)))": "SHA_NO_HASH",
+    "Checked (Err (of_stored.Sha (of_sha.InvalidFormat of_format.Trailing)))": "SHA_TRAILING",
+    "Checked (Err (of_stored.Sha of_sha.RoundsError))": "SHA_ROUNDS",
+    "Checked (Err (of_stored.Sha (of_sha.InvalidFormat of_format.SaltTooLong)))": "SHA_SALT_TOO_LONG",
+    "Checked (Err (of_stored.Sha (of_sha.InvalidFormat of_format.Base64)))": "SHA_BASE64",
+    "Checked (Err (of_stored.Phc of_phc.ParamNameInvalid))": "PHC_NAME",
+    "Checked (Err (of_stored.Phc of_phc.ParamValueTooLong))": "PHC_VALUE_LONG",
+    "Checked (Err (of_stored.Phc of_phc.ParamValueInvalid))": "PHC_VALUE",
+    "Checked (Err (of_stored.Phc of_phc.ParamsMaxExceeded))": "PHC_PARAMS_LONG",
+    "Checked (Err (of_stored.Phc of_phc.SaltTooShort))": "PHC_SALT_SHORT",
+    "Checked (Err (of_stored.Phc of_phc.SaltTooLong))": "PHC_SALT_LONG",
+    "Checked (Err (of_stored.Phc (of_phc.Base64 of_base64.InvalidEncoding)))": "PHC_B64",
+    "Checked (Err (of_stored.Phc (of_phc.Base64 of_base64.InvalidLength)))": "PHC_HASH_LONG",
+    "Checked (Err (of_stored.Phc of_phc.OutputSize))": "PHC_HASH_SHORT",
+    "Checked (Err (of_stored.Phc of_phc.TrailingData))": "PHC_TRAILING",
+    "Checked (Err of_stored.NoHash)": "NO_HASH",
+    "Checked (Err of_stored.Kdf)": "KDF",
+    "OverCost": "OVER_COST",
+}
+ALPHABETS = {name: name.upper() for name in (
+    "base64", "base64_unpadded", "base64_url", "base64_url_unpadded", "base64_bcrypt", "base64_crypt", "base64_pbkdf2",
+    "base64_sha_crypt")}
+
+
+def need(condition, text):
+    if not condition:
+        sys.exit("numbers.py: " + text)
+
+
+def read(*path):
+    with open(os.path.join(TOP, *path), encoding="utf-8") as source:
+        return source.read()
+
+
+def specs(crate, name):
+    """A file of definitions without its comments."""
+    return re.sub(r"--.*", "", read("crates", crate, "specs", name + ".antt"))
+
+
+def entries(text, name):
+    """The entries of a list that is written as `a ∷ b ∷ []`."""
+    body = re.search(rf"^{name} =\n(.*?)∷ \[\]$", text, re.M | re.S).group(1)
+    return [" ".join(entry.split()) for entry in body.split("∷")]
+
+
+def number(text, name):
+    """A definition that is a number."""
+    return int(re.search(rf"^{name} = ([0-9]+)$", text, re.M).group(1))
+
+
+def places(names, found):
+    """The number of each name, by its place."""
+    need(sorted(found) == sorted(names), f"the definitions have {sorted(set(found) ^ set(names))} otherwise")
+    return {names[entry]: place for place, entry in enumerate(found)}
+
+
+def statuses():
+    text = specs("pwcheck_c", "Statuses")
+    found = re.findall(r"^status_([a-z0-9_]+) = (pos|negsuc) ([0-9]+)$", text, re.M)
+    need(len(found) == len(re.findall(r"^abbrev pub status_", text, re.M)), "a status isn't read")
+    return {name.upper(): int(n) if sign == "pos" else -1 - int(n) for name, sign, n in found}
+
+
+def longest_word():
+    """The bytes of the longest word of an answer, from the definitions that give the words."""
+    words = re.findall(r'codes "([^"]*)"', specs("pwcheck_c", "Words") + specs("stored_check", "Words"))
+    return max(len(word) for word in words)
+
+
+def encoded(n):
+    """The characters that encode n bytes, without padding."""
+    return (8 * n + 5) // 6
+
+
+def digits_in_bounds():
+    """The most digits that ln, r and p have together, within the bounds of scrypt."""
+    most = 0
+    for ln in range(1, 25):
+        for r in [10 ** k for k in range(6)] + [ln // 16 + 1]:
+            if ln < 16 * r and 128 * r * 2 ** ln <= 2 ** 28:
+                p = min(1024, 131072 // r)
+                if p >= 1:
+                    most = max(most, len(f"{ln}{r}{p}"))
+    return most
+
+
+def lengths():
+    sha, stored, table = specs("sha_crypt", "Limits"), specs("stored_check", "Limits"), {}
+    salt, rounds = number(sha, "salt_max_len"), len(f"rounds={number(sha, 'rounds_max')}$")
+    for bits, digest in ((256, 32), (512, 64)):
+        field = number(sha, f"pw_size_sha{bits}")
+        need(field == encoded(digest), "a hash field's length isn't that of the encoded digest")
+        table[f"SHA{bits}_DIGEST_SIZE"] = digest
+        table[f"SHA{bits}_FIELD_SIZE"] = field
+        table[f"SHA{bits}_TEXT_MAX"] = len("$5$") + rounds + salt + len("$") + field
+    inputs = specs("pwcheck_c", "Inputs")
+    table["SCRYPT_SALT_SIZE"] = int(re.search(r"\(length salt == ([0-9]+)\)", inputs).group(1))
+    table["SCRYPT_TEXT_MAX"] = (len("$scrypt$ln=,r=,p=$$") + digits_in_bounds() + encoded(table["SCRYPT_SALT_SIZE"])
+                                + encoded(32))
+    table["PASSWORD_MAX"] = number(stored, "password_max")
+    table["WORD_SIZE"] = longest_word() + 1
+    return table
+
+
+def versions():
+    """The version, which the definitions have, is that of the other files too."""
+    version = re.search(r'^version = codes "([0-9.]+)"$', specs("pwcheck_c", "Version"), re.M).group(1)
+    need(f'#define PWCHECK_VERSION "{version}"\n' in read("include", "pwcheck.h"), f"PWCHECK_VERSION isn't {version}")
+    need(f"PWCHECK_{version} {{" in read("bindings", "exports.map"), f"the version of symbols isn't {version}")
+    need(f'version = "{version}.0"' in read("bindings", "rust", "Cargo.toml"), f"Cargo.toml isn't {version}.0")
+    need(f"libpwcheck.so.{version}" in read("bindings", "library.py"), f"library.py doesn't tell of {version}")
+    return {"VERSION_MAJOR": int(version.split(".")[0]), "VERSION_MINOR": int(version.split(".")[1])}
+
+
+def header_numbers(header):
+    """Each enumerator and each #define that is a number."""
+    bare = re.sub(r"/\*.*?\*/", "", header, flags=re.S)
+    pairs = re.findall(r"^#define PWCHECK_([A-Z0-9_]+) (-?[0-9]+)$", bare, re.M)
+    pairs += re.findall(r"^ +PWCHECK_([A-Z0-9_]+) = (-?[0-9]+),?$", re.sub(r"[ \t]+$", "", bare, flags=re.M), re.M)
+    need(len(pairs) == len({name for name, _ in pairs}), "a name stands twice in the header")
+    need(len(re.findall(r"PWCHECK_[A-Z0-9_]+ = ", bare)) == bare.count(" = "), "an enumerator isn't read")
+    return {name: int(n) for name, n in pairs}
+
+
+def wanted_numbers():
+    return {**places(ANSWERS, entries(specs("pwcheck_c", "Numbers"), "answers")), **statuses(), **lengths(),
+            **places(ALPHABETS, entries(specs("pwcheck_c", "Coder"), "alphabets")), **versions()}
+
+
+def python_numbers():
+    """The numbers of the Python binding, under the names of the header."""
+    text, found = read("bindings", "python", "pwcheck.py"), {}
+    for names, values in re.findall(r"^([A-Z][A-Z0-9_, ]*) = ([0-9, ]+)$", text, re.M):
+        found.update(zip(names.split(", "), (int(value) for value in values.split(", "))))
+    found.update((name, int(n)) for name, n in re.findall(r"^    ([A-Z0-9_]+) = (-?[0-9]+)$", text, re.M))
+    return found
+
+
+def rust_numbers():
+    """The numbers of the Rust binding, by the same names: answers by their places, alphabets and lengths as written."""
+    text = read("bindings", "rust", "src", "lib.rs")
+    table = re.search(r"^pub const ANSWERS: .* = \[\n(.*?)^\];$", text, re.M | re.S).group(1)
+
+    def upper(name):
+        return {"NotUtf8": "NOT_UTF8", "PhcB64": "PHC_B64", "NotBase64": "NOT_BASE64", "ShaBase64": "SHA_BASE64"}.get(
+            name, re.sub(r"(?<!^)(?=[A-Z])", "_", name).upper())
+
+    found = {upper(name): place for place, name in enumerate(re.findall(r"Answer::([A-Za-z0-9]+),", table))}
+    found.update((upper(name), int(n)) for name, n in re.findall(r"^    (Base64\w*) = ([0-9]+),$", text, re.M))
+    found.update((upper(name), int(n)) for n, name in re.findall(r"^ +(-[0-9]) => Err\(Error::(\w+)\),$", text, re.M))
+    found.update((name, int(n)) for name, n in re.findall(r"^const ([A-Z0-9_]+): usize = ([0-9]+);$", text, re.M))
+    return found
+
+
+def bindings_agree(wanted):
+    """Each number of the bindings is that of the definitions; Python has all of them, Rust each answer and status."""
+    for name, found, own in [("Python", python_numbers(), set(wanted)),
+                             ("Rust", rust_numbers(), {n for n in wanted if not n.endswith(("_SIZE", "_MAX", "OR"))})]:
+        need(own - {"DONE"} <= set(found), f"{name} lacks {' '.join(sorted(own - set(found)))}")
+        other = sorted(n for n in found if found[n] != wanted.get(n))
+        need(not other, f"{name} has other numbers than the definitions: {' '.join(other)}")
+    print("numbers.py: the numbers of the Python and Rust bindings are those of the definitions")
+
+
+def differences(wanted, header):
+    """The names that the header has otherwise than the definitions."""
+    found = header_numbers(header)
+    return sorted(name for name in {*found, *wanted} if found.get(name) != wanted.get(name))
+
+
+def swapped(header, a, b):
+    """The header with the numbers of two names swapped."""
+    line = r"(PWCHECK_{}(?: =)? )(-?[0-9]+)\b"
+    first, second = (re.search(line.format(name), header).group(2) for name in (a, b))
+    header = re.sub(line.format(a), lambda m: m.group(1) + second, header, count=1)
+    return re.sub(line.format(b), lambda m: m.group(1) + first, header, count=1)
+
+
+def try_swaps(wanted, header):
+    names, tried = sorted(wanted), 0
+    for i, a in enumerate(names):
+        for b in names[:i]:
+            if wanted[a] != wanted[b]:
+                need(differences(wanted, swapped(header, a, b)) == sorted((a, b)), f"{a} and {b} can be swapped")
+                tried += 1
+    print(f"numbers.py: two numbers swapped in the header are found, {tried} of {tried} times")
+
+
+def main():
+    swaps = sys.argv[1:] == ["swaps"]
+    with open(HEADER if swaps or len(sys.argv) == 1 else sys.argv[1], encoding="utf-8") as source:
+        header = source.read()
+    wanted = wanted_numbers()
+    other = differences(wanted, header)
+    need(not other, f"the header has other numbers than the definitions: {' '.join(other)}")
+    print(f"numbers.py: {len(wanted)} numbers of the header are those of the definitions")
+    bindings_agree(wanted)
+    if swaps:
+        try_swaps(wanted, header)
+
+
+main()

@@ -1,0 +1,65 @@
+//! Each call once, on vectors of libxcrypt, RFC 7914, RFC 4648 and Python's hashlib.
+
+use super::*;
+
+// libxcrypt, `crypt("", "$6$rounds=1000$x$")`, and the same with 5.
+const TEXT_512: &str = concat!(
+    "$6$rounds=1000$x$JUgHESfT/mKR2X.Qz/PrkEgBINN.wbH/GsJhhFRcgrb0",
+    "a4MjVYFixxXtKicccBbv9PSG/n1kVdpVqZiR7Brv1."
+);
+const TEXT_256: &str = "$5$rounds=1000$x$kIBhdUvT3pHpfTjzR8s1XJu3y/HRJeFxMSffBtF8jx9";
+
+// `hashlib.scrypt(b"password", salt=.., n=16, r=8, p=1, dklen=32)`.
+const TEXT_SCRYPT: &str = "$scrypt$ln=4,r=8,p=1$aM15713r3Xsvxbi31lqr1Q$tRLzw8Z7aDjv6nXXg/DyMg+8Gut1P9TnqajTcpzrqmM";
+const SALT: &[u8; 16] = b"\x68\xcd\x79\xef\x5d\xeb\xdd\x7b\x2f\xc5\xb8\xb7\xd6\x5a\xab\xd5";
+const COST: Cost = Cost { ln: 4, r: 8, p: 1 };
+
+#[test]
+fn verdicts() {
+    assert_eq!(check(b"", TEXT_512.as_bytes()), Answer::Match);
+    assert_eq!(check(b"a", TEXT_512.as_bytes()).word(), "mismatch");
+    assert_eq!(sha256_check(b"", TEXT_256.as_bytes()), Answer::Match);
+    assert_eq!(sha512_check(b"", TEXT_256.as_bytes()), Answer::ShaIdentifier);
+    assert_eq!(check(&[b'a'; 4_097], TEXT_256.as_bytes()), Answer::PasswordTooLong);
+    assert_eq!(check_limited(b"", TEXT_512.as_bytes(), 999, 0), Answer::OverCost);
+    assert_eq!(check_limited(b"", TEXT_512.as_bytes(), 1_000, 0), Answer::Match);
+    assert_eq!(check_limited(b"password", TEXT_SCRYPT.as_bytes(), 0, 16_383), Answer::OverCost);
+    assert_eq!(check_limited(b"password", TEXT_SCRYPT.as_bytes(), 0, 16_384), Answer::Match);
+}
+
+#[test]
+fn answers() {
+    for (number, answer) in ANSWERS.iter().enumerate() {
+        assert_eq!(answer.number(), number as i32);
+        assert!(!answer.word().is_empty());
+    }
+    assert_eq!(Answer::of(99), Answer::Unknown(99));
+    assert_eq!(Answer::of(99).word(), "");
+    assert_eq!(version(), "1.0");
+}
+
+#[test]
+fn made() {
+    assert_eq!(sha512_text("", b"x", 1_000).as_deref(), Ok(TEXT_512));
+    assert_eq!(sha256_text("", b"x", 1_000).as_deref(), Ok(TEXT_256));
+    assert_eq!(sha256_text("", b"$", 1_000), Err(Error::OutOfRange));
+    assert_eq!(sha256_field(b"", b"x", 1_000).as_deref(), Ok(&TEXT_256[17..]));
+    assert_eq!(sha512_field(b"", b"x", 1_000).as_deref(), Ok(&TEXT_512[17..]));
+    assert_eq!(sha256_digest(b"", b"x", 1_000).map(|d| d[..4].to_vec()), Ok(b"\xb4\xb8\x45\xfe".to_vec()));
+    assert_eq!(sha512_digest(b"", b"x", 1_000).map(|d| d[..4].to_vec()), Ok(b"\x4e\x90\x6c\x70".to_vec()));
+    assert_eq!(sha512_digest(b"", b"x", 999), Err(Error::OutOfRange));
+    assert_eq!(scrypt_text("password", SALT, COST).as_deref(), Ok(TEXT_SCRYPT));
+    assert_eq!(scrypt_text("password", SALT, Cost { ln: 0, ..COST }), Err(Error::OutOfRange));
+    let mut key = [0; 64];
+    assert_eq!(scrypt(b"", b"", Cost { ln: 4, r: 1, p: 1 }, &mut key), Ok(()));
+    assert_eq!(key[..4], *b"\x77\xd6\x57\x62");
+}
+
+#[test]
+fn coder() {
+    assert_eq!(base64_encode(Alphabet::Base64, b"fo").as_deref(), Ok("Zm8="));
+    assert_eq!(base64_encode(Alphabet::Base64Unpadded, b"fo").as_deref(), Ok("Zm8"));
+    assert_eq!(base64_decode(Alphabet::Base64, b"Zm9v").as_deref(), Ok(b"foo".as_slice()));
+    assert_eq!(base64_decode(Alphabet::Base64, b"Zm9"), Err(Error::NotBase64));
+    assert!(same_bytes(b"ab", b"ab") && !same_bytes(b"ab", b"ac"));
+}

@@ -1,0 +1,215 @@
+/* Calls each export of libpwcheck with passwords of 0 to 5,000 bytes of all values, each buffer of its exact size on
+ * the heap, to be built with -fsanitize=address,undefined. Each answer is compared with what the header says; the first
+ * that differs ends the program with 1.
+ */
+#include <pwcheck.h>
+#include <stdio.h>
+#include <stdlib.h>
+#include <string.h>
+
+static unsigned long calls;
+
+#define NEED(condition)                                                            \
+    do {                                                                           \
+        calls++;                                                                   \
+        if (!(condition)) {                                                        \
+            fprintf(stderr, "c_calls: line %d: %s\n", __LINE__, #condition);       \
+            exit(1);                                                               \
+        }                                                                          \
+    } while (0)
+
+static void *room(size_t n)
+{
+    void *p = malloc(n ? n : 1);
+    if (!p) exit(2);
+    return n ? p : (char *)p + 1; /* one byte behind: none of a buffer of 0 bytes may be touched */
+}
+
+static void give_back(void *p, size_t n) { free(n ? p : (char *)p - 1); }
+
+static uint8_t *copy(const char *text, size_t n)
+{
+    uint8_t *p = room(n);
+    memcpy(p, text, n);
+    return p;
+}
+
+/* A stored text, and what each check answers a password that is UTF-8, not too long, and isn't its own. The first two
+ * texts are those of the empty password. */
+struct row {
+    const char *text;
+    int any, sha256, sha512;
+};
+
+static const struct row ROWS[] = {
+    {"$5$rounds=1000$x$kIBhdUvT3pHpfTjzR8s1XJu3y/HRJeFxMSffBtF8jx9", 1, 1, 9},
+    {"$6$rounds=1000$x$JUgHESfT/mKR2X.Qz/PrkEgBINN.wbH/GsJhhFRcgrb0"
+     "a4MjVYFixxXtKicccBbv9PSG/n1kVdpVqZiR7Brv1.", 1, 9, 1},
+    {"$scrypt$ln=4,r=8,p=1$aM15713r3Xsvxbi31lqr1Q$tRLzw8Z7aDjv6nXXg/DyMg+8Gut1P9TnqajTcpzrqmM", 1, 9, 9},
+    {"$5$rounds=999999999$x$y", 17, 17, 9},
+    {"$5$rounds=999$x$y", 15, 15, 9},
+    {"$5", 10, 10, 9},
+    {"$", 5, 9, 9},
+    {"", 5, 9, 9},
+};
+
+enum { TEXT = 1, NO_TEXT = 0, OF_EMPTY = 2 };
+
+/* What a check answers: UTF-8 first, then the length, then what the row says. */
+static int wanted(size_t row, int is_text, size_t n, int other)
+{
+    if (!is_text) return PWCHECK_NOT_UTF8;
+    if (n > PWCHECK_PASSWORD_MAX) return PWCHECK_PASSWORD_TOO_LONG;
+    return row < OF_EMPTY && !n && other == PWCHECK_MISMATCH ? PWCHECK_MATCH : other;
+}
+
+/* All checks of a password. `costly` rows, whose digest is computed, are tried where `all` says so. */
+static void check_all(const uint8_t *password, size_t n, int is_text, int all)
+{
+    for (size_t i = 0; i < sizeof ROWS / sizeof *ROWS; i++) {
+        const struct row *row = &ROWS[i];
+        size_t m = strlen(row->text);
+        uint8_t *stored = copy(row->text, m);
+        int computes = row->any == PWCHECK_MISMATCH && is_text && n <= PWCHECK_PASSWORD_MAX;
+        if (!computes || all) {
+            NEED(pwcheck_check(password, n, stored, m) == wanted(i, is_text, n, row->any));
+            NEED(pwcheck_sha256_check(password, n, stored, m) == wanted(i, is_text, n, row->sha256));
+            NEED(pwcheck_sha512_check(password, n, stored, m) == wanted(i, is_text, n, row->sha512));
+        }
+        NEED(pwcheck_check_limited(password, n, stored, m, 0, 0)
+             == (computes ? PWCHECK_OVER_COST : wanted(i, is_text, n, row->any)));
+        give_back(stored, m);
+    }
+}
+
+/* A text that is made: its length, no byte past it, and the checks that match it. */
+static void made(const uint8_t *password, size_t n, const uint8_t *text, size_t len)
+{
+    uint8_t *exact = copy((const char *)text, len);
+    NEED(pwcheck_check(password, n, exact, len) == PWCHECK_MATCH);
+    give_back(exact, len);
+}
+
+static void make_sha(const uint8_t *password, size_t n, int is_text)
+{
+    int good = is_text && n <= PWCHECK_PASSWORD_MAX;
+    uint8_t *salt = copy("./aZ0123456789xy", 16), *out = room(PWCHECK_SHA512_TEXT_MAX);
+    size_t len = 77;
+    memset(out, 'x', PWCHECK_SHA512_TEXT_MAX);
+    int status = pwcheck_sha256_crypt_text(password, n, salt, 16, 1000, out, PWCHECK_SHA256_TEXT_MAX, &len);
+    NEED(status == (good ? PWCHECK_DONE : PWCHECK_OUT_OF_RANGE) && (good || (len == 77 && out[0] == 'x')));
+    if (good) made(password, n, out, len);
+    status = pwcheck_sha512_crypt_text(password, n, salt, 16, 1000, out, PWCHECK_SHA512_TEXT_MAX, &len);
+    NEED(status == (good ? PWCHECK_DONE : PWCHECK_OUT_OF_RANGE));
+    if (good) made(password, n, out, len);
+    give_back(out, PWCHECK_SHA512_TEXT_MAX);
+    give_back(salt, 16);
+}
+
+static void make_scrypt(const uint8_t *password, size_t n, int is_text)
+{
+    int good = is_text && n <= PWCHECK_PASSWORD_MAX;
+    uint8_t *salt = copy("\0\1\2\3\4\5\6\7\x80\xff\x81\xfe\n\r\t ", 16), *out = room(PWCHECK_SCRYPT_TEXT_MAX);
+    size_t len = 77;
+    int status = pwcheck_scrypt_text(password, n, salt, 16, 1, 1, 1, out, PWCHECK_SCRYPT_TEXT_MAX, &len);
+    NEED(status == (good ? PWCHECK_DONE : PWCHECK_OUT_OF_RANGE) && (good || len == 77));
+    if (good) {
+        uint8_t *tight = room(len), *short_of = room(len - 1);
+        size_t again = 77;
+        made(password, n, out, len);
+        status = pwcheck_scrypt_text(password, n, salt, 16, 1, 1, 1, short_of, len - 1, &again);
+        NEED(status == PWCHECK_NO_ROOM && again == 77);
+        status = pwcheck_scrypt_text(password, n, salt, 16, 1, 1, 1, tight, len, &again);
+        NEED(status == PWCHECK_DONE && again == len);
+        NEED(!memcmp(tight, out, len));
+        give_back(tight, len);
+        give_back(short_of, len - 1);
+    }
+    give_back(out, PWCHECK_SCRYPT_TEXT_MAX);
+    give_back(salt, 16);
+}
+
+/* Digests and fields, which take passwords of any bytes. */
+static void digests(const uint8_t *password, size_t n)
+{
+    int status = n <= PWCHECK_PASSWORD_MAX ? PWCHECK_DONE : PWCHECK_OUT_OF_RANGE;
+    uint8_t *d256 = room(32), *d512 = room(64), *f256 = room(43), *f512 = room(86), *salt = room(0);
+    NEED(pwcheck_sha256_crypt(password, n, salt, 0, 1000, d256, 32) == status);
+    NEED(pwcheck_sha512_crypt(password, n, salt, 0, 1000, d512, 64) == status);
+    NEED(pwcheck_sha256_crypt_b64(password, n, salt, 0, 1000, f256, 43) == status);
+    NEED(pwcheck_sha512_crypt_b64(password, n, salt, 0, 1000, f512, 86) == status);
+    give_back(d256, 32);
+    give_back(d512, 64);
+    give_back(f256, 43);
+    give_back(f512, 86);
+    give_back(salt, 0);
+}
+
+/* Base64 there and back in each alphabet, and a comparison. */
+static void coder(const uint8_t *data, size_t n)
+{
+    for (uint32_t alphabet = 0; alphabet < 8; alphabet++) {
+        size_t m = pwcheck_base64_encoded_len(alphabet, n), len = 0, back = 0;
+        uint8_t *text = room(m), *again = room(n);
+        NEED(pwcheck_base64_encode(alphabet, data, n, text, m, &len) == PWCHECK_DONE && len == m);
+        NEED(pwcheck_base64_decoded_len(alphabet, text, m) == n);
+        NEED(pwcheck_base64_decode(alphabet, text, m, again, n, &back) == PWCHECK_DONE && back == n);
+        NEED(pwcheck_same_bytes(data, n, again, n) && !memcmp(data, again, n));
+        if (m) NEED(pwcheck_base64_encode(alphabet, data, n, text, m - 1, &len) == PWCHECK_NO_ROOM);
+        give_back(text, m);
+        give_back(again, n);
+    }
+}
+
+static void keys(const uint8_t *password, size_t n)
+{
+    uint8_t *key = room(64);
+    NEED(pwcheck_scrypt(password, n, password, n, 1, 1, 1, key, 64) == PWCHECK_DONE);
+    NEED(pwcheck_scrypt(password, n, password, n, 1, 1, 1, key, 0) == PWCHECK_OUT_OF_RANGE);
+    give_back(key, 64);
+}
+
+/* Bytes of all values, or of those of ASCII: only the second are UTF-8, but for the empty text. */
+static void fill(uint8_t *password, size_t n, int is_text)
+{
+    for (size_t i = 0; i < n; i++) password[i] = (uint8_t)((i * 7 + n) % (is_text ? 128 : 256));
+    if (!is_text && n) password[n / 2] = 0xff;
+}
+
+static void words(void)
+{
+    for (int32_t k = -5; k < 40; k++)
+        for (size_t n = 0; n <= PWCHECK_WORD_SIZE; n++) {
+            uint8_t *out = room(n);
+            size_t len = pwcheck_word(k, out, n);
+            NEED(len < PWCHECK_WORD_SIZE && (len > 0) == (k >= 0 && k <= PWCHECK_OVER_COST));
+            if (len && len < n) NEED(strlen((char *)out) == len);
+            give_back(out, n);
+        }
+    uint8_t *out = room(sizeof PWCHECK_VERSION);
+    NEED(pwcheck_version(out, sizeof PWCHECK_VERSION) == sizeof PWCHECK_VERSION - 1);
+    NEED(!strcmp((char *)out, PWCHECK_VERSION));
+    give_back(out, sizeof PWCHECK_VERSION);
+}
+
+int main(void)
+{
+    words();
+    for (size_t n = 0; n <= 5000; n++)
+        for (int is_text = NO_TEXT; is_text <= TEXT; is_text++) {
+            uint8_t *password = room(n);
+            fill(password, n, is_text);
+            int text = is_text || !n;
+            /* A digest of a long password takes long: each length up to 200, those about bounds, and each 331st. */
+            int all = n <= 200 || n % 331 == 0 || (n >= 4095 && n <= 4097);
+            check_all(password, n, text, all);
+            if (all || !text || n > PWCHECK_PASSWORD_MAX) make_sha(password, n, text);
+            make_scrypt(password, n, text);
+            if (all || n > PWCHECK_PASSWORD_MAX) digests(password, n);
+            if (n <= 300 || n % 97 == 0) coder(password, n);
+            keys(password, n);
+            give_back(password, n);
+        }
+    printf("c_calls: %lu answers of calls with passwords of 0 to 5,000 bytes are those of the header\n", calls);
+    return fflush(stdout) == EOF;
+}

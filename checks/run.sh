@@ -1,0 +1,24 @@
+#!/usr/bin/env bash
+# The repository's own checks, behind the prover's. Each ends with a status that isn't 0 where it finds a fault.
+#
+#     checks/run.sh quick    the numbers of the header and of the bindings, in a second, without any build: for each push
+#     checks/run.sh          that, and the C library, its callers, a run under sanitizers, the installation
+#
+# The second needs gcc, binutils and pkg-config, and builds the library and the programs by rt, which proves what no
+# check in this clone has proved. It is for releases and for changes of pwcheck_c, bindings, include or install.sh.
+set -eu
+cd "$(dirname "$0")/.."
+export PYTHONDONTWRITEBYTECODE=1
+python3 bindings/numbers.py swaps
+[ "${1:-}" = quick ] && exit 0
+work=$(mktemp -d)
+trap 'rm -rf "$work"' EXIT
+python3 bindings/library.py "$work/lib"
+python3 checks/exports.py "$work/lib"
+python3 bindings/try.py "$work/try"
+gcc -std=c99 -g -O1 -Wall -Wextra -Werror -fsanitize=address,undefined -fno-sanitize-recover=all \
+  -I "$work/lib/include" checks/c_calls.c "$work/lib/lib/libpwcheck.a" -o "$work/c_calls"
+"$work/c_calls"
+# The programs are built once; the prefixes take what is built.
+./install.sh "$work/first" >&2
+PWCHECK_AS_BUILT=1 checks/prefixes.sh "$work/prefixes"
