@@ -1,6 +1,6 @@
 -- Outside vectors, computed by the definitions: a wrong constant, order or step in one doesn't check. A whole tag passes the
 -- prover's limit of steps for one declaration; the tests run those of RFC 9106, section 5.
-use Rattle.std.proofs.Common.{◌≡◌, [], ◌∷◌, codes, refl, replicate, take}
+use Rattle.std.proofs.Common.{◌≡◌, [], ◌∷◌, refl, replicate, take}
 use Rattle.blake2b.specs.Words.{words}
 use Rattle.blake2b.specs.Blake2b.{blake2b, compress, half_mix, hash_after, mix, round, rounds}
 use Rattle.argon2_plain.specs.declared.variant.Variant.TheVariants.{D, I}

@@ -1,6 +1,6 @@
 -- How long hashes and tags are: proofs, which specs/KeyLength needs. No public clause names these words.
 use Rattle.std.proofs.Common.{◌≡◌, ℕ, zero, suc, ◌+◌, ◌-◌, ◌*◌, ◌/◌, ◌≤◌, ◌<◌, Bool, true, false, nat_le, cond, List, [], ◌++◌, length}
-use Rattle.std.proofs.Common.{take, refl, sym, ap, ◌∙◌, arith}
+use Rattle.std.proofs.Common.{take, refl, ◌∙◌, arith}
 use Rattle.std.proofs.lemmas.List.{length-append, length-take-le}
 use Rattle.std.proofs.lemmas.Bool.Decides.{nat_tests}
 use Rattle.blake2b.specs.Lengths.{length-blake2b}

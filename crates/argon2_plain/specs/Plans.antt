@@ -1,5 +1,5 @@
 -- Which plans and places the body takes; no public clause names these words.
-use Rattle.std.specs.Prelude.{ℕ, ◌+◌, ◌*◌, ◌^◌, ◌<◌, ◌≤◌, nat_lt, cond}
+use Rattle.std.specs.Prelude.{ℕ, ◌*◌, ◌^◌, ◌<◌, ◌≤◌, nat_lt, cond}
 use Rattle.argon2_plain.specs.declared.fill.Plan.{Plan}
 use Rattle.argon2_plain.specs.declared.fill.Place.{Place}
 

@@ -1,5 +1,5 @@
 -- The PHC records for which Argon2 derives a key (a profile of this crate's own), and that key.
-use Rattle.std.specs.Prelude.{ℕ, Bool, true, false, cond, ◌&&◌, List, [], nat_eq, nat_le, ◌==◌, length}
+use Rattle.std.specs.Prelude.{ℕ, Bool, false, cond, ◌&&◌, List, [], nat_eq, nat_le, ◌==◌, length}
 use Rattle.std.specs.Prelude.{replicate, Option, Some, None, codes}
 use Rattle.std.specs.Option.{option_and_then}
 use Rattle.std.specs.Cmp.Lexicographic.{pointwise}
