@@ -50,9 +50,7 @@ REASONS = {
     "utf8_place": (Reason("A", r"pwcheck_c::check::text_of", 8, "where bytes aren't ASCII"), OWN),
     "cuts": (Reason("J", r"pieces::.*|core::iter::words::find_ascii|sha_crypt::fields::(from_salt|text_parts)", 4,
                     "where the stored text has a `$`"), BOTH),
-    "taken": (Reason("J", r"pwcheck_c::(sha_text|scrypt_text)::.*|pwcheck_(sha(256|512)_crypt|scrypt)_text", 1,
-                     "whether the password is UTF-8"), BOTH),
-    "grammar": (Reason("J", r"pwcheck_check(_limited)?|pwcheck_c::(check|cost)::.*|mcf::.*", 12,
+    "grammar": (Reason("J", r"pwcheck_check(_limited)?|pwcheck_c::(check|cost)::.*|(mcf|phc)::.*", 12,
                        "the grammar of stored texts"), BOTH),
     "verdict": (Reason("J", r"stored_check::names::sha_verdict|pwcheck_check(_limited)?|pwcheck_c::(sha_)?check::.*"
                        r"|pwcheck_sha(256|512)_check", 3,
@@ -85,9 +83,9 @@ def cases():
         for what in ["sha256", "sha512", "field256", "field512"]:
             yield [what, password], ["copies"]
         for what in ["text256", "text512"]:
-            yield [what, password], ["copies", "utf8", "utf8_place", "taken"]
+            yield [what, password], ["copies", "utf8", "utf8_place"]
         yield ["scrypt", password], ["rows"]
-        yield ["scrypt_text", password], ["rows", "utf8", "utf8_place", "taken"]
+        yield ["scrypt_text", password], ["rows", "utf8", "utf8_place"]
     for what, password, stored in CHECKS:
         yield [what, "password", password, stored], ["utf8", "utf8_place", "copies", "verdict"]
         yield [what, "hash", password, stored], ["utf8", "utf8_place", "cuts", "grammar", "counted", "verdict"]
