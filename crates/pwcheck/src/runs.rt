@@ -52,7 +52,7 @@ pub fn run_over<R: Abort>(
     devices: Devices<'_>,
     output: &[u8],
 ) -> u8 {
-    assert!(rt; devices.read >= 1);
+    assert!(rt; devices.read >= 1 && devices.write >= 1);
     let mut room = [0u8; 1_024];
     let mut source = MemorySource::new(input, devices.read, devices.bad_reads);
     let mut sink = MemorySink::new(&mut room, devices.write, devices.bad_writes);
