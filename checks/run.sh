@@ -1,7 +1,8 @@
 #!/usr/bin/env bash
 # The repository's own checks, behind the prover's. Each ends with a status that isn't 0 where it finds a fault.
 #
-#     checks/run.sh quick    the numbers of the header and of the bindings, in a second, without any build: for each push
+#     checks/run.sh quick    the numbers of the header and of the bindings, and what the pages name, in a second, without
+#                            any build: for each push
 #     checks/run.sh          that, and the C library, its callers, a run under sanitizers, the installation
 #
 # The second needs gcc, binutils and pkg-config, and builds the library and the programs by rt, which proves what no
@@ -10,6 +11,7 @@ set -eu
 cd "$(dirname "$0")/.."
 export PYTHONDONTWRITEBYTECODE=1
 python3 bindings/numbers.py swaps
+python3 checks/pages.py
 [ "${1:-}" = quick ] && exit 0
 work=$(mktemp -d)
 trap 'rm -rf "$work"' EXIT
