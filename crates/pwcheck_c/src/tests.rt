@@ -226,37 +226,19 @@ fn texts(rt: HostRuntime) {
 
 #[test]
 fn scrypt_texts(rt: HostRuntime) {
-    let mut out = [b'x'; 100];
+    let mut short = [b'x'; 86];
     let mut len = 99;
-    let size = TEXT_SCRYPT.len();
     assert!(rt;
-        pwcheck_scrypt_text(
-            rt.alloc(),
-            b"password",
-            SALT,
-            4,
-            8,
-            1,
-            &mut out[..size - 1],
-            &mut len
-        ) == NO_ROOM
+        pwcheck_scrypt_text(rt.alloc(), b"password", SALT, 4, 8, 1, &mut short, &mut len) == NO_ROOM
     );
-    assert!(rt; len == 99 && out[0] == b'x');
+    assert!(rt; len == 99 && short == [b'x'; 86]);
+    let mut out = [b'x'; 87];
     assert!(rt;
-        pwcheck_scrypt_text(
-            rt.alloc(),
-            b"password",
-            SALT,
-            4,
-            8,
-            1,
-            &mut out[..size],
-            &mut len
-        ) == DONE
+        pwcheck_scrypt_text(rt.alloc(), b"password", SALT, 4, 8, 1, &mut out, &mut len) == DONE
     );
-    assert_eq!(rt; len, size);
-    assert_eq!(rt; &out[..size], TEXT_SCRYPT);
-    assert!(rt; pwcheck_check(rt.alloc(), b"password", &out[..len]) == 0);
+    assert!(rt; len == 87);
+    assert_eq!(rt; out.as_slice(), TEXT_SCRYPT);
+    assert!(rt; pwcheck_check(rt.alloc(), b"password", &out) == 0);
     assert!(rt;
         pwcheck_scrypt_text(rt.alloc(), b"", &SALT[..15], 4, 8, 1, &mut out, &mut len)
             == OUT_OF_RANGE
@@ -270,7 +252,7 @@ fn scrypt_texts(rt: HostRuntime) {
     assert!(rt;
         pwcheck_scrypt_text(rt.alloc(), &LONG, SALT, 4, 8, 1, &mut out, &mut len) == OUT_OF_RANGE
     );
-    assert!(rt; len == size && out[0] == b'$');
+    assert!(rt; len == 87 && out[0] == b'$');
 }
 
 #[test]
