@@ -273,55 +273,65 @@ impl FieldText for Mute {
 }
 
 #[test]
-fn pushes(rt: HostRuntime) -> Result<(), AllocError> {
-    let alloc = rt.alloc();
-    let mut hash = PasswordHash::new(alloc, "$6$rounds=100000").expect(&rt, "a password hash");
-    hash.push_base64(
-        b"\x6a\x3f\x23\x79\x88\x12\x6f\x80\x95\x8f\xa2\x4b",
-        Base64::Crypt,
-    )
-    .expect(&rt, "memory");
+fn pushed_encodings(rt: HostRuntime) {
+    let mut hash = PasswordHash::new(rt.alloc(), "$6$rounds=100000").expect(&rt, "a password hash");
+    hash.push_base64(&SALT, Base64::Crypt).expect(&rt, "memory");
     assert_eq!(rt; hash.as_str(), "$6$rounds=100000$exn6tVc2j/MZD8uG");
     hash.push_base64(&HASH, Base64::Crypt).expect(&rt, "memory");
-    assert!(rt;
-        hash.as_password_hash_ref()
-            == PasswordHashRef::new(PARTS[3].0).expect(&rt, "a password hash")
-    );
+    assert_eq!(rt; hash.as_str(), PARTS[3].0);
     assert_eq!(rt; hash.id(), "6");
-    assert!(rt; hash.fields().next().is_some());
+    assert!(rt; hash.fields().next() == Field::new("rounds=100000").ok());
+}
 
-    let mut hash = PasswordHash::from_id(alloc, "6").expect(&rt, "a password hash");
-    assert!(rt; PasswordHash::from_id(alloc, "-a") == Err(Error::IdentifierInvalid));
-    assert!(rt; PasswordHash::new(alloc, "$6$") == Err(Error::DelimiterInvalid));
-    hash.push_displayable("rounds=100000").expect(&rt, "memory");
-    assert_eq!(rt; hash.as_str(), "$6$rounds=100000");
+#[test]
+fn refused_pushes(rt: HostRuntime) {
+    let alloc = rt.alloc();
+    assert!(rt; PasswordHash::from_id(alloc, "-a").err() == Some(Error::IdentifierInvalid));
+    assert!(rt; PasswordHash::new(alloc, "$6$").err() == Some(Error::DelimiterInvalid));
     let mut hash = PasswordHash::from_id(alloc, "6").expect(&rt, "a password hash");
     assert!(rt; hash.push_displayable("$$$") == Err(Error::EncodingInvalid));
     assert!(rt; hash.push_base64(b"", Base64::B64) == Err(Error::FieldInvalid));
     assert!(rt; hash.push_str("") == Err(Error::FieldInvalid));
     assert!(rt; hash.push_displayable(Mute) == Err(Error::DisplayFailed));
     assert_eq!(rt; hash.as_str(), "$6");
-    hash.push_displayable(100_000u32).expect(&rt, "memory");
-    assert_eq!(rt; hash.as_str(), "$6$100000");
-    hash.push_displayable('x').expect(&rt, "memory");
-    hash.push_displayable(255u8).expect(&rt, "memory");
-    hash.push_displayable(65_535u16).expect(&rt, "memory");
-    hash.push_displayable(0u64).expect(&rt, "memory");
-    hash.push_displayable(7usize).expect(&rt, "memory");
-    let field = Field::new("a").expect(&rt, "a field");
-    hash.push_displayable(field).expect(&rt, "memory");
-    hash.push_field(field).expect(&rt, "memory");
-    assert_eq!(rt; hash.as_str(), "$6$100000$x$255$65535$0$7$a$a");
+}
 
+// A value that is pushed behind `$6` as it prints.
+fn pushed_as<D: FieldText + Drop, R: Abort>(rt: &R, alloc: Global, value: D, text: &str) {
+    let mut hash = PasswordHash::from_id(alloc, "6").expect(rt, "a password hash");
+    hash.push_displayable(value).expect(rt, "memory");
+    assert!(rt; hash.as_str() == text);
+}
+
+#[test]
+fn pushed_values(rt: HostRuntime) {
+    let alloc = rt.alloc();
+    pushed_as(&rt, alloc, "rounds=100000", "$6$rounds=100000");
+    pushed_as(&rt, alloc, 100_000u32, "$6$100000");
+    pushed_as(&rt, alloc, 'x', "$6$x");
+    pushed_as(&rt, alloc, 255u8, "$6$255");
+    pushed_as(&rt, alloc, 65_535u16, "$6$65535");
+    pushed_as(&rt, alloc, 0u64, "$6$0");
+    pushed_as(&rt, alloc, 7usize, "$6$7");
+    pushed_as(&rt, alloc, Field::new("a").expect(&rt, "a field"), "$6$a");
+}
+
+#[test]
+fn copies_of_a_text(rt: HostRuntime) -> Result<(), AllocError> {
+    let alloc = rt.alloc();
+    let mut hash = PasswordHash::from_id(alloc, "6").expect(&rt, "a password hash");
+    hash.push_field(Field::new("a").expect(&rt, "a field"))
+        .expect(&rt, "memory");
+    hash.push_str("b").expect(&rt, "memory");
+    assert_eq!(rt; hash.as_str(), "$6$a$b");
     let copy = hash.try_clone()?;
     assert!(rt; copy == hash);
     let again = hash
         .as_password_hash_ref()
         .to_password_hash(alloc)
         .expect(&rt, "memory");
-    assert!(rt; again == hash);
     assert!(rt; again.cmp(&hash) == std::cmp::Ordering::Equal);
-    assert_eq!(rt; format!(in alloc; "{}", hash)?.as_str(), hash.as_str());
-    assert_eq!(rt; copy.into_string().as_str(), hash.as_str());
+    assert_eq!(rt; format!(in alloc; "{}", hash)?.as_str(), "$6$a$b");
+    assert_eq!(rt; copy.into_string().as_str(), "$6$a$b");
     Ok(())
 }

@@ -239,7 +239,7 @@ const BAD_OUTPUTS: [(&str, Error); 5] = [
 ];
 
 #[test]
-fn outputs(rt: HostRuntime) -> Result<(), AllocError> {
+fn refused_outputs(rt: HostRuntime) {
     for (text, fault) in BAD_OUTPUTS {
         assert!(rt; Output::decode(text) == Err(fault));
         assert!(rt; Output::b64_decode(text) == Err(fault));
@@ -247,25 +247,45 @@ fn outputs(rt: HostRuntime) -> Result<(), AllocError> {
     }
     assert!(rt; Output::new(&COUNTED[..9]) == Err(SHORT));
     assert!(rt; Output::new(&COUNTED) == Err(LONG));
+}
+
+// The text of the longest output is written at the front of 88 sevens; with room for 85 characters none is written.
+fn encoded_as(rt: &impl Abort, most: &Output) {
+    let mut short = [7; 85];
+    assert!(rt; most.encode(&mut short).is_err());
+    assert!(rt; short == [7; 85]);
+    let mut room = [7; 88];
+    assert!(rt; most.encode(&mut room) == Ok(COUNTED_TEXT));
+    assert!(rt; room.starts_with(COUNTED_TEXT.as_bytes()) && room.ends_with(&[7, 7]));
+}
+
+// The same by the older name.
+fn b64_encoded_as(rt: &impl Abort, most: &Output) {
+    let mut short = [7; 85];
+    let fault = most.b64_encode(&mut short).err();
+    assert!(rt; fault == Some(Error::Base64(base64ct::Error::InvalidLength)));
+    assert!(rt; short == [7; 85]);
+    let mut room = [7; 88];
+    assert!(rt; most.b64_encode(&mut room) == Ok(COUNTED_TEXT));
+    assert!(rt; room.starts_with(COUNTED_TEXT.as_bytes()) && room.ends_with(&[7, 7]));
+}
+
+#[test]
+fn outputs(rt: HostRuntime) -> Result<(), AllocError> {
     let ten = Output::new(&COUNTED[1..11]).expect(&rt, "an output");
     assert!(rt; Output::decode("AQIDBAUGBwgJCg") == Ok(ten));
     assert_eq!(rt; ten.len(), Output::MIN_LENGTH);
     let most = Output::new(&COUNTED[..64]).expect(&rt, "an output");
     assert!(rt; most.as_bytes() == &COUNTED[..Output::MAX_LENGTH]);
     assert!(rt; Output::decode(COUNTED_TEXT) == Ok(most));
+    assert_eq!(rt; Output::B64_MAX_LENGTH, 86);
     assert_eq!(rt; most.encoded_len(), Output::B64_MAX_LENGTH);
     assert_eq!(rt; most.b64_len(), Output::B64_MAX_LENGTH);
-    assert_eq!(rt; Output::B64_MAX_LENGTH, 86);
-    let mut room = [7; 88];
-    let no_room = Some(Error::Base64(base64ct::Error::InvalidLength));
-    assert!(rt; most.encode(&mut room[..85]).err() == no_room);
-    assert!(rt; most.b64_encode(&mut room[..85]).err() == no_room);
-    assert!(rt; room == [7; 88]);
-    assert!(rt; most.encode(&mut room) == Ok(COUNTED_TEXT));
-    assert!(rt; room.starts_with(COUNTED_TEXT.as_bytes()) && room.ends_with(&[7, 7]));
-    let mut room = [7; 88];
-    assert!(rt; most.b64_encode(&mut room) == Ok(COUNTED_TEXT));
-    assert!(rt; room.starts_with(COUNTED_TEXT.as_bytes()) && room.ends_with(&[7, 7]));
+    let mut short = [7; 85];
+    let fault = most.encode(&mut short).err();
+    assert!(rt; fault == Some(Error::Base64(base64ct::Error::InvalidLength)));
+    encoded_as(&rt, &most);
+    b64_encoded_as(&rt, &most);
     assert_eq!(rt; format!(in rt.alloc(); "{most}")?.as_str(), COUNTED_TEXT);
     assert!(rt; bool::from(ten.ct_eq(&ten)) && !bool::from(ten.ct_eq(&most)));
     let other = Output::new(&COUNTED[2..12]).expect(&rt, "an output");
