@@ -19,25 +19,48 @@ from building import HERE, built, need
 PROGRAM = """//! The tags of the rows that bench/argon2_tags.py drew.
 #![tactic(auto)]
 
+ghost use Rattle.std.specs.Prelude.{◌↔◌, ◌≤◌, IsTrue, length};
+
 use argon2_plain::{Params, Variant, argon2};
 use std::io;
 
-const ROWS: [(&[u8], &[u8], &[u8], &[u8], Params, usize); COUNT] = [
+struct Row {
+    password: &'static [u8],
+    salt: &'static [u8],
+    secret: &'static [u8],
+    associated: &'static [u8],
+    params: Params,
+    length: usize,
+}
+
+fn is_short(bytes: &[u8]) -> bool
+    ensures { IsTrue result ↔ (length bytes.now ≤ 400) }
+{
+    bytes.len() <= 400
+}
+
+fn print_tag(rt: &HostRuntime, row: &Row) -> io::Result<()> {
+    let params = row.params;
+    let length = row.length;
+    let short = is_short(row.password) && is_short(row.salt) && is_short(row.secret) && is_short(row.associated);
+    if !params.are_in_bounds() || !short || length < 4 || length > 400 {
+        println!(rt; "refused")?;
+        return Ok(());
+    }
+    let mut out = [0u8; 400];
+    argon2(rt.alloc(), params, row.password, row.salt, row.secret, row.associated, &mut out[..length])?;
+    for byte in &out[..length] {
+        print!(rt; "{byte:02x}")?;
+    }
+    println!(rt; "")
+}
+
+static ROWS: [Row; COUNT] = [
 ROWS];
 
 fn main(rt: HostRuntime) -> io::Result<()> {
-    for (password, salt, secret, associated, params, length) in ROWS {
-        let short = password.len() <= 400 && salt.len() <= 400 && secret.len() <= 400 && associated.len() <= 400;
-        if !params.are_in_bounds() || !short || length < 4 || length > 400 {
-            println!(rt; "refused")?;
-            continue;
-        }
-        let mut out = [0u8; 400];
-        argon2(rt.alloc(), params, password, salt, secret, associated, &mut out[..length])?;
-        for byte in &out[..length] {
-            print!(rt; "{byte:02x}")?;
-        }
-        println!(rt; "")?;
+    for row in &ROWS {
+        print_tag(&rt, row)?;
     }
     Ok(())
 }
@@ -69,9 +92,9 @@ def main():
     rows = [drawn(rng) for _ in range(count)]
     text = ""
     for variant, password, salt, secret, associated, passes, memory, lanes, length in rows:
-        text += (f"    ({literal(password)}, {literal(salt)}, {literal(secret)}, {literal(associated)}, "
-                 f"Params {{ variant: Variant::{('D', 'I', 'Id')[variant]}, passes: {passes}, memory: {memory}, "
-                 f"lanes: {lanes} }}, {length}),\n")
+        text += (f"    Row {{ password: {literal(password)}, salt: {literal(salt)}, secret: {literal(secret)}, "
+                 f"associated: {literal(associated)}, params: Params {{ variant: Variant::{('D', 'I', 'Id')[variant]}, "
+                 f"passes: {passes}, memory: {memory}, lanes: {lanes} }}, length: {length} }},\n")
     source = os.path.join(HERE, "out", "argon2_tags.txt")
     os.makedirs(os.path.dirname(source), exist_ok=True)
     with open(source, "w", encoding="utf-8") as file:
