@@ -1,0 +1,7 @@
+pub mod Rounds
+pub mod Steps
+mod FirstBytes
+mod Vectors
+pub mod Fields
+pub mod MadeTexts
+mod ReadTexts

@@ -1,0 +1,10 @@
+pub mod Blowfish
+pub mod Pi
+pub mod Schedule
+pub mod Bcrypt
+pub mod Field
+pub mod Text
+pub mod Check
+pub mod Made
+pub mod Views
+pub mod Laws

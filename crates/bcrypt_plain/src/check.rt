@@ -1,0 +1,87 @@
+//! The check of a password against a stored text.
+
+ghost use Rattle.std.specs.Prelude.{◌≡◌, ◌↔◌, ◌≤◌, ◌+◌, ◌^◌, Err, Ok, false, if◌then◌else◌, true};
+ghost use Rattle.bcrypt_plain.specs.Check.{bcrypt_answer, has_zero, is_verdict, parts_answer};
+ghost use Rattle.bcrypt_plain.specs.Made.{IsHashText};
+ghost use Rattle.bcrypt_plain.specs.Views.{as_parts};
+
+use crate::text::{BcryptParts, text_parts};
+use crate::{BcryptError, bcrypt};
+use base64ct::Counts;
+
+/// Whether a password has a zero byte.
+pub(crate) fn has_zero(password: &[u8]) -> bool
+    ensures { result ≡ has_zero password.now }
+{
+    password.contains(&0)
+}
+
+// The answer by whether the hash matches.
+fn answer_of(matches: bool) -> Result<(), BcryptError>
+    ensures answer { result ≡ (if matches then Ok tt else Err BcryptError.HashMismatch) }
+    ensures verdict { is_verdict result ≡ true }
+{
+    if matches {
+        Ok(())
+    } else {
+        Err(BcryptError::HashMismatch)
+    }
+}
+
+// Whether the hash is that of the password. The hashes are compared to their end.
+fn check_parts(password: &[u8], parts: BcryptParts, counts: &mut Counts) -> Result<(), BcryptError>
+    requires cost { parts.cost ≤ 31 }
+    requires sames { counts.old.sames ≤ 2 ^ 62 + 8 }
+    ensures answer { result ≡ parts_answer password.now (as_parts (Ok parts)) }
+    ensures looks { counts.new.looks ≡ counts.old.looks }
+    ensures sames { is_verdict result ≡ true → counts.new.sames ≡ counts.old.sames + 23 }
+    ensures sames_stay { counts.old.sames ≤ counts.new.sames }
+    ensures no_sames { is_verdict result ≡ false → counts.new.sames ≡ counts.old.sames }
+{
+    if has_zero(password) {
+        return Err(BcryptError::ZeroByte);
+    }
+    let hash = bcrypt(password, &parts.salt, parts.cost);
+    answer_of(bool::from(counts.same_bytes(&hash, &parts.hash)))
+}
+
+/// Checks a password against a bcrypt text `$2b$cost$salt-and-hash`, or one with `2a` or `2y` in place of `2b`.
+///
+/// Of the password the first 72 bytes count, as in each program that writes such texts. The work doubles with each step of
+/// the cost: 2^cost turns.
+///
+/// # Errors
+///
+/// The first fault of the text, in the order of [`BcryptFault`](crate::BcryptFault); then `ZeroByte` for a password that
+/// has one; and else `HashMismatch` for another password.
+pub fn bcrypt_check(password: &str, stored: &str) -> Result<(), BcryptError>
+    ensures answer { result ≡ bcrypt_answer password.now stored.now }
+    ensures passed { (result ≡ Ok tt) ↔ ((has_zero password.now ≡ false) × IsHashText password.now stored.now) }
+{
+    let mut counts = Counts::new();
+    bcrypt_check_counted(password, stored, &mut counts)
+}
+
+/// The same check. On a verdict it adds 56 look-ups of characters of the salt and the hash, and 31 comparisons to the
+/// counts; on a fault at most 56 and 8.
+#[tactic(auto, unfolding(crate::specs::Check::bcrypt_answer))]
+pub fn bcrypt_check_counted(
+    password: &str,
+    stored: &str,
+    counts: &mut Counts,
+) -> Result<(), BcryptError>
+    requires looks { counts.old.looks ≤ 2 ^ 62 }
+    requires sames { counts.old.sames ≤ 2 ^ 62 }
+    ensures answer { result ≡ bcrypt_answer password.now stored.now }
+    ensures looks { is_verdict result ≡ true → counts.new.looks ≡ counts.old.looks + 56 }
+    ensures sames { is_verdict result ≡ true → counts.new.sames ≡ counts.old.sames + 31 }
+    ensures looks_stay { counts.old.looks ≤ counts.new.looks }
+    ensures most_looks { counts.new.looks ≤ counts.old.looks + 56 }
+    ensures sames_stay { counts.old.sames ≤ counts.new.sames }
+    ensures most_sames { is_verdict result ≡ false → counts.new.sames ≤ counts.old.sames + 8 }
+{
+    match text_parts(stored, counts) {
+        Err(e) => Err(BcryptError::InvalidFormat(e)),
+        Ok(parts) => check_parts(password.as_bytes(), parts, counts),
+    }
+}

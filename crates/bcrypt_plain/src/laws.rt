@@ -1,0 +1,23 @@
+//! Laws over the definitions.
+
+ghost use Rattle.bcrypt_plain.specs.Laws.{FieldOnce, FirstBytesCount, MadeMatches, MatchesExactly};
+
+/// Of a password the first 72 bytes count.
+pub fn first_bytes_count()
+    ensures same { FirstBytesCount }
+{}
+
+/// Two salts, or two hashes, with one field are equal.
+pub fn field_once()
+    ensures one { FieldOnce }
+{}
+
+/// The text that is made of a password matches it.
+pub fn made_matches()
+    ensures matches { MadeMatches }
+{}
+
+/// A password passes the check of exactly the texts that are spelled as the one text of its hash for some cost and salt.
+pub fn matches_exactly()
+    ensures texts { MatchesExactly }
+{}
