@@ -47,8 +47,8 @@ fn check_parts(password: &[u8], parts: BcryptParts, counts: &mut Counts) -> Resu
 
 /// Checks a password against a bcrypt text `$2b$cost$salt-and-hash`, or one with `2a` or `2y` in place of `2b`.
 ///
-/// Of the password the first 72 bytes count, as in each program that writes such texts. The work doubles with each step of
-/// the cost: 2^cost turns.
+/// Of the password the first 72 bytes count, as in OpenBSD's bcrypt, libxcrypt, PHP and htpasswd. The work doubles with
+/// each step of the cost: 2^cost turns.
 ///
 /// # Errors
 ///

@@ -17,7 +17,8 @@ pub fn made_matches()
     ensures matches { MadeMatches }
 {}
 
-/// A password passes the check of exactly the texts that are spelled as the one text of its hash for some cost and salt.
+/// A password without a zero byte passes the check of exactly the texts of its hash, for each cost, salt and identifier
+/// one; a password with a zero byte passes none.
 pub fn matches_exactly()
     ensures texts { MatchesExactly }
 {}

@@ -2,12 +2,12 @@
 //! and `$2y$` beside them: hashes, texts made, and the check of a password against a text.
 //!
 //! The three versions mean the same here. `2a` is the name of OpenBSD's texts before release 5.5, whose length of a key
-//! was kept in one byte: of a password of 255 bytes or more that program took other bytes than the first 72, and only
+//! was kept in one byte: of some passwords of 255 bytes or more that program took fewer bytes than the first 72, and only
 //! texts of such passwords, made by it, get another verdict here. PHP and python-bcrypt read `2a` as it is read here, and
-//! so does libxcrypt but for passwords in which a byte of 255 stands before another above 127: no UTF-8 has one. `2b` is
-//! OpenBSD's name since, and `2y` the name that crypt_blowfish, PHP and Apache's htpasswd gave to texts that are not
-//! `2x`: those come from a program that took bytes above 127 as negative numbers. `2` is the first version, without the
-//! zero byte behind the password. Texts with `2` and `2x` get a refusal of their own.
+//! so does libxcrypt but for some passwords with a byte of 255, which no UTF-8 has. `2b` is OpenBSD's name since, and `2y`
+//! the name that crypt_blowfish, PHP and Apache's htpasswd gave to texts that are not `2x`: those come from a program that
+//! took bytes above 127 as negative numbers. `2` is the first version, without the zero byte behind the password. Texts
+//! with `2` and `2x` get a refusal of their own.
 //!
 //! Nothing here takes memory: the state of bcrypt, 4,168 bytes, is on the stack.
 #![tactic(auto)]

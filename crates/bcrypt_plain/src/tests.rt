@@ -265,7 +265,7 @@ const MISMATCHES: [(&str, &str); 6] = [
 ];
 
 // A stored text and its fault. Each has the faults that come later in the order as well, where it can.
-const FAULTS: [(&str, BcryptFault); 39] = [
+const FAULTS: [(&str, BcryptFault); 40] = [
     ("", BcryptFault::WrongId),
     ("x", BcryptFault::NoDollar),
     (
@@ -344,7 +344,11 @@ const FAULTS: [(&str, BcryptFault); 39] = [
         BcryptFault::Character,
     ),
     (
-        "$2b$05$abcdefghijklmnopqrstuu0oImNDIy4flhldV9YqunRgBAePKméé",
+        "$2b$05$abcdefghijklmnopqrstuu0oImNDIy4flhldV9YqunRgBAePKéé",
+        BcryptFault::Character,
+    ),
+    (
+        "$2b$05$abcdefghijklmnopqrstuéoImNDIy4flhldV9YqunRgBAePKmw7n",
         BcryptFault::Character,
     ),
     (
@@ -409,6 +413,14 @@ fn faults(rt: HostRuntime) {
         );
         assert!(rt; counts.looks() <= 56 && counts.sames() <= 8);
     }
+    // 2^31 turns would take days, so nothing was hashed.
+    assert_eq!(rt;
+        bcrypt_check(
+            "a\0b",
+            "$2b$31$abcdefghijklmnopqrstuu0oImNDIy4flhldV9YqunRgBAePKmw7m"
+        ),
+        Err(BcryptError::ZeroByte)
+    );
     let mut counts = Counts::new();
     assert_eq!(rt; bcrypt_check("a\0b", FIVE), Err(BcryptError::ZeroByte));
     assert_eq!(rt;
