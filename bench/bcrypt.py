@@ -23,7 +23,7 @@ from building import built, need
 PASSWORD = b"correct horse battery staple"
 SALT = b"0123456789abcdef"
 CHARACTERS = "./ABCDEFGHIJKLMNOPQRSTUVWXYZabcdefghijklmnopqrstuvwxyz0123456789"
-BATCHES = {5: (20, 4), 8: (12, 1), 10: (6, 1), 12: (2, 1)}
+BATCHES = {5: (60, 1), 8: (12, 1), 10: (6, 1), 12: (2, 1)}
 MODULE = """
 import sys, time, bcrypt
 cost, batches, runs = map(int, sys.argv[1:4])
