@@ -119,3 +119,14 @@ parts_of (Ok f) = by_cost (cost_of f.cost) f.rest
 -- the parts of a text, or its first fault
 unfoldable pub text_parts : List ℕ → Result Parts BcryptFault
 text_parts text = parts_of (text_fields text)
+
+-- ---- the cost of a text
+
+-- of its parts
+abbrev pub parts_cost : Result Parts BcryptFault → Result ℕ BcryptFault
+parts_cost (Err e) = Err e
+parts_cost (Ok p) = Ok p.cost
+
+-- the cost that a valid text names, or the first fault
+abbrev pub text_cost : List ℕ → Result ℕ BcryptFault
+text_cost text = parts_cost (text_parts text)

@@ -3,10 +3,11 @@
 ghost use Rattle.std.specs.Prelude.{◌≡◌, ◌↔◌, ◌≤◌, ◌+◌, ◌^◌, Err, Ok, false, if◌then◌else◌, true};
 ghost use Rattle.bcrypt_plain.specs.Check.{bcrypt_answer, has_zero, is_verdict, parts_answer};
 ghost use Rattle.bcrypt_plain.specs.Made.{IsHashText};
+ghost use Rattle.bcrypt_plain.specs.Text.{text_cost};
 ghost use Rattle.bcrypt_plain.specs.Views.{as_parts};
 
 use crate::text::{BcryptParts, text_parts};
-use crate::{BcryptError, bcrypt};
+use crate::{BcryptError, BcryptFault, bcrypt};
 use base64ct::Counts;
 
 /// Whether a password has a zero byte.
@@ -43,6 +44,20 @@ fn check_parts(password: &[u8], parts: BcryptParts, counts: &mut Counts) -> Resu
     }
     let hash = bcrypt(password, &parts.salt, parts.cost);
     answer_of(bool::from(counts.same_bytes(&hash, &parts.hash)))
+}
+
+/// The cost that a valid text names: 4 to 31, the binary logarithm of the number of turns. Nothing is hashed.
+///
+/// # Errors
+///
+/// The first fault of the text, in the order of [`BcryptFault`](crate::BcryptFault).
+pub fn text_cost(stored: &str) -> Result<u32, BcryptFault>
+    ensures cost { result ≡ text_cost stored.now }
+{
+    match text_parts(stored, &mut Counts::new()) {
+        Err(e) => Err(e),
+        Ok(parts) => Ok(parts.cost),
+    }
 }
 
 /// Checks a password against a bcrypt text `$2b$cost$salt-and-hash`, or one with `2a` or `2y` in place of `2b`.

@@ -26,7 +26,7 @@ mod tests;
 mod text;
 mod version;
 
-pub use check::{bcrypt_check, bcrypt_check_counted};
+pub use check::{bcrypt_check, bcrypt_check_counted, text_cost};
 pub use digest::bcrypt;
 pub use error::{BcryptError, BcryptFault, MakeFault};
 pub use field::{decode_hash, decode_salt, encode_hash, encode_salt};

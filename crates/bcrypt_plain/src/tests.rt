@@ -5,7 +5,7 @@ ghost use Rattle.std.specs.Prelude.{◌≡◌, ◌≤◌, length};
 
 use crate::{
     BcryptError, BcryptFault, MakeFault, bcrypt, bcrypt_check, bcrypt_check_counted, bcrypt_simple,
-    bcrypt_text, decode_hash, decode_salt, encode_hash, encode_salt, laws,
+    bcrypt_text, decode_hash, decode_salt, encode_hash, encode_salt, laws, text_cost,
 };
 use base64ct::Counts;
 use rand_chacha::ChaCha20Rng;
@@ -411,9 +411,15 @@ fn faults(rt: HostRuntime) {
             Err(BcryptError::InvalidFormat(fault)),
             "{stored:?}"
         );
+        assert_eq!(rt; text_cost(stored), Err(fault), "{stored:?}");
         assert!(rt; counts.looks() <= 56 && counts.sames() <= 8);
     }
+    assert_eq!(rt; text_cost(FIVE), Ok(5));
     // 2^31 turns would take days, so nothing was hashed.
+    assert_eq!(rt;
+        text_cost("$2a$31$abcdefghijklmnopqrstuu0oImNDIy4flhldV9YqunRgBAePKmw7m"),
+        Ok(31)
+    );
     assert_eq!(rt;
         bcrypt_check(
             "a\0b",
