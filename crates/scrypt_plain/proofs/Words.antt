@@ -5,7 +5,7 @@ use Rattle.std.specs.Int.{w32, to_le_bytes}
 use Rattle.std.specs.Simd.Lanes.{zip2, Each1}
 use Rattle.std.proofs.lemmas.Nat.{from_le_bytes-to_le_bytes_4, xor_shr, xor_mod}
 use Rattle.scrypt_plain.specs.Bytes.{bytes, words, xor_bytes}
-use Rattle.scrypt_plain.specs.Scrypt.{salsa20_8, salsa20_8_words, double_rounds, row_round, column_round}
+use Rattle.scrypt_plain.specs.Scrypt.{salsa20_8, salsa20_8_words, salsa20_2, salsa20_2_words, double_rounds, row_round, column_round}
 
 pub words-bytes : (ws : List ℕ) → Each1 (λ w. w < 2 ^ 32) ws → words (bytes ws) ≡ ws
 words-bytes [] h = refl
@@ -27,6 +27,10 @@ xor-bytes (x ∷ xs) (y ∷ ys) = ap₂ ◌++◌ (xor_word x y) (xor-bytes xs ys
 pub salsa20_8-bytes : (ws : List ℕ) → Each1 (λ w. w < 2 ^ 32) ws → salsa20_8 (bytes ws) ≡ bytes (salsa20_8_words ws)
 unfolding salsa20_8
 salsa20_8-bytes ws h = ap (λ (z : List ℕ). bytes (salsa20_8_words z)) (words-bytes ws h)
+
+pub salsa20_2-bytes : (ws : List ℕ) → Each1 (λ w. w < 2 ^ 32) ws → salsa20_2 (bytes ws) ≡ bytes (salsa20_2_words ws)
+unfolding salsa20_2
+salsa20_2-bytes ws h = ap (λ (z : List ℕ). bytes (salsa20_2_words z)) (words-bytes ws h)
 
 -- a double round more
 pub double_rounds_none : (x : List ℕ) → double_rounds 0 x ≡ x

@@ -46,6 +46,14 @@ salsa20_8_words x = zip2 add32 (double_rounds 4 x) x
 unfoldable pub salsa20_8 : List ℕ → List ℕ
 salsa20_8 b = bytes (salsa20_8_words (words b))
 
+-- two rounds, and then the sums with the words at the start
+unfoldable pub salsa20_2_words : List ℕ → List ℕ
+salsa20_2_words x = zip2 add32 (double_rounds 1 x) x
+
+-- Salsa20/2 of 64 bytes, which yescrypt has beside Salsa20/8
+unfoldable pub salsa20_2 : List ℕ → List ℕ
+salsa20_2 b = bytes (salsa20_2_words (words b))
+
 -- ---- section 4: scryptBlockMix, on 2 * r blocks B[0] to B[2 * r - 1] of 64 bytes
 
 -- B[i]

@@ -8,7 +8,7 @@ ghost use Rattle.scrypt_plain.specs.Layout.{row_bytes};
 use crate::salsa;
 
 /// scryptBlockMix of a row into the next.
-pub(crate) fn block_mix(row: &[u32], next: &mut [u32], r: usize)
+pub fn block_mix(row: &[u32], next: &mut [u32], r: usize)
     requires some_blocks { 1 ≤ r }
     requires row { length row.now ≡ 32 * r }
     requires next { length next.old ≡ 32 * r }

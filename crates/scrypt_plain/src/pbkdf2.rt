@@ -32,8 +32,8 @@ fn put_words(digest: &[u8; 32], out: &mut [u32])
     }
 }
 
-// Four bytes of each word, lowest byte first.
-fn le_bytes(words: &[u32]) -> [u8; 64]
+/// Four bytes of each word, lowest byte first.
+pub fn le_bytes(words: &[u32]) -> [u8; 64]
     requires { length words.now ≡ 16 }
     ensures { result ≡ bytes words.now }
 {
@@ -45,7 +45,7 @@ fn le_bytes(words: &[u32]) -> [u8; 64]
 }
 
 /// Fills `out`, read as bytes, with PBKDF2 of the password and the salt.
-pub(crate) fn derive_words(password: &[u8], salt: &[u8], out: &mut [u32])
+pub fn derive_words(password: &[u8], salt: &[u8], out: &mut [u32])
     requires whole_blocks { length out.old % 8 ≡ 0 }
     requires counted { length out.old < 2 ^ 24 }
     ensures { bytes out.new ≡ pbkdf2_once password.now salt.now (4 * length out.old) }
@@ -71,7 +71,7 @@ fn salted_by_words(password: &[u8], words: &[u32]) -> HmacSha256
 }
 
 /// Fills `out` with PBKDF2 of the password, and of the words, read as bytes, as the salt.
-pub(crate) fn derive_bytes(password: &[u8], words: &[u32], out: &mut [u8])
+pub fn derive_bytes(password: &[u8], words: &[u32], out: &mut [u8])
     requires whole_blocks { length words.now % 16 ≡ 0 }
     requires counted { length out.old < 2 ^ 24 }
     ensures { out.new ≡ pbkdf2_once password.now (bytes words.now) (length out.old) }

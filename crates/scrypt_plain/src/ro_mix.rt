@@ -8,8 +8,8 @@ ghost use Rattle.scrypt_plain.specs.Layout.{row_bytes, piece};
 use crate::block_mix::{block_mix, block_mix_xor};
 use crate::salsa;
 
-// Words in their order as a row of `count` blocks of the table.
-fn write_row(from: &[u32], to: &mut [u32], count: usize)
+/// Words in their order as a row of `count` blocks of the table.
+pub fn write_row(from: &[u32], to: &mut [u32], count: usize)
     requires from { length from.now ≡ 16 * count }
     requires to { length to.old ≡ 16 * count }
     ensures { row_bytes count to.new ≡ bytes from.now }
@@ -19,8 +19,8 @@ fn write_row(from: &[u32], to: &mut [u32], count: usize)
     }
 }
 
-// A row of `count` blocks of the table as words in their order.
-fn read_row(from: &[u32], to: &mut [u32], count: usize)
+/// A row of `count` blocks of the table as words in their order.
+pub fn read_row(from: &[u32], to: &mut [u32], count: usize)
     requires from { length from.now ≡ 16 * count }
     requires to { length to.old ≡ 16 * count }
     ensures { bytes to.new ≡ row_bytes count from.now }
@@ -43,8 +43,8 @@ fn next_row(table: &mut [u32], r: usize, i: usize)
     block_mix(&done[row * i..], &mut rest[..row], r);
 }
 
-// The rows after the first.
-fn fill_table(table: &mut [u32], r: usize, n: usize)
+/// The rows after the first.
+pub fn fill_table(table: &mut [u32], r: usize, n: usize)
     requires some_blocks { 1 ≤ r }
     requires rows { 1 ≤ n }
     requires room { length table.old ≡ 32 * r * n }

@@ -3,7 +3,7 @@
 
 ghost use Rattle.std.specs.Prelude.{◌≡◌, ℕ, ◌-◌, ◌%◌, ◌^◌, ◌<◌, [], ◌∷◌, length, bit_xor, slice_index};
 ghost use Rattle.scrypt_plain.specs.Bytes.{bytes, little_endian, xor_bytes};
-ghost use Rattle.scrypt_plain.specs.Scrypt.{add32, column_round, row_round, salsa20_8};
+ghost use Rattle.scrypt_plain.specs.Scrypt.{add32, column_round, row_round, salsa20_2, salsa20_8};
 ghost use Rattle.scrypt_plain.specs.Layout.{lane_bytes, block_bytes, lane_words, quarter_words, xor_rotated};
 
 use std::simd::u32x4;
@@ -204,4 +204,27 @@ pub(crate) fn from_table_order(from: &[u32], to: &mut [u32])
         from[5], from[2], from[15], from[12], from[9], from[6], from[3],
     ];
     to.copy_from_slice(&block);
+}
+
+#[inline(always)]
+fn salsa20_2_lanes(a: u32x4, b: u32x4, c: u32x4, d: u32x4) -> Block
+    ensures { lane_bytes result ≡ salsa20_2 (bytes (lane_words a b c d)) }
+{
+    let x = double_round(a, b, c, d);
+    Block {
+        a: add(x.a, a),
+        b: add(x.b, b),
+        c: add(x.c, c),
+        d: add(x.d, d),
+    }
+}
+
+/// Salsa20/2 of a block of the table.
+pub fn salsa20_2(words: &mut [u32])
+    requires { length words.old ≡ 16 }
+    ensures { block_bytes words.new ≡ salsa20_2 (block_bytes words.old) }
+{
+    let x = load(words);
+    let y = salsa20_2_lanes(x.a, x.b, x.c, x.d);
+    store(words, &y);
 }

@@ -1,0 +1,14 @@
+pub mod Words
+pub mod Pwxform
+pub mod BlockMix
+pub mod Smix
+pub mod Yescrypt
+pub mod Layout
+pub mod Numbers
+pub mod Params
+pub mod Field
+pub mod Text
+pub mod Check
+pub mod Made
+pub mod Views
+pub mod Laws
