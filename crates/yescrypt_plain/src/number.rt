@@ -241,6 +241,7 @@ pub(crate) fn push_number<const N: usize>(text: &mut ShortBytes<N>, value: u32)
 }
 
 /// The five characters of a number, the lowest first.
+#[tactic(auto, unfolding(crate::specs::Numbers::five_text))]
 pub(crate) fn five_text(value: u32) -> [u8; 5]
     ensures { result ≡ five_text value }
 {
