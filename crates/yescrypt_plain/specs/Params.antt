@@ -20,7 +20,13 @@ abbrev pub whole : List ℕ → Read → Read → Read → Read → Read → Rea
 whole text flavor ln r have p t g rom =
     if rom.next == length text && nat_lt have.value 16
     then Some (record {
-      flavor = flavor.value; ln = ln.value; r = r.value; p = p.value; t = t.value; g = g.value; rom = rom.value
+      flavor = flavor.value;
+      ln = ln.value;
+      r = r.value;
+      p = p.value;
+      t = t.value;
+      g = g.value;
+      rom = rom.value;
     })
     else None
 

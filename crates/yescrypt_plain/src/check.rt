@@ -117,7 +117,9 @@ fn check_scrypt_parts(
     }
     let mut key = [0u8; 32];
     let params = parts.params;
-    match kept.scrypt_into(alloc, password, parts.salt, params.ln, params.r, params.p, &mut key) {
+    match kept.scrypt_into(
+        alloc, password, parts.salt, params.ln, params.r, params.p, &mut key,
+    ) {
         Err(AllocError) => Err(CheckError::OutOfMemory),
         Ok(()) => answer_of(bool::from(counts.same_bytes(&key, &parts.hash))),
     }

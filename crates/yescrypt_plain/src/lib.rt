@@ -32,8 +32,10 @@ pub use check::{scrypt_check, scrypt_check_kept, yescrypt_check, yescrypt_check_
 pub use error::{CheckError, MakeError, TextFault};
 pub use kept::YescryptKept;
 pub use make::{scrypt_text, yescrypt_text};
-pub use params::{ScryptParams, YescryptParams, in_bounds, scrypt_in_bounds};
-pub use params::{read_scrypt_params, read_yescrypt_params, scrypt_params_text, yescrypt_params_text};
+pub use params::{
+    ScryptParams, YescryptParams, in_bounds, read_scrypt_params, read_yescrypt_params,
+    scrypt_in_bounds, scrypt_params_text, yescrypt_params_text,
+};
 use std::alloc::{AllocError, Global};
 
 // What each word of a new table is, which makes no difference. As its bytes differ, LLVM writes it by plain stores,

@@ -126,7 +126,9 @@ pub fn scrypt_text(
         return Err(fault);
     }
     let mut key = [0u8; 32];
-    match scrypt_plain::scrypt(alloc, password, salt, params.ln, params.r, params.p, &mut key) {
+    match scrypt_plain::scrypt(
+        alloc, password, salt, params.ln, params.r, params.p, &mut key,
+    ) {
         Err(AllocError) => Err(MakeError::OutOfMemory),
         Ok(()) => Ok(scrypt_text_of(params, salt, &key)),
     }

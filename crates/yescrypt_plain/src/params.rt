@@ -143,10 +143,7 @@ pub fn read_yescrypt_params(text: &[u8]) -> Result<YescryptParams, TextFault>
 }
 
 /// Appends the one parameter field that names these costs.
-pub(crate) fn push_yescrypt_params<const N: usize>(
-    text: &mut ShortBytes<N>,
-    params: YescryptParams,
-)
+pub(crate) fn push_yescrypt_params<const N: usize>(text: &mut ShortBytes<N>, params: YescryptParams)
     requires bounds { in_bounds params ≡ true }
     requires room { length text.old + 20 ≤ N }
     ensures appended { text.new ≡ text.old ++ yescrypt_params_text params }

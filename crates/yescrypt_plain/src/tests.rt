@@ -12,12 +12,42 @@ use std::test::Fail;
 
 // ln, r, t and the key of "pleaseletmein" with the salt whose encoding is `saltsalt`.
 const KEYS: [(u32, u32, u32, [u8; 32]); 6] = [
-    (2, 1, 0, *b"\x2c\x26\x3f\x6f\x61\x4f\x42\x8b\x74\x1a\xa9\xdb\xa4\x4f\xd5\x3f\x9d\xff\x6a\x5e\x53\x83\xc1\xee\x19\xfb\x7d\x15\xcc\xef\xa6\x08"),
-    (4, 1, 0, *b"\xcf\xa7\x08\x8a\x33\x54\xd8\x05\xd3\xff\x69\xc0\x30\x2d\x77\x3f\x69\x3c\xf4\x61\xc1\x21\xbb\x20\x5d\xfb\x9a\x90\xfa\x43\x6f\xff"),
-    (5, 2, 1, *b"\x6d\x7b\xd5\x61\x77\xa9\x9d\xed\xb8\x2a\xc7\xbf\xae\x20\x1f\x3f\xb2\x56\xed\x59\x84\xfd\x10\xc5\x34\x32\x96\xa3\x04\x21\x13\x24"),
-    (6, 3, 2, *b"\xfd\x6c\x7c\x0d\x4c\xfb\x46\x2a\x66\x35\xd1\x54\x7b\xb7\x61\x9a\x32\x8e\x9b\x89\x5a\x53\x2c\xbc\x01\x79\x26\x68\xc9\xa2\xa2\xbd"),
-    (8, 8, 0, *b"\xe7\x4f\x0b\x91\x0b\xfc\xa0\x5a\xf5\x5c\x8b\xb1\xe2\xdd\xe1\xed\x4d\x19\x74\x46\x93\x19\x25\x44\xca\x65\x54\x7a\x81\x0e\x8b\x4c"),
-    (3, 8, 3, *b"\x63\xac\xe1\x51\x27\xda\xdc\x1d\x3a\x83\x32\x08\xd9\x59\x94\x0c\xca\x8f\xd7\x53\xda\x2b\x7a\xbf\x28\xad\xd4\x4a\xe5\x01\xa3\xd8"),
+    (
+        2,
+        1,
+        0,
+        *b"\x2c\x26\x3f\x6f\x61\x4f\x42\x8b\x74\x1a\xa9\xdb\xa4\x4f\xd5\x3f\x9d\xff\x6a\x5e\x53\x83\xc1\xee\x19\xfb\x7d\x15\xcc\xef\xa6\x08",
+    ),
+    (
+        4,
+        1,
+        0,
+        *b"\xcf\xa7\x08\x8a\x33\x54\xd8\x05\xd3\xff\x69\xc0\x30\x2d\x77\x3f\x69\x3c\xf4\x61\xc1\x21\xbb\x20\x5d\xfb\x9a\x90\xfa\x43\x6f\xff",
+    ),
+    (
+        5,
+        2,
+        1,
+        *b"\x6d\x7b\xd5\x61\x77\xa9\x9d\xed\xb8\x2a\xc7\xbf\xae\x20\x1f\x3f\xb2\x56\xed\x59\x84\xfd\x10\xc5\x34\x32\x96\xa3\x04\x21\x13\x24",
+    ),
+    (
+        6,
+        3,
+        2,
+        *b"\xfd\x6c\x7c\x0d\x4c\xfb\x46\x2a\x66\x35\xd1\x54\x7b\xb7\x61\x9a\x32\x8e\x9b\x89\x5a\x53\x2c\xbc\x01\x79\x26\x68\xc9\xa2\xa2\xbd",
+    ),
+    (
+        8,
+        8,
+        0,
+        *b"\xe7\x4f\x0b\x91\x0b\xfc\xa0\x5a\xf5\x5c\x8b\xb1\xe2\xdd\xe1\xed\x4d\x19\x74\x46\x93\x19\x25\x44\xca\x65\x54\x7a\x81\x0e\x8b\x4c",
+    ),
+    (
+        3,
+        8,
+        3,
+        *b"\x63\xac\xe1\x51\x27\xda\xdc\x1d\x3a\x83\x32\x08\xd9\x59\x94\x0c\xca\x8f\xd7\x53\xda\x2b\x7a\xbf\x28\xad\xd4\x4a\xe5\x01\xa3\xd8",
+    ),
 ];
 
 #[test]
@@ -28,8 +58,14 @@ fn keys(rt: HostRuntime) -> Result<(), Fail> {
     for (ln, r, t, key) in KEYS {
         let params = YescryptParams { ln, r, t };
         assert!(rt; in_bounds(params));
-        assert!(rt; yescrypt(rt.alloc(), password, salt, params)? == key, "{ln} {r} {t}");
-        assert!(rt; kept.yescrypt(rt.alloc(), password, salt, params)? == key, "{ln} {r} {t}");
+        assert!(rt;
+            yescrypt(rt.alloc(), password, salt, params)? == key,
+            "{ln} {r} {t}"
+        );
+        assert!(rt;
+            kept.yescrypt(rt.alloc(), password, salt, params)? == key,
+            "{ln} {r} {t}"
+        );
     }
     Ok(())
 }
@@ -55,16 +91,43 @@ fn lent(rt: HostRuntime) -> Result<(), Fail> {
 
 // Passwords and texts.
 const YESCRYPT: [(&str, &str); 10] = [
-    ("", "$y$j2.//$./$id/pr9M1.HIRSLIKXB/WJRDDnOU3bUkk089O.c4L1C/"),
+    (
+        "",
+        "$y$j2.//$./$id/pr9M1.HIRSLIKXB/WJRDDnOU3bUkk089O.c4L1C/",
+    ),
     ("", "$y$j/.$./$/SUfmv2nv4VsJGMYcJfP87xJHgJvLxZzgvHXV5zBRI7"),
-    ("pw", "$y$j75$0123456789ab$G3dqYfxcYgkNCEZgHYxsWfpio/mzCqacM3.5BzxvGGA"),
-    ("rasmuslerdorf", "$y$j///.$.2U.1EE/4Q.07ck0AoU1D.F2GA/3JMl3MYV4PkF5Sw/6V6m6YIW7bUG8eg09hsm9k2XAnEHBqQ1CtcnCwoXDz.$oGRI6DYv53wy84n3DykpLSW4UTnTESxHVKiqSp6nCV7"),
-    ("p", "$y$j0/$saltsalt$AXTyrkjgUa8QGQ1tipzinXsAwS2ZdoPLNFwtyBsPH1D"),
-    ("p", "$y$j/k.$saltsalt$fg17SeZsYpAtAMMjRSqv7ctkwHgsQDXs/aj/PzDSyS8"),
-    ("t", "$y$j/./.$saltsalt$WMPW/EzJtNU6YdNN8e2eqh.YRWKjL6VfeaApiTVV9OB"),
-    ("t", "$y$j/./k.$saltsalt$y8pNym0dZ6eiJ5dqfq1WcjkVx2zT3WUWnqIcnw78ZB1"),
-    ("pw", "$y$j4./.$saltsalt$lsRC.TawGAm1kH07kPrQA5XVrnmboN4i6rzbAEL6R94"),
-    ("café", "$y$j51$LdJMENpBABJJ3hIHjB1Bi.$IwWJYZzIGQLpxBgnNVivpsUXooPHakWwq091JaLkAS3"),
+    (
+        "pw",
+        "$y$j75$0123456789ab$G3dqYfxcYgkNCEZgHYxsWfpio/mzCqacM3.5BzxvGGA",
+    ),
+    (
+        "rasmuslerdorf",
+        "$y$j///.$.2U.1EE/4Q.07ck0AoU1D.F2GA/3JMl3MYV4PkF5Sw/6V6m6YIW7bUG8eg09hsm9k2XAnEHBqQ1CtcnCwoXDz.$oGRI6DYv53wy84n3DykpLSW4UTnTESxHVKiqSp6nCV7",
+    ),
+    (
+        "p",
+        "$y$j0/$saltsalt$AXTyrkjgUa8QGQ1tipzinXsAwS2ZdoPLNFwtyBsPH1D",
+    ),
+    (
+        "p",
+        "$y$j/k.$saltsalt$fg17SeZsYpAtAMMjRSqv7ctkwHgsQDXs/aj/PzDSyS8",
+    ),
+    (
+        "t",
+        "$y$j/./.$saltsalt$WMPW/EzJtNU6YdNN8e2eqh.YRWKjL6VfeaApiTVV9OB",
+    ),
+    (
+        "t",
+        "$y$j/./k.$saltsalt$y8pNym0dZ6eiJ5dqfq1WcjkVx2zT3WUWnqIcnw78ZB1",
+    ),
+    (
+        "pw",
+        "$y$j4./.$saltsalt$lsRC.TawGAm1kH07kPrQA5XVrnmboN4i6rzbAEL6R94",
+    ),
+    (
+        "café",
+        "$y$j51$LdJMENpBABJJ3hIHjB1Bi.$IwWJYZzIGQLpxBgnNVivpsUXooPHakWwq091JaLkAS3",
+    ),
 ];
 
 #[test]
@@ -74,7 +137,10 @@ fn yescrypt_texts(rt: HostRuntime) -> Result<(), Fail> {
         let found = yescrypt_check(rt.alloc(), password, stored);
         assert!(rt; found == Ok(()), "{stored:?} {found:?}");
         let found = yescrypt_check(rt.alloc(), "another", stored);
-        assert!(rt; found == Err(CheckError::HashMismatch), "{stored:?} {found:?}");
+        assert!(rt;
+            found == Err(CheckError::HashMismatch),
+            "{stored:?} {found:?}"
+        );
         let mut counts = Counts::new();
         let found = yescrypt_check_kept(rt.alloc(), &kept, password, stored, &mut counts);
         assert!(rt; found == Ok(()), "{stored:?} {found:?}");
@@ -84,9 +150,18 @@ fn yescrypt_texts(rt: HostRuntime) -> Result<(), Fail> {
 }
 
 const SCRYPT: [(&str, &str); 3] = [
-    ("pleaseletmein", "$7$41....0....SodiumChloride$i79Z2Io0yuEUnAEV0Z2t4r.guoEXBFEWthY/nUn9u//"),
-    ("x", "$7$2/..../....$CI9x0yo/VkSMh/DdbR/8V7dXPUFgc2uGPDbBqD6tlS9"),
-    ("", "$7$33..../....aaaa$pyNghgfidz9iuS6h/W74zw.URbow0nxWRfY49Soy34/"),
+    (
+        "pleaseletmein",
+        "$7$41....0....SodiumChloride$i79Z2Io0yuEUnAEV0Z2t4r.guoEXBFEWthY/nUn9u//",
+    ),
+    (
+        "x",
+        "$7$2/..../....$CI9x0yo/VkSMh/DdbR/8V7dXPUFgc2uGPDbBqD6tlS9",
+    ),
+    (
+        "",
+        "$7$33..../....aaaa$pyNghgfidz9iuS6h/W74zw.URbow0nxWRfY49Soy34/",
+    ),
 ];
 
 #[test]
@@ -96,7 +171,10 @@ fn scrypt_texts(rt: HostRuntime) -> Result<(), Fail> {
         let found = scrypt_check(rt.alloc(), password, stored);
         assert!(rt; found == Ok(()), "{stored:?} {found:?}");
         let found = scrypt_check(rt.alloc(), "another", stored);
-        assert!(rt; found == Err(CheckError::HashMismatch), "{stored:?} {found:?}");
+        assert!(rt;
+            found == Err(CheckError::HashMismatch),
+            "{stored:?} {found:?}"
+        );
         let mut counts = Counts::new();
         let found = scrypt_check_kept(rt.alloc(), &kept, password, stored, &mut counts);
         assert!(rt; found == Ok(()), "{stored:?} {found:?}");
@@ -108,65 +186,176 @@ fn scrypt_texts(rt: HostRuntime) -> Result<(), Fail> {
 // Texts `$y$` and their first fault. The second spelling of a field, and p = 7 and the flavor `/`, are libxcrypt's too.
 const YESCRYPT_FAULTS: [(&str, TextFault); 27] = [
     ("", TextFault::WrongId),
-    ("x$y$j/.$./$/SUfmv2nv4VsJGMYcJfP87xJHgJvLxZzgvHXV5zBRI7", TextFault::NoDollar),
-    ("$7$j/.$./$/SUfmv2nv4VsJGMYcJfP87xJHgJvLxZzgvHXV5zBRI7", TextFault::WrongId),
+    (
+        "x$y$j/.$./$/SUfmv2nv4VsJGMYcJfP87xJHgJvLxZzgvHXV5zBRI7",
+        TextFault::NoDollar,
+    ),
+    (
+        "$7$j/.$./$/SUfmv2nv4VsJGMYcJfP87xJHgJvLxZzgvHXV5zBRI7",
+        TextFault::WrongId,
+    ),
     ("$y", TextFault::NoParams),
     ("$y$j/.", TextFault::NoSalt),
     ("$y$j/.$./", TextFault::NoHash),
-    ("$y$j/.$./$/SUfmv2nv4VsJGMYcJfP87xJHgJvLxZzgvHXV5zBRI7$", TextFault::Trailing),
-    ("$y$$./$/SUfmv2nv4VsJGMYcJfP87xJHgJvLxZzgvHXV5zBRI7", TextFault::Params),
-    ("$y$j/$./$/SUfmv2nv4VsJGMYcJfP87xJHgJvLxZzgvHXV5zBRI7", TextFault::Params),
-    ("$y$j9T+$./$/SUfmv2nv4VsJGMYcJfP87xJHgJvLxZzgvHXV5zBRI7", TextFault::Params),
-    ("$y$j/.D$saltsalt$94/x2h2PntDYv.u8xtAJhUXuGwDp/a1aeeLGP0Bf4I1", TextFault::Params),
-    ("$y$j/.F.$saltsalt$yk3bQkrkz9OI7FZG.zNpNEmpwP.omnD7AT3suzKfBMD", TextFault::Params),
-    ("$y$/D5$LdJMENpBABJJ3hIHjB1Bi.$ZqphnSIcGTvKcYR6ljDbthLQMr03gc4j.t46GQJBUCA", TextFault::Flavor),
-    ("$y$j51.3$saltsalt$YMfMMkDxVRK0qKUiSTSqfQNg.2GrkCumL/p/GaHAbW5", TextFault::Parallelism),
-    ("$y$j511.$saltsalt$YMfMMkDxVRK0qKUiSTSqfQNg.2GrkCumL/p/GaHAbW5", TextFault::Upgrades),
-    ("$y$j515.$saltsalt$YMfMMkDxVRK0qKUiSTSqfQNg.2GrkCumL/p/GaHAbW5", TextFault::Rom),
-    ("$y$jGT$saltsalt$YMfMMkDxVRK0qKUiSTSqfQNg.2GrkCumL/p/GaHAbW5", TextFault::Memory),
-    ("$y$jM.$saltsalt$YMfMMkDxVRK0qKUiSTSqfQNg.2GrkCumL/p/GaHAbW5", TextFault::Memory),
-    ("$y$j/xvrD$saltsalt$YMfMMkDxVRK0qKUiSTSqfQNg.2GrkCumL/p/GaHAbW5", TextFault::Memory),
-    ("$y$j..$saltsalt$YMfMMkDxVRK0qKUiSTSqfQNg.2GrkCumL/p/GaHAbW5", TextFault::Cost),
-    ("$y$j/./s5E$saltsalt$YMfMMkDxVRK0qKUiSTSqfQNg.2GrkCumL/p/GaHAbW5", TextFault::Cost),
-    ("$y$j/.$$YB2gA98wvrAqdhSZBccrn2nDPGoMyR/9zxkonCTZxK6", TextFault::Salt),
-    ("$y$j/.$s$/SUfmv2nv4VsJGMYcJfP87xJHgJvLxZzgvHXV5zBRI7", TextFault::Salt),
-    ("$y$j/.$zz$/SUfmv2nv4VsJGMYcJfP87xJHgJvLxZzgvHXV5zBRI7", TextFault::Salt),
-    ("$y$j/.$aaaaaaaaaaaaaaaaaaaaaaaaaaaaaaaaaaaaaaaaaaaaaaaaaaaaaaaaaaaaaaaaaaaaaaaaaaaaaaaaaaaaaa/$/SUfmv2nv4VsJGMYcJfP87xJHgJvLxZzgvHXV5zBRI7", TextFault::Salt),
-    ("$y$j/.$./$/SUfmv2nv4VsJGMYcJfP87xJHgJvLxZzgvHXV5zBRI", TextFault::Hash),
-    ("$y$j/.$./$/SUfmv2nv4VsJGMYcJfP87xJHgJvLxZzgvHXV5zBRIV", TextFault::Hash),
+    (
+        "$y$j/.$./$/SUfmv2nv4VsJGMYcJfP87xJHgJvLxZzgvHXV5zBRI7$",
+        TextFault::Trailing,
+    ),
+    (
+        "$y$$./$/SUfmv2nv4VsJGMYcJfP87xJHgJvLxZzgvHXV5zBRI7",
+        TextFault::Params,
+    ),
+    (
+        "$y$j/$./$/SUfmv2nv4VsJGMYcJfP87xJHgJvLxZzgvHXV5zBRI7",
+        TextFault::Params,
+    ),
+    (
+        "$y$j9T+$./$/SUfmv2nv4VsJGMYcJfP87xJHgJvLxZzgvHXV5zBRI7",
+        TextFault::Params,
+    ),
+    (
+        "$y$j/.D$saltsalt$94/x2h2PntDYv.u8xtAJhUXuGwDp/a1aeeLGP0Bf4I1",
+        TextFault::Params,
+    ),
+    (
+        "$y$j/.F.$saltsalt$yk3bQkrkz9OI7FZG.zNpNEmpwP.omnD7AT3suzKfBMD",
+        TextFault::Params,
+    ),
+    (
+        "$y$/D5$LdJMENpBABJJ3hIHjB1Bi.$ZqphnSIcGTvKcYR6ljDbthLQMr03gc4j.t46GQJBUCA",
+        TextFault::Flavor,
+    ),
+    (
+        "$y$j51.3$saltsalt$YMfMMkDxVRK0qKUiSTSqfQNg.2GrkCumL/p/GaHAbW5",
+        TextFault::Parallelism,
+    ),
+    (
+        "$y$j511.$saltsalt$YMfMMkDxVRK0qKUiSTSqfQNg.2GrkCumL/p/GaHAbW5",
+        TextFault::Upgrades,
+    ),
+    (
+        "$y$j515.$saltsalt$YMfMMkDxVRK0qKUiSTSqfQNg.2GrkCumL/p/GaHAbW5",
+        TextFault::Rom,
+    ),
+    (
+        "$y$jGT$saltsalt$YMfMMkDxVRK0qKUiSTSqfQNg.2GrkCumL/p/GaHAbW5",
+        TextFault::Memory,
+    ),
+    (
+        "$y$jM.$saltsalt$YMfMMkDxVRK0qKUiSTSqfQNg.2GrkCumL/p/GaHAbW5",
+        TextFault::Memory,
+    ),
+    (
+        "$y$j/xvrD$saltsalt$YMfMMkDxVRK0qKUiSTSqfQNg.2GrkCumL/p/GaHAbW5",
+        TextFault::Memory,
+    ),
+    (
+        "$y$j..$saltsalt$YMfMMkDxVRK0qKUiSTSqfQNg.2GrkCumL/p/GaHAbW5",
+        TextFault::Cost,
+    ),
+    (
+        "$y$j/./s5E$saltsalt$YMfMMkDxVRK0qKUiSTSqfQNg.2GrkCumL/p/GaHAbW5",
+        TextFault::Cost,
+    ),
+    (
+        "$y$j/.$$YB2gA98wvrAqdhSZBccrn2nDPGoMyR/9zxkonCTZxK6",
+        TextFault::Salt,
+    ),
+    (
+        "$y$j/.$s$/SUfmv2nv4VsJGMYcJfP87xJHgJvLxZzgvHXV5zBRI7",
+        TextFault::Salt,
+    ),
+    (
+        "$y$j/.$zz$/SUfmv2nv4VsJGMYcJfP87xJHgJvLxZzgvHXV5zBRI7",
+        TextFault::Salt,
+    ),
+    (
+        "$y$j/.$aaaaaaaaaaaaaaaaaaaaaaaaaaaaaaaaaaaaaaaaaaaaaaaaaaaaaaaaaaaaaaaaaaaaaaaaaaaaaaaaaaaaaa/$/SUfmv2nv4VsJGMYcJfP87xJHgJvLxZzgvHXV5zBRI7",
+        TextFault::Salt,
+    ),
+    (
+        "$y$j/.$./$/SUfmv2nv4VsJGMYcJfP87xJHgJvLxZzgvHXV5zBRI",
+        TextFault::Hash,
+    ),
+    (
+        "$y$j/.$./$/SUfmv2nv4VsJGMYcJfP87xJHgJvLxZzgvHXV5zBRIV",
+        TextFault::Hash,
+    ),
 ];
 
 #[test]
 fn yescrypt_faults(rt: HostRuntime) -> Result<(), Fail> {
     for (stored, fault) in YESCRYPT_FAULTS {
         let found = yescrypt_check(rt.alloc(), "pw", stored);
-        assert!(rt; found == Err(CheckError::InvalidFormat(fault)), "{stored:?} {found:?}");
+        assert!(rt;
+            found == Err(CheckError::InvalidFormat(fault)),
+            "{stored:?} {found:?}"
+        );
     }
     Ok(())
 }
 
 const SCRYPT_FAULTS: [(&str, TextFault); 14] = [
-    ("7$2/..../....$CI9x0yo/VkSMh/DdbR/8V7dXPUFgc2uGPDbBqD6tlS9", TextFault::NoDollar),
-    ("$y$2/..../....$CI9x0yo/VkSMh/DdbR/8V7dXPUFgc2uGPDbBqD6tlS9", TextFault::WrongId),
+    (
+        "7$2/..../....$CI9x0yo/VkSMh/DdbR/8V7dXPUFgc2uGPDbBqD6tlS9",
+        TextFault::NoDollar,
+    ),
+    (
+        "$y$2/..../....$CI9x0yo/VkSMh/DdbR/8V7dXPUFgc2uGPDbBqD6tlS9",
+        TextFault::WrongId,
+    ),
     ("$7", TextFault::NoParams),
     ("$7$2/..../....", TextFault::NoHash),
-    ("$7$2/..../....$CI9x0yo/VkSMh/DdbR/8V7dXPUFgc2uGPDbBqD6tlS9$", TextFault::Trailing),
-    ("$7$33..../....sa$lt$UCIoaS5624rH3m8UbuRg/BYU0Aww9i9m0NajeA9duq6", TextFault::Trailing),
-    ("$7$2/..../...$CI9x0yo/VkSMh/DdbR/8V7dXPUFgc2uGPDbBqD6tlS9", TextFault::Params),
-    ("$7$2/..../..+.$CI9x0yo/VkSMh/DdbR/8V7dXPUFgc2uGPDbBqD6tlS9", TextFault::Params),
-    ("$7$z/..../....$CI9x0yo/VkSMh/DdbR/8V7dXPUFgc2uGPDbBqD6tlS9", TextFault::Memory),
-    ("$7$GU..../....$CI9x0yo/VkSMh/DdbR/8V7dXPUFgc2uGPDbBqD6tlS9", TextFault::Memory),
-    ("$7$//..../....$CI9x0yo/VkSMh/DdbR/8V7dXPUFgc2uGPDbBqD6tlS9", TextFault::Cost),
-    ("$7$2/.........$CI9x0yo/VkSMh/DdbR/8V7dXPUFgc2uGPDbBqD6tlS9", TextFault::Cost),
-    ("$7$2/..../....a+b$CI9x0yo/VkSMh/DdbR/8V7dXPUFgc2uGPDbBqD6tlS9", TextFault::Salt),
-    ("$7$2/..../....$CI9x0yo/VkSMh/DdbR/8V7dXPUFgc2uGPDbBqD6tlSz", TextFault::Hash),
+    (
+        "$7$2/..../....$CI9x0yo/VkSMh/DdbR/8V7dXPUFgc2uGPDbBqD6tlS9$",
+        TextFault::Trailing,
+    ),
+    (
+        "$7$33..../....sa$lt$UCIoaS5624rH3m8UbuRg/BYU0Aww9i9m0NajeA9duq6",
+        TextFault::Trailing,
+    ),
+    (
+        "$7$2/..../...$CI9x0yo/VkSMh/DdbR/8V7dXPUFgc2uGPDbBqD6tlS9",
+        TextFault::Params,
+    ),
+    (
+        "$7$2/..../..+.$CI9x0yo/VkSMh/DdbR/8V7dXPUFgc2uGPDbBqD6tlS9",
+        TextFault::Params,
+    ),
+    (
+        "$7$z/..../....$CI9x0yo/VkSMh/DdbR/8V7dXPUFgc2uGPDbBqD6tlS9",
+        TextFault::Memory,
+    ),
+    (
+        "$7$GU..../....$CI9x0yo/VkSMh/DdbR/8V7dXPUFgc2uGPDbBqD6tlS9",
+        TextFault::Memory,
+    ),
+    (
+        "$7$//..../....$CI9x0yo/VkSMh/DdbR/8V7dXPUFgc2uGPDbBqD6tlS9",
+        TextFault::Cost,
+    ),
+    (
+        "$7$2/.........$CI9x0yo/VkSMh/DdbR/8V7dXPUFgc2uGPDbBqD6tlS9",
+        TextFault::Cost,
+    ),
+    (
+        "$7$2/..../....a+b$CI9x0yo/VkSMh/DdbR/8V7dXPUFgc2uGPDbBqD6tlS9",
+        TextFault::Salt,
+    ),
+    (
+        "$7$2/..../....$CI9x0yo/VkSMh/DdbR/8V7dXPUFgc2uGPDbBqD6tlSz",
+        TextFault::Hash,
+    ),
 ];
 
 #[test]
 fn scrypt_faults(rt: HostRuntime) -> Result<(), Fail> {
     for (stored, fault) in SCRYPT_FAULTS {
         let found = scrypt_check(rt.alloc(), "pw", stored);
-        assert!(rt; found == Err(CheckError::InvalidFormat(fault)), "{stored:?} {found:?}");
+        assert!(rt;
+            found == Err(CheckError::InvalidFormat(fault)),
+            "{stored:?} {found:?}"
+        );
     }
     Ok(())
 }
@@ -192,8 +381,22 @@ fn long_passwords(rt: HostRuntime) -> Result<(), Fail> {
 // Costs and their one field.
 const PARAMS: [(YescryptParams, &str); 6] = [
     (YescryptParams { ln: 2, r: 1, t: 0 }, "j/."),
-    (YescryptParams { ln: 12, r: 32, t: 0 }, "j9T"),
-    (YescryptParams { ln: 18, r: 32, t: 0 }, "jFT"),
+    (
+        YescryptParams {
+            ln: 12,
+            r: 32,
+            t: 0,
+        },
+        "j9T",
+    ),
+    (
+        YescryptParams {
+            ln: 18,
+            r: 32,
+            t: 0,
+        },
+        "jFT",
+    ),
     (YescryptParams { ln: 2, r: 1, t: 1 }, "j/./."),
     (YescryptParams { ln: 2, r: 1, t: 49 }, "j/./k."),
     (YescryptParams { ln: 2, r: 65, t: 0 }, "j/kE"),
@@ -202,9 +405,15 @@ const PARAMS: [(YescryptParams, &str); 6] = [
 #[test]
 fn fields(rt: HostRuntime) -> Result<(), Fail> {
     for (params, field) in PARAMS {
-        assert!(rt; read_yescrypt_params(field.as_bytes()) == Ok(params), "{field:?}");
+        assert!(rt;
+            read_yescrypt_params(field.as_bytes()) == Ok(params),
+            "{field:?}"
+        );
         assert!(rt; in_bounds(params));
-        assert!(rt; yescrypt_params_text(params).as_slice() == field.as_bytes(), "{field:?}");
+        assert!(rt;
+            yescrypt_params_text(params).as_slice() == field.as_bytes(),
+            "{field:?}"
+        );
     }
     let params = ScryptParams {
         ln: 14,

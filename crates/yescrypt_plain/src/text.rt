@@ -180,7 +180,12 @@ pub(crate) fn yescrypt_text(text: &str, counts: &mut Counts) -> Result<YescryptP
         Ok(params) => params,
         Err(fault) => return Err(fault),
     };
-    yescrypt_by_salt(params, fields.salt.as_bytes(), fields.hash.as_bytes(), counts)
+    yescrypt_by_salt(
+        params,
+        fields.salt.as_bytes(),
+        fields.hash.as_bytes(),
+        counts,
+    )
 }
 
 // Whether a byte is a character of crypt's alphabet.
