@@ -3,7 +3,7 @@
 
 200 texts of each form that libxcrypt's crypt makes of random passwords, salts and small costs must match their password,
 and no other one; so must texts of each number of rows from 2^2 on with the largest rows within the bound on memory, and of
-each count of crypt_gensalt, 1 to 11 for `$y$` and 6 to 9 for `$7$`; and 200 texts `$y$` that `yescrypt_text` makes must be
+each count of crypt_gensalt, 1 to 11 for `$y$` and 6 to 11 for `$7$`; and 200 texts `$y$` that `yescrypt_text` makes must be
 given back by libxcrypt. It proves and builds bench/yescrypt_texts_ours.txt under bench/out/ over the repository's crates,
 and calls libcrypt.so.1 through ctypes. It takes up to 1 GiB and some minutes, and installs nothing.
 
@@ -22,7 +22,7 @@ COUNT = 200
 CHARACTERS = "./0123456789ABCDEFGHIJKLMNOPQRSTUVWXYZabcdefghijklmnopqrstuvwxyz"
 LETTERS = [chr(c) for c in range(32, 127)] + list("äöüßéÿ€łжあ漢🔑")
 GENSALT_Y = ["j75", "j85", "j7T", "j8T", "j9T", "jAT", "jBT", "jCT", "jDT", "jET", "jFT"]
-GENSALT_7 = ["BU..../....", "CU..../....", "DU..../....", "EU..../...."]
+GENSALT_7 = ["BU..../....", "CU..../....", "DU..../....", "EU..../....", "FU..../....", "GU..../...."]
 
 
 def built():

@@ -133,7 +133,7 @@ pub(crate) fn ro_mix(
 }
 
 /// scryptROMix of each of the `count` parts.
-pub(crate) fn mix_parts(
+pub fn mix_parts(
     parts: &mut [u32],
     table: &mut [u32],
     x: &mut [u32],

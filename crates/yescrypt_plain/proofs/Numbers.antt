@@ -45,8 +45,8 @@ read_more count first i v d text was lt h is small =
     let m = was.most in
     record {
       rest = sym (opened count i v text lt h
-      ∙ ap (option_and_then (λ d. digits (count - (i + 1)) (v * 64 + d) (drop (i + 1) text))) (sym is)) ∙ was.rest;
-      most = omega (arith, power, m)
+          ∙ ap (option_and_then (λ d. digits (count - (i + 1)) (v * 64 + d) (drop (i + 1) text))) (sym is)) ∙ was.rest;
+      most = omega (arith, power, m);
     }
 
 pub read_bad : (count first i v : ℕ) (text : List ℕ) → IsRead count first text v i → i < count → i < length text

@@ -207,7 +207,13 @@ kept false a b h = absurd (none-some b h)
 
 abbrev named_of : Read → Read → Read → Read → Read → Read → Read → NamedParams
 named_of flavor ln r p t g rom = record {
-  flavor = flavor.value; ln = ln.value; r = r.value; p = p.value; t = t.value; g = g.value; rom = rom.value
+  flavor = flavor.value;
+  ln = ln.value;
+  r = r.value;
+  p = p.value;
+  t = t.value;
+  g = g.value;
+  rom = rom.value;
 }
 
 all_is : (text : List ℕ) (flavor ln r have p t g rom : Read) → number text 0 0 ≡ Some flavor
@@ -395,9 +401,10 @@ read_by text params None is h = absurd (taken_none params h)
 read_by text params (Some p) is h =
     let found = value_found (record { ln = p.ln; r = p.r; t = p.t }) params (named_fault p) h in
     let good = no_fault p found.0 in
-    let here : in_bounds (record { ln = p.ln; r = p.r; t = p.t }) ≡ true = rw (good.memory, good.cost) refl in
-    (subst (λ (q : YescryptParams). in_bounds q ≡ true) found.1 here,
-    params_are text p is good ∙ ap yescrypt_params_text found.1)
+    let here : in_bounds (record { ln = p.ln; r = p.r; t = p.t }) ≡ true = rw (good.memory, good.cost) refl in (
+      subst (λ (q : YescryptParams). in_bounds q ≡ true) found.1 here,
+      params_are text p is good ∙ ap yescrypt_params_text found.1,
+    )
 
 pub params_of_text : (text : List ℕ) (params : YescryptParams) → yescrypt_params text ≡ Ok params
     → (in_bounds params ≡ true) × (text ≡ yescrypt_params_text params)

@@ -11,9 +11,9 @@ use Rattle.yescrypt_plain.proofs.YescryptTexts.{yescrypt_matches_exactly}
 answered : (P : Type 0) (expected answer : Answer) → IsAnswer expected answer → (answer ≡ Err OutOfMemory → ⊥)
     → (expected ≡ Ok tt) ↔ P → (answer ≡ Ok tt) ↔ P
 answered P expected answer is memory h = elim is [
-      | inl same ↦ subst (λ (r : Answer). (r ≡ Ok tt) ↔ P) (sym same) h
-      | inr refused ↦ absurd (memory refused.0)
-    ]
+  | inl same ↦ subst (λ (r : Answer). (r ≡ Ok tt) ↔ P) (sym same) h
+  | inr refused ↦ absurd (memory refused.0)
+]
 
 pub yescrypt_passed : (password text : List ℕ) (answer : Answer) → IsAnswer (yescrypt_answer password text) answer
     → (answer ≡ Err OutOfMemory → ⊥)

@@ -10,9 +10,8 @@ use Rattle.std.proofs.lemmas.List.{append_assoc}
 use Rattle.std.proofs.lemmas.Option.{none-some, same_Some}
 use Rattle.pieces.specs.Faults.{first_fault, unless}
 use Rattle.pieces.proofs.FaultLaws.{err_ok, value_found}
-use Rattle.scrypt_plain.specs.Bounds as scrypt
 use Rattle.yescrypt_plain.specs.Numbers.{character, five, five_text, value_of}
-use Rattle.yescrypt_plain.specs.Params.{named_scrypt_params, scrypt_exceeds_memory, scrypt_fault, scrypt_in_bounds, scrypt_params}
+use Rattle.yescrypt_plain.specs.Params.{is_scrypt_cost, named_scrypt_params, scrypt_exceeds_memory, scrypt_fault, scrypt_in_bounds, scrypt_params}
 use Rattle.yescrypt_plain.specs.Params.{scrypt_params_text, scrypt_taken}
 use Rattle.yescrypt_plain.specs.declared.error.TextFault.{TextFault}
 use Rattle.yescrypt_plain.specs.declared.error.TextFault.TheVariants as fault
@@ -26,23 +25,23 @@ pub record ScryptBounds (p : ScryptParams) : Type 0 where
   pub rows : p.ln ≤ 24
   pub blocks : p.r ≤ 131072
   pub parts : p.p ≤ 1024
-  pub memory : 128 * p.r * 2 ^ p.ln ≤ 2 ^ 28
+
+or_false : (a b : Bool) → not (a || b) ≡ true → (a ≡ false) × (b ≡ false)
+or_false false false h = (refl, refl)
+or_false true b h = cc
+or_false false true h = cc
 
 pub scrypt_bounds_of : (p : ScryptParams) → scrypt_in_bounds p ≡ true → ScryptBounds p
 scrypt_bounds_of p h =
-    let both = and_parts (nat_le 2 p.ln) (scrypt.in_bounds p.ln p.r p.p) h in
-    let g = and_parts _ (nat_le (128 * p.r * 2 ^ p.ln) (2 ^ 28)) both.1 in
-    let f = and_parts _ (nat_le (p.r * p.p) 131072) g.0 in
-    let e = and_parts _ (nat_le p.p 1024) f.0 in
-    let d = and_parts _ (nat_le 1 p.p) e.0 in
-    let c = and_parts _ (nat_le 1 p.r) d.0 in
-    let b = and_parts _ (nat_lt p.ln (16 * p.r)) c.0 in
-    let a = and_parts (nat_le 1 p.ln) (nat_le p.ln 24) b.0 in
-    let few = a.1 in
-    let some = d.1 in
-    let most = e.1 in
-    let product = f.1 in
-    let table = g.1 in
+    let both = and_parts (not (scrypt_exceeds_memory p.ln p.r)) (is_scrypt_cost p.ln p.r p.p) h in
+    let memory = or_false (nat_lt 24 p.ln) (nat_lt (2 ^ 30) (128 * p.r * 2 ^ p.ln)) both.0 in
+    let e = and_parts _ (nat_le (p.r * p.p) 131072) both.1 in
+    let d = and_parts _ (nat_le p.p 1024) e.0 in
+    let c = and_parts _ (nat_le 1 p.p) d.0 in
+    let few = memory.0 in
+    let some = c.1 in
+    let most = d.1 in
+    let product = e.1 in
     let one : 1 ≤ p.p = grind (arith, nat_tests, some) in
     let all : p.r * p.p ≤ 131072 = grind (arith, nat_tests, product) in
     let single : p.r * 1 ≤ p.r * p.p = mul-le-mul_left p.r one in
@@ -50,7 +49,6 @@ scrypt_bounds_of p h =
       rows = grind (arith, nat_tests, few);
       blocks = omega (arith, all, single);
       parts = grind (arith, nat_tests, most);
-      memory = grind (arith, nat_tests, table);
     }
 
 -- ---- a field that is read
@@ -156,9 +154,11 @@ read_by : (text : List ℕ) (p : ScryptParams) (o : Option ScryptParams) → nam
 read_by text p None is h = absurd (err_ok fault.Params p h)
 read_by text p (Some q) is h =
     let found = value_found q p (scrypt_fault q) h in
-    let facts = two_facts (not (scrypt_exceeds_memory q.ln q.r)) (scrypt_in_bounds q) found.0 in
-    (subst (λ (x : ScryptParams). scrypt_in_bounds x ≡ true) found.1 facts.1,
-    named_front text q is ∙ ap (λ (x : ScryptParams). scrypt_params_text x ++ drop 11 text) found.1)
+    let facts = two_facts (not (scrypt_exceeds_memory q.ln q.r)) (is_scrypt_cost q.ln q.r q.p) found.0 in
+    let here : scrypt_in_bounds q ≡ true = rw (facts.0, facts.1) refl in (
+      subst (λ (x : ScryptParams). scrypt_in_bounds x ≡ true) found.1 here,
+      named_front text q is ∙ ap (λ (x : ScryptParams). scrypt_params_text x ++ drop 11 text) found.1,
+    )
 
 pub scrypt_params_are : (text : List ℕ) (p : ScryptParams) → scrypt_params text ≡ Ok p
     → (scrypt_in_bounds p ≡ true) × (text ≡ scrypt_params_text p ++ drop 11 text)
@@ -232,12 +232,8 @@ scrypt_salt_behind p salt = refl
 
 faultless : (p : ScryptParams) → scrypt_in_bounds p ≡ true → scrypt_fault p ≡ None
 faultless p h =
-    let bounds = scrypt_bounds_of p h in
-    let rows = bounds.rows in
-    let memory = bounds.memory in
-    let few : nat_lt 24 p.ln ≡ false = grind (arith, nat_tests, rows) in
-    let fits : nat_lt (2 ^ 28) (128 * p.r * 2 ^ p.ln) ≡ false = grind (arith, nat_tests, memory) in
-    rw (few, fits, h) refl
+    let both = and_parts (not (scrypt_exceeds_memory p.ln p.r)) (is_scrypt_cost p.ln p.r p.p) h in
+    rw (both.0, both.1) refl
 
 pub scrypt_params_read : (p : ScryptParams) (salt : List ℕ) → scrypt_in_bounds p ≡ true
     → scrypt_params (scrypt_params_text p ++ salt) ≡ Ok p

@@ -436,16 +436,16 @@ written_by text at least v rest k class leads there =
 pub number_read : (text : List ℕ) (at least v : ℕ) (rest : List ℕ) → v < 541232 → drop at text ≡ number_text v ++ rest
     → IsReadAt text at least v rest
 number_read text at least v rest most there = elim (cases_lt v 48) [
-      | inl low ↦ written_by text at least v rest (class 0 0 0) (first_class v low) (first_leads v low) there
-      | inr a ↦ elim (cases_lt v 560) [
-        | inl low ↦ written_by text at least v rest (class 48 1 48) (second_class v a low) (second_leads v a low) there
-        | inr b ↦ elim (cases_lt v 16944) [
-          | inl low ↦ written_by text at least v rest (class 56 2 560) (third_class v b low) (third_leads v b low) there
-          | inr c ↦ written_by text at least v rest (class 60 3 16944) (fourth_class v c most) (fourth_leads v c most)
-              there
-        ]
-      ]
+  | inl low ↦ written_by text at least v rest (class 0 0 0) (first_class v low) (first_leads v low) there
+  | inr a ↦ elim (cases_lt v 560) [
+    | inl low ↦ written_by text at least v rest (class 48 1 48) (second_class v a low) (second_leads v a low) there
+    | inr b ↦ elim (cases_lt v 16944) [
+      | inl low ↦ written_by text at least v rest (class 56 2 560) (third_class v b low) (third_leads v b low) there
+      | inr c ↦ written_by text at least v rest (class 60 3 16944) (fourth_class v c most) (fourth_leads v c most)
+          there
     ]
+  ]
+]
 
 pub law : (w : ℕ) (rest : List ℕ) → digits 0 w rest ≡ Some w
 unfolding digits

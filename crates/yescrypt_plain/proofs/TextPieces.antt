@@ -117,8 +117,13 @@ field_lacks bytes below = lacks_dollar (crypt_field bytes) (field_passes past_do
 five_passes : (v : ℕ) → list_all past_dollar (five_text v) ≡ true
 unfolding five_text
 five_passes v =
-    rw (character_passes (v % 64), character_passes (v / 64 % 64), character_passes (v / 64 ^ 2 % 64),
-    character_passes (v / 64 ^ 3 % 64), character_passes (v / 64 ^ 4 % 64)) refl
+    rw (
+      character_passes (v % 64),
+      character_passes (v / 64 % 64),
+      character_passes (v / 64 ^ 2 % 64),
+      character_passes (v / 64 ^ 3 % 64),
+      character_passes (v / 64 ^ 4 % 64),
+    ) refl
 
 scrypt_params_pass : (p : ScryptParams) → list_all past_dollar (scrypt_params_text p) ≡ true
 unfolding scrypt_params_text

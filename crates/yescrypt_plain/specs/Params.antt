@@ -3,7 +3,6 @@ use Rattle.std.specs.Prelude.{ℕ, ◌+◌, ◌-◌, ◌*◌, ◌/◌, ◌%◌, 
 use Rattle.std.specs.Prelude.{nat_lt, slice_index, Option, Some, None, Result, Ok, Err, if◌then◌else◌}
 use Rattle.std.specs.Option.{option_and_then}
 use Rattle.pieces.specs.Faults.{first_fault, unless, value_or_fault}
-use Rattle.scrypt_plain.specs.Bounds as scrypt
 use Rattle.yescrypt_plain.specs.Numbers.{character, five, five_text, named, number, number_text, value_of}
 use Rattle.yescrypt_plain.specs.declared.error.TextFault.{TextFault}
 use Rattle.yescrypt_plain.specs.declared.error.TextFault.TheVariants as fault
@@ -104,19 +103,25 @@ named_scrypt_params text =
     (five text 1))
     (value_of (slice_index text 0))
 
--- a table of 2 ^ ln rows of 128 * r bytes has more than 2 ^ 28 bytes; above 24, ln alone is too much
+-- a table of 2 ^ ln rows of 128 * r bytes has more than 2 ^ 30 bytes; above 24, ln alone is too much
 abbrev pub scrypt_exceeds_memory : ℕ → ℕ → Bool
-scrypt_exceeds_memory ln r = nat_lt 24 ln || nat_lt (2 ^ 28) (128 * r * 2 ^ ln)
+scrypt_exceeds_memory ln r = nat_lt 24 ln || nat_lt (2 ^ 30) (128 * r * 2 ^ ln)
 
--- the costs that are taken: those of scrypt_plain, with at least four rows
+-- at least four rows, and N below 2 ^ (128 * r / 8) (RFC 7914, section 2), of at least one block; 1 to 1,024 parts, that
+-- have at most 2 ^ 24 bytes together
+abbrev pub is_scrypt_cost : ℕ → ℕ → ℕ → Bool
+is_scrypt_cost ln r p =
+    nat_le 2 ln && nat_lt ln (16 * r) && nat_le 1 r && nat_le 1 p && nat_le p 1024 && nat_le (r * p) 131072
+
+-- the costs that are taken
 abbrev pub scrypt_in_bounds : ScryptParams → Bool
-scrypt_in_bounds p = nat_le 2 p.ln && scrypt.in_bounds p.ln p.r p.p
+scrypt_in_bounds p = not (scrypt_exceeds_memory p.ln p.r) && is_scrypt_cost p.ln p.r p.p
 
 -- the first cause that the parameters are not taken
 abbrev pub scrypt_fault : ScryptParams → Option TextFault
 scrypt_fault p =
     first_fault
-    (unless (not (scrypt_exceeds_memory p.ln p.r)) fault.Memory ∷ unless (scrypt_in_bounds p) fault.Cost ∷ [])
+    (unless (not (scrypt_exceeds_memory p.ln p.r)) fault.Memory ∷ unless (is_scrypt_cost p.ln p.r p.p) fault.Cost ∷ [])
 
 -- the parameters that are taken, or why none are
 abbrev pub scrypt_taken : Option ScryptParams → Result ScryptParams TextFault

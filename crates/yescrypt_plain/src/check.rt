@@ -9,9 +9,8 @@ ghost use Rattle.yescrypt_plain.specs.Params.{in_bounds, scrypt_in_bounds};
 ghost use Rattle.yescrypt_plain.specs.Views.{as_scrypt, as_yescrypt};
 
 use crate::text::{ScryptParts, YescryptParts, scrypt_text, yescrypt_text};
-use crate::{CheckError, YescryptKept};
+use crate::{CheckError, CryptKept};
 use base64ct::Counts;
-use scrypt_plain::ScryptKept;
 use std::alloc::{AllocError, Global};
 use stored_check::PASSWORD_MAX;
 
@@ -30,7 +29,7 @@ fn answer_of(matches: bool) -> Result<(), CheckError>
 // Whether the hash is that of the password. The hashes are compared to their end.
 fn check_yescrypt_parts(
     alloc: Global,
-    kept: &YescryptKept,
+    kept: &CryptKept,
     password: &[u8],
     parts: YescryptParts,
     counts: &mut Counts,
@@ -64,7 +63,7 @@ pub fn yescrypt_check(alloc: Global, password: &str, stored: &str) -> Result<(),
     ensures passed { (result ≡ Err CheckError.OutOfMemory → ⊥)
         → (result ≡ Ok tt) ↔ ((length password.now ≤ password_max) × IsYescryptText password.now stored.now) }
 {
-    let kept = YescryptKept::new(alloc);
+    let kept = CryptKept::new(alloc);
     let mut counts = Counts::new();
     yescrypt_check_kept(alloc, &kept, password, stored, &mut counts)
 }
@@ -74,7 +73,7 @@ pub fn yescrypt_check(alloc: Global, password: &str, stored: &str) -> Result<(),
 #[tactic(auto, unfolding(crate::specs::Check::yescrypt_answer))]
 pub fn yescrypt_check_kept(
     alloc: Global,
-    kept: &YescryptKept,
+    kept: &CryptKept,
     password: &str,
     stored: &str,
     counts: &mut Counts,
@@ -98,7 +97,7 @@ pub fn yescrypt_check_kept(
 // Whether the hash is that of the password. The hashes are compared to their end.
 fn check_scrypt_parts(
     alloc: Global,
-    kept: &ScryptKept,
+    kept: &CryptKept,
     password: &[u8],
     parts: ScryptParts<'_>,
     counts: &mut Counts,
@@ -106,7 +105,7 @@ fn check_scrypt_parts(
     requires bounds { scrypt_in_bounds parts.params ≡ true }
     requires salt { length parts.salt.now ≤ 86 }
     requires sames { counts.old.sames ≤ 2 ^ 62 + 8 }
-    ensures answer { IsAnswer (scrypt_verdict password.now (as_scrypt (Ok parts))) result }
+    ensures answer { IsAnswer (scrypt_verdict password.now (as_scrypt (Ok parts.entry))) result }
     ensures looks { counts.new.looks ≡ counts.old.looks }
     ensures sames { is_verdict result ≡ true → counts.new.sames ≡ counts.old.sames + 32 }
     ensures sames_stay { counts.old.sames ≤ counts.new.sames }
@@ -115,13 +114,9 @@ fn check_scrypt_parts(
     if password.len() > PASSWORD_MAX {
         return Err(CheckError::PasswordTooLong);
     }
-    let mut key = [0u8; 32];
-    let params = parts.params;
-    match kept.scrypt_into(
-        alloc, password, parts.salt, params.ln, params.r, params.p, &mut key,
-    ) {
+    match kept.scrypt(alloc, password, parts.salt, parts.params) {
         Err(AllocError) => Err(CheckError::OutOfMemory),
-        Ok(()) => answer_of(bool::from(counts.same_bytes(&key, &parts.hash))),
+        Ok(key) => answer_of(bool::from(counts.same_bytes(&key, &parts.hash))),
     }
 }
 
@@ -135,7 +130,7 @@ pub fn scrypt_check(alloc: Global, password: &str, stored: &str) -> Result<(), C
     ensures passed { (result ≡ Err CheckError.OutOfMemory → ⊥)
         → (result ≡ Ok tt) ↔ ((length password.now ≤ password_max) × IsScryptText password.now stored.now) }
 {
-    let kept = ScryptKept::new(alloc);
+    let kept = CryptKept::new(alloc);
     let mut counts = Counts::new();
     scrypt_check_kept(alloc, &kept, password, stored, &mut counts)
 }
@@ -145,7 +140,7 @@ pub fn scrypt_check(alloc: Global, password: &str, stored: &str) -> Result<(), C
 #[tactic(auto, unfolding(crate::specs::Check::scrypt_answer))]
 pub fn scrypt_check_kept(
     alloc: Global,
-    kept: &ScryptKept,
+    kept: &CryptKept,
     password: &str,
     stored: &str,
     counts: &mut Counts,

@@ -38,10 +38,10 @@ pub enum TextFault {
     Upgrades,
     /// A text `$y$` names a ROM.
     Rom,
-    /// The table has more than 2^30 bytes, or 2^28 in a text `$7$`; or, in a text `$y$`, a row has 2^26 or more.
+    /// The table has more than 2^30 bytes; or, in a text `$y$`, a row has 2^26 or more.
     Memory,
-    /// Another cost is not taken: fewer than 4 rows, r = 0, or a time t above 1,024; of a text `$7$`, costs that are not
-    /// [`in_bounds`](scrypt_plain::in_bounds).
+    /// Another cost is not taken: fewer than 4 rows, or a time t above 1,024; in a text `$7$`, r = 0, p = 0 or above 1,024,
+    /// r * p above 131,072, or N not below 2^(16 * r).
     Cost,
     /// The salt of a text `$y$` is not the encoding of 1 to 64 bytes; that of a text `$7$` has more than 86 bytes,
     /// or one that is none of `./0-9A-Za-z`.

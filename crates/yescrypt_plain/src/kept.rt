@@ -1,33 +1,39 @@
-//! yescrypt in memory that is kept.
+//! Keys in memory that is kept.
 
 ghost use Rattle.std.specs.Prelude.{◌≡◌, ◌+◌, ◌*◌, ◌^◌, ◌<◌, ◌≤◌, length, IfOk, OnOk, true};
 ghost use Rattle.std.specs.Vec.{vec_len};
-ghost use Rattle.yescrypt_plain.specs.Params.{in_bounds};
+ghost use Rattle.scrypt_plain.specs.Scrypt.{scrypt};
+ghost use Rattle.yescrypt_plain.specs.Params.{in_bounds, scrypt_in_bounds};
 ghost use Rattle.yescrypt_plain.specs.Yescrypt.{yescrypt};
 
-use crate::{FIRST_WORD, YescryptParams, table_len, words_len, yescrypt, yescrypt_in};
+use crate::scrypt_key::{scrypt_in, scrypt_len};
+use crate::{
+    FIRST_WORD, ScryptParams, YescryptParams, table_len, words_len, yescrypt, yescrypt_in,
+};
 use std::alloc::{AllocError, Global};
 use std::cell::RefCell;
 
-// The memory of a key: the part with scrypt's small table, and yescrypt's table with a row and the boxes.
+// The memory of a key: of yescrypt the part with scrypt's small table, and the table with a row and the boxes; of scrypt the
+// first alone.
 #[derive(Drop)]
 struct Memory {
     words: Vec<u32>,
     table: Vec<u64>,
 }
 
-/// yescrypt, with the table of one key kept for the next.
+/// Keys of yescrypt and scrypt, with the table of one kept for the next of its kind.
 ///
-/// The table grows to the largest that a key needed, and is given back when this is dropped.
+/// The two tables grow to the largest that a key needed, and are given back when this is dropped. They hold what was derived
+/// from passwords.
 #[derive(Drop)]
-pub struct YescryptKept {
+pub struct CryptKept {
     memory: RefCell<Memory>,
 }
 
-impl YescryptKept {
+impl CryptKept {
     /// No table is kept yet.
-    pub fn new(alloc: Global) -> YescryptKept {
-        YescryptKept {
+    pub fn new(alloc: Global) -> CryptKept {
+        CryptKept {
             memory: RefCell::new(Memory {
                 words: Vec::new(alloc),
                 table: Vec::new(alloc),
@@ -56,6 +62,29 @@ impl YescryptKept {
         match self.memory.try_borrow_mut() {
             Ok(mut kept) => yescrypt_kept(alloc, &mut kept, password, salt, params),
             Err(_) => yescrypt(alloc, password, salt, params),
+        }
+    }
+
+    /// The key of 32 bytes by scrypt for the password, the salt and the costs, in the table that is kept.
+    ///
+    /// # Errors
+    ///
+    /// Only where a table is refused.
+    pub fn scrypt(
+        &self,
+        alloc: Global,
+        password: &[u8],
+        salt: &[u8],
+        params: ScryptParams,
+    ) -> Result<[u8; 32], AllocError>
+        requires bounds { scrypt_in_bounds params ≡ true }
+        requires password { length password.now < 2 ^ 30 }
+        requires salt { length salt.now < 2 ^ 30 }
+        ensures key { IfOk result (λ key. key ≡ scrypt password.now salt.now (2 ^ params.ln) params.r params.p 32) }
+    {
+        match self.memory.try_borrow_mut() {
+            Ok(mut kept) => scrypt_kept(alloc, &mut kept.words, password, salt, params),
+            Err(_) => scrypt_kept(alloc, &mut Vec::new(alloc), password, salt, params),
         }
     }
 }
@@ -106,4 +135,21 @@ fn yescrypt_kept(
         memory.words.as_mut_slice(),
         memory.table.as_mut_slice(),
     ))
+}
+
+// The key by scrypt, in these words, which grow where they are too few.
+fn scrypt_kept(
+    alloc: Global,
+    words: &mut Vec<u32>,
+    password: &[u8],
+    salt: &[u8],
+    params: ScryptParams,
+) -> Result<[u8; 32], AllocError>
+    requires bounds { scrypt_in_bounds params ≡ true }
+    requires password { length password.now < 2 ^ 30 }
+    requires salt { length salt.now < 2 ^ 30 }
+    ensures key { IfOk result (λ key. key ≡ scrypt password.now salt.now (2 ^ params.ln) params.r params.p 32) }
+{
+    grow_words(alloc, words, scrypt_len(params))?;
+    Ok(scrypt_in(password, salt, params, words.as_mut_slice()))
 }

@@ -4,7 +4,7 @@
 //!
 //! yescrypt is taken in the one flavor that is in use, `j`, of the flags `YESCRYPT_RW_DEFAULTS`: with a table that is written
 //! as it is read, pwxform in place of Salsa20/8, one part (p = 1), no upgrades (g = 0) and no ROM. The key of a text `$7$` is
-//! that of [`scrypt_plain`].
+//! that of RFC 7914, by the parts of [`scrypt_plain`].
 #![tactic(auto)]
 
 ghost use Rattle.std.specs.Prelude.{◌≡◌, ◌+◌, ◌*◌, ◌^◌, ◌<◌, ◌≤◌, length, true, IfOk};
@@ -23,6 +23,7 @@ mod number;
 mod params;
 mod pwx;
 mod rows;
+mod scrypt_key;
 mod smix;
 #[cfg(test)]
 mod tests;
@@ -30,7 +31,7 @@ mod text;
 
 pub use check::{scrypt_check, scrypt_check_kept, yescrypt_check, yescrypt_check_kept};
 pub use error::{CheckError, MakeError, TextFault};
-pub use kept::YescryptKept;
+pub use kept::CryptKept;
 pub use make::{scrypt_text, yescrypt_text};
 pub use params::{
     ScryptParams, YescryptParams, in_bounds, read_scrypt_params, read_yescrypt_params,

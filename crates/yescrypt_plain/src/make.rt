@@ -8,7 +8,7 @@ ghost use Rattle.yescrypt_plain.specs.Params.{in_bounds, scrypt_in_bounds};
 use crate::field::{hash_field, push_salt};
 use crate::params::{in_bounds, push_yescrypt_params, scrypt_in_bounds, scrypt_params_text};
 use crate::text::is_scrypt_salt;
-use crate::{MakeError, ScryptParams, YescryptParams, yescrypt};
+use crate::{CryptKept, MakeError, ScryptParams, YescryptParams, yescrypt};
 use pieces::short_bytes::ShortBytes;
 use std::alloc::{AllocError, Global};
 use stored_check::PASSWORD_MAX;
@@ -125,11 +125,8 @@ pub fn scrypt_text(
     if let Some(fault) = scrypt_make_fault(password, salt, params) {
         return Err(fault);
     }
-    let mut key = [0u8; 32];
-    match scrypt_plain::scrypt(
-        alloc, password, salt, params.ln, params.r, params.p, &mut key,
-    ) {
+    match CryptKept::new(alloc).scrypt(alloc, password, salt, params) {
         Err(AllocError) => Err(MakeError::OutOfMemory),
-        Ok(()) => Ok(scrypt_text_of(params, salt, &key)),
+        Ok(key) => Ok(scrypt_text_of(params, salt, &key)),
     }
 }

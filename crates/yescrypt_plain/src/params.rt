@@ -1,7 +1,7 @@
 //! The parameters of the texts `$y$` and `$7$`.
 
 ghost use Rattle.std.specs.Prelude.{◌≡◌, ◌+◌, ◌*◌, ◌^◌, ◌<◌, ◌≤◌, ◌++◌, length, IfOk, IfSome, true};
-ghost use Rattle.yescrypt_plain.specs.Params.{exceeds_memory, in_bounds, is_cost, named_fault, named_params};
+ghost use Rattle.yescrypt_plain.specs.Params.{exceeds_memory, in_bounds, is_cost, is_scrypt_cost, named_fault, named_params};
 ghost use Rattle.yescrypt_plain.specs.Params.{named_scrypt_params, scrypt_exceeds_memory, scrypt_fault, scrypt_in_bounds};
 ghost use Rattle.yescrypt_plain.specs.Params.{scrypt_params, scrypt_params_text, yescrypt_params, yescrypt_params_text};
 
@@ -187,14 +187,27 @@ fn named_scrypt_params(text: &[u8]) -> Option<ScryptParams>
 fn scrypt_exceeds_memory(ln: u32, r: u32) -> bool
     ensures { result ≡ scrypt_exceeds_memory ln r }
 {
-    24 < ln || 1 << 28 < 128 * r as u64 * (1 << ln as u64)
+    24 < ln || 1 << 30 < 128 * r as u64 * (1 << ln as u64)
 }
 
-/// Whether these costs are taken: those of [`in_bounds`](scrypt_plain::in_bounds), with at least four rows.
+// Whether the other costs are taken.
+fn is_scrypt_cost(ln: u32, r: u32, p: u32) -> bool
+    ensures { result ≡ is_scrypt_cost ln r p }
+{
+    2 <= ln
+        && (ln as u64) < 16 * r as u64
+        && 1 <= r
+        && 1 <= p
+        && p <= 1024
+        && r as u64 * p as u64 <= 131_072
+}
+
+/// Whether these costs are taken: those of RFC 7914 with at least four rows, a table of at most 2^30 bytes, and at most 1,024
+/// parts that have at most 2^24 bytes together.
 pub fn scrypt_in_bounds(params: ScryptParams) -> bool
     ensures { result ≡ scrypt_in_bounds params }
 {
-    2 <= params.ln && scrypt_plain::in_bounds(params.ln, params.r, params.p)
+    !scrypt_exceeds_memory(params.ln, params.r) && is_scrypt_cost(params.ln, params.r, params.p)
 }
 
 // The first cause that the parameters of a text are not taken.
@@ -204,7 +217,7 @@ fn scrypt_fault(params: ScryptParams) -> Option<TextFault>
     if scrypt_exceeds_memory(params.ln, params.r) {
         return Some(TextFault::Memory);
     }
-    if !scrypt_in_bounds(params) {
+    if !is_scrypt_cost(params.ln, params.r, params.p) {
         return Some(TextFault::Cost);
     }
     None

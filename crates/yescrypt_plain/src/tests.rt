@@ -1,13 +1,12 @@
 //! Texts and keys that libxcrypt 4.4.33 made by crypt(3).
 
 use crate::{
-    CheckError, MakeError, ScryptParams, TextFault, YescryptKept, YescryptParams, in_bounds,
+    CheckError, CryptKept, MakeError, ScryptParams, TextFault, YescryptParams, in_bounds,
     read_scrypt_params, read_yescrypt_params, scrypt_check, scrypt_check_kept, scrypt_in_bounds,
     scrypt_params_text, scrypt_text, table_len, words_len, yescrypt, yescrypt_check,
     yescrypt_check_kept, yescrypt_in, yescrypt_params_text, yescrypt_text,
 };
 use base64ct::Counts;
-use scrypt_plain::ScryptKept;
 use std::test::Fail;
 
 // ln, r, t and the key of "pleaseletmein" with the salt whose encoding is `saltsalt`.
@@ -52,7 +51,7 @@ const KEYS: [(u32, u32, u32, [u8; 32]); 6] = [
 
 #[test]
 fn keys(rt: HostRuntime) -> Result<(), Fail> {
-    let kept = YescryptKept::new(rt.alloc());
+    let kept = CryptKept::new(rt.alloc());
     let password = b"pleaseletmein";
     let salt = b"\xb8\x19\xe7\xb8\x19\xe7";
     for (ln, r, t, key) in KEYS {
@@ -132,7 +131,7 @@ const YESCRYPT: [(&str, &str); 10] = [
 
 #[test]
 fn yescrypt_texts(rt: HostRuntime) -> Result<(), Fail> {
-    let kept = YescryptKept::new(rt.alloc());
+    let kept = CryptKept::new(rt.alloc());
     for (password, stored) in YESCRYPT {
         let found = yescrypt_check(rt.alloc(), password, stored);
         assert!(rt; found == Ok(()), "{stored:?} {found:?}");
@@ -166,7 +165,7 @@ const SCRYPT: [(&str, &str); 3] = [
 
 #[test]
 fn scrypt_texts(rt: HostRuntime) -> Result<(), Fail> {
-    let kept = ScryptKept::new(rt.alloc());
+    let kept = CryptKept::new(rt.alloc());
     for (password, stored) in SCRYPT {
         let found = scrypt_check(rt.alloc(), password, stored);
         assert!(rt; found == Ok(()), "{stored:?} {found:?}");
@@ -327,7 +326,7 @@ const SCRYPT_FAULTS: [(&str, TextFault); 14] = [
         TextFault::Memory,
     ),
     (
-        "$7$GU..../....$CI9x0yo/VkSMh/DdbR/8V7dXPUFgc2uGPDbBqD6tlS9",
+        "$7$IU..../....$CI9x0yo/VkSMh/DdbR/8V7dXPUFgc2uGPDbBqD6tlS9",
         TextFault::Memory,
     ),
     (

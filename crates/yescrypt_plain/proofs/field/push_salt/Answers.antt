@@ -5,7 +5,7 @@ use Rattle.yescrypt_plain.proofs.field.push_salt.Goals as goal
 
 pub returns-in-Err-clause-appended : goal.returns-in-Err-clause-appended
 returns-in-Err-clause-appended g c =
-    let below : EachBelow 256 c.args.salt.now = λ i. c.type_inv.salt i in
+    let below : EachBelow 256 c.args.salt.now = λ i. omega (arith, c.type_inv.salt i) in
     let len = field_len c.args.salt.now below in
     let most = c.requires.most in
     elim (c.in-Err.ensures.refused.0 (search rules)) [
