@@ -2,7 +2,7 @@
 -- texts are libxcrypt's, or of settings that libxcrypt's crypt_gensalt writes.
 use Rattle.std.specs.Prelude.{◌≡◌, ℕ, ◌+◌, ◌*◌, ◌^◌, List, [], ◌∷◌, codes, refl, Some, None, Ok, Err}
 use Rattle.base64ct.specs.Encoding.{bits, encoding, eights, groups, low_bits, number as number_of_bits, sixes}
-use Rattle.scrypt_plain.specs.Scrypt.{double_rounds, salsa20_2_words}
+use Rattle.scrypt_plain.specs.Scrypt.{column_round, double_rounds, quarter_round, row_round, salsa20_2_words}
 use Rattle.yescrypt_plain.specs.Field.{crypt_field}
 use Rattle.yescrypt_plain.specs.Numbers.{digits, digits_text, five_text, number, number_text}
 use Rattle.yescrypt_plain.specs.Params.{named_params, scrypt_params_text, yescrypt_params, yescrypt_params_text}
@@ -81,5 +81,5 @@ order = refl
 salsa : salsa20_2_words counted
     ≡ 1610105753 ∷ 3907574930 ∷ 2111290898 ∷ 324280798 ∷ 2529808979 ∷ 3183441365 ∷ 445175106 ∷ 2278809881 ∷ 2382912548
     ∷ 3896547352 ∷ 280348011 ∷ 1244587507 ∷ 2672949329 ∷ 505696863 ∷ 3377659822 ∷ 3623257422 ∷ []
-unfolding salsa20_2_words double_rounds
+unfolding salsa20_2_words double_rounds row_round quarter_round column_round
 salsa = refl
