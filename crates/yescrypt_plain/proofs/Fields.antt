@@ -1,14 +1,14 @@
 -- The characters of salts and hashes.
-use Rattle.std.proofs.Common.{◌≡◌, ◌≢◌, ℕ, zero, suc, ◌+◌, ◌*◌, ◌/◌, ◌%◌, ◌≤◌, ◌<◌, Bool, true, false, List, [], ◌∷◌, ◌++◌}
-use Rattle.std.proofs.Common.{length, map, take, drop, refl, sym, ap, ◌∙◌, arith, rules, subst, inl, inr, Some, None, Result, Ok, Err}
-use Rattle.std.specs.Prelude.{◌==◌, ◌↔◌, ◌⊎◌, not, nat_le, Option, IsErr, IfOk, if◌then◌else◌}
+use Rattle.std.proofs.Common.{◌≡◌, ℕ, zero, suc, ◌+◌, ◌*◌, ◌/◌, ◌≤◌, ◌<◌, Bool, true, false, List, [], ◌∷◌, ◌++◌}
+use Rattle.std.proofs.Common.{length, map, drop, refl, ap, ◌∙◌, arith, rules, subst, inl, inr, Some, None, Result, Ok, Err}
+use Rattle.std.specs.Prelude.{◌==◌, ◌↔◌, ◌⊎◌, nat_le, Option, IsErr, IfOk, if◌then◌else◌}
 use Rattle.std.specs.List.{list_all}
 use Rattle.std.proofs.lemmas.Bool.Decides.{nat_tests}
 use Rattle.std.proofs.lemmas.List.{append-nil, drop_all}
 use Rattle.std.proofs.lemmas.Option.{none-some, same_Some}
 use Rattle.base64ct.specs.Alphabets.{base64_sha_crypt}
 use Rattle.base64ct.specs.Decoding.{decoding}
-use Rattle.base64ct.specs.Encoding.{EachBelow, byte_count, character, encoding, groups, longest_input}
+use Rattle.base64ct.specs.Encoding.{EachBelow, character, encoding, groups, longest_input}
 use Rattle.base64ct.specs.declared.errors.InvalidLengthError.{InvalidLengthError}
 use Rattle.base64ct.proofs.DecodingLaws.{decoding-Some, decoding-encoding, length-decodable}
 use Rattle.base64ct.proofs.Encodings.{groups-below}

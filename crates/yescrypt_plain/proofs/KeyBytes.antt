@@ -1,5 +1,5 @@
 -- A key is a list of 32 bytes.
-use Rattle.std.proofs.Common.{◌≡◌, ℕ, zero, suc, ◌+◌, ◌/◌, List, [], ◌∷◌, ◌++◌, length, slice_index, arith}
+use Rattle.std.proofs.Common.{◌≡◌, ℕ, zero, suc, List, [], ◌∷◌, ◌++◌, length, slice_index, arith}
 use Rattle.std.specs.Int.{w32, to_be_bytes}
 use Rattle.base64ct.specs.Encoding.{EachBelow}
 use Rattle.sha2.specs.Sha256.{sha256, digest_bytes}

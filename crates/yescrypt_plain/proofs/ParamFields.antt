@@ -1,23 +1,22 @@
 -- A parameter field of a text `$y$` has one spelling.
 use Rattle.std.proofs.Common.{◌≡◌, ℕ, ◌+◌, ◌*◌, ◌-◌, ◌/◌, ◌%◌, ◌^◌, ◌≤◌, ◌<◌, Bool, true, false, List, [], ◌∷◌, ◌++◌}
-use Rattle.std.proofs.Common.{length, length-drop, drop, refl, sym, ap, ◌∙◌, arith, subst, Some, None, Result, Ok, Err}
-use Rattle.std.specs.Prelude.{◌==◌, ◌&&◌, ◌||◌, ◌↔◌, not, nat_le, nat_lt, Option, if◌then◌else◌}
+use Rattle.std.proofs.Common.{length, length-drop, drop, refl, sym, ap, ◌∙◌, arith, subst, Some, None, Ok}
+use Rattle.std.specs.Prelude.{◌==◌, ◌&&◌, ◌||◌, not, nat_le, nat_lt, Option, if◌then◌else◌}
 use Rattle.std.specs.Option.{option_and_then}
-use Rattle.std.proofs.lemmas.Bool.{and_parts, not-true}
+use Rattle.std.proofs.lemmas.Bool.{and_parts}
 use Rattle.std.proofs.lemmas.Bool.Decides.{nat_tests}
 use Rattle.std.proofs.lemmas.List.{append-nil, drop_all}
 use Rattle.std.proofs.lemmas.Option.{none-some, same_Some}
-use Rattle.pieces.specs.Faults.{first_fault, unless, value_or_fault}
-use Rattle.pieces.proofs.FaultLaws.{err_ok, first_none, unless_none, value_found}
+use Rattle.pieces.specs.Faults.{first_fault, unless}
+use Rattle.pieces.proofs.FaultLaws.{err_ok, value_found}
 use Rattle.yescrypt_plain.specs.Numbers.{named, number, number_text}
-use Rattle.yescrypt_plain.specs.Params.{exceeds_memory, in_bounds, is_cost, named_fault, named_params, taken, time_text, whole}
+use Rattle.yescrypt_plain.specs.Params.{exceeds_memory, in_bounds, is_cost, named_fault, named_params, taken, time_text}
 use Rattle.yescrypt_plain.specs.Params.{yescrypt_params, yescrypt_params_text}
-use Rattle.yescrypt_plain.specs.declared.error.TextFault.{TextFault}
 use Rattle.yescrypt_plain.specs.declared.error.TextFault.TheVariants as fault
 use Rattle.yescrypt_plain.specs.declared.number.Read.{Read}
 use Rattle.yescrypt_plain.specs.declared.params.NamedParams.{NamedParams}
 use Rattle.yescrypt_plain.specs.declared.params.YescryptParams.{YescryptParams}
-use Rattle.yescrypt_plain.proofs.Spelling.{IsReadAt, IsSpelled, number_is, number_read}
+use Rattle.yescrypt_plain.proofs.Spelling.{number_is, number_read}
 
 abbrev read : ℕ → ℕ → Read
 read value next = record { value = value; next = next }

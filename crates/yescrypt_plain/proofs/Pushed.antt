@@ -1,10 +1,9 @@
 -- Texts that are put together piece by piece.
-use Rattle.std.proofs.Common.{◌≡◌, ℕ, ◌-◌, List, [], ◌++◌, refl, sym, ap, ◌∙◌, arith}
+use Rattle.std.proofs.Common.{◌≡◌, ℕ, ◌-◌, List, ◌++◌, refl, ap, ◌∙◌}
 use Rattle.std.specs.Prelude.{◌==◌, true, false}
-use Rattle.std.proofs.lemmas.Bool.Decides.{nat_tests}
 use Rattle.std.proofs.lemmas.List.{append_assoc, append-nil}
 use Rattle.yescrypt_plain.specs.Numbers.{number_text}
-use Rattle.yescrypt_plain.specs.Params.{time_text, yescrypt_params_text}
+use Rattle.yescrypt_plain.specs.Params.{yescrypt_params_text}
 use Rattle.yescrypt_plain.specs.declared.params.YescryptParams.{YescryptParams}
 
 -- two pieces more

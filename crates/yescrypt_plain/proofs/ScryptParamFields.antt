@@ -1,7 +1,7 @@
 -- The eleven characters of parameters of a text `$7$` have one spelling.
-use Rattle.std.proofs.Common.{◌≡◌, ℕ, ◌+◌, ◌*◌, ◌-◌, ◌/◌, ◌%◌, ◌^◌, ◌≤◌, ◌<◌, Bool, true, false, List, [], ◌∷◌, ◌++◌}
-use Rattle.std.proofs.Common.{length, length-append, drop, slice_index, refl, sym, ap, ap₂, ◌∙◌, arith, subst, Some, None, Result, Ok, Err}
-use Rattle.std.specs.Prelude.{◌==◌, ◌&&◌, ◌||◌, not, nat_le, nat_lt, Option, if◌then◌else◌}
+use Rattle.std.proofs.Common.{◌≡◌, ℕ, ◌+◌, ◌*◌, ◌/◌, ◌%◌, ◌^◌, ◌≤◌, ◌<◌, Bool, true, false, List, [], ◌∷◌, ◌++◌}
+use Rattle.std.proofs.Common.{length, drop, slice_index, refl, sym, ap, ap₂, ◌∙◌, arith, subst, Some, None, Ok}
+use Rattle.std.specs.Prelude.{◌||◌, not, nat_le, nat_lt, Option, if◌then◌else◌}
 use Rattle.std.specs.Option.{option_and_then}
 use Rattle.std.proofs.Math.Nat.{mul-le-mul_left}
 use Rattle.std.proofs.lemmas.Bool.{and_parts}
@@ -13,7 +13,6 @@ use Rattle.pieces.proofs.FaultLaws.{err_ok, value_found}
 use Rattle.yescrypt_plain.specs.Numbers.{character, five, five_text, value_of}
 use Rattle.yescrypt_plain.specs.Params.{is_scrypt_cost, named_scrypt_params, scrypt_exceeds_memory, scrypt_fault, scrypt_in_bounds, scrypt_params}
 use Rattle.yescrypt_plain.specs.Params.{scrypt_params_text, scrypt_taken}
-use Rattle.yescrypt_plain.specs.declared.error.TextFault.{TextFault}
 use Rattle.yescrypt_plain.specs.declared.error.TextFault.TheVariants as fault
 use Rattle.yescrypt_plain.specs.declared.params.ScryptParams.{ScryptParams}
 use Rattle.yescrypt_plain.proofs.Numbers.{rest_is}

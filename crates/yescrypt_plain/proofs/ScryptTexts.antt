@@ -1,7 +1,7 @@
 -- The texts `$7$` that a password passes.
-use Rattle.std.proofs.Common.{◌≡◌, ℕ, ◌^◌, ◌≤◌, ◌<◌, Bool, true, false, List, [], ◌∷◌, ◌++◌, length, drop, refl, sym, ap, ◌∙◌, arith}
+use Rattle.std.proofs.Common.{◌≡◌, ℕ, ◌^◌, ◌≤◌, true, List, [], ◌∷◌, ◌++◌, length, drop, refl, sym, ap, ◌∙◌}
 use Rattle.std.proofs.Common.{subst, Some, None, Result, Ok, Err}
-use Rattle.std.specs.Prelude.{◌↔◌, ◌&&◌, codes, nat_eq, nat_le, nat_lt, Option, if◌then◌else◌}
+use Rattle.std.specs.Prelude.{codes, nat_eq, nat_le, Option}
 use Rattle.std.specs.Cmp.Lexicographic.{pointwise}
 use Rattle.std.specs.List.{join_with_byte, list_all}
 use Rattle.std.proofs.lemmas.Bool.{and_parts}
@@ -13,14 +13,13 @@ use Rattle.pieces.proofs.ListLaws.{nil_of_empty}
 use Rattle.scrypt_plain.specs.Scrypt.{scrypt}
 use Rattle.scrypt_plain.proofs.KeyBytes.{scrypt_bytes}
 use Rattle.stored_check.specs.Limits.{password_max}
-use Rattle.yescrypt_plain.specs.Check.{Answer, scrypt_answer, scrypt_matches, scrypt_verdict, verdict}
+use Rattle.yescrypt_plain.specs.Check.{scrypt_answer, scrypt_matches, scrypt_verdict}
 use Rattle.yescrypt_plain.specs.Field.{crypt_field, hash_bytes}
 use Rattle.yescrypt_plain.specs.Laws.{ScryptMadeMatches, ScryptMatchesExactly}
-use Rattle.yescrypt_plain.specs.Made.{IsScryptText, scrypt_hash_text, scrypt_text_of}
+use Rattle.yescrypt_plain.specs.Made.{IsScryptText, scrypt_text_of}
 use Rattle.yescrypt_plain.specs.Params.{scrypt_in_bounds, scrypt_params, scrypt_params_text}
 use Rattle.yescrypt_plain.specs.Text.{ScryptFields, ScryptMeaning, is_character, is_scrypt_salt, pieces_behind, scrypt_by_hash}
 use Rattle.yescrypt_plain.specs.Text.{scrypt_by_params, scrypt_by_salt, scrypt_fields, scrypt_of, scrypt_text, split_scrypt}
-use Rattle.yescrypt_plain.specs.declared.error.CheckError.{CheckError}
 use Rattle.yescrypt_plain.specs.declared.error.CheckError.TheVariants.{InvalidFormat}
 use Rattle.yescrypt_plain.specs.declared.error.TextFault.{TextFault}
 use Rattle.yescrypt_plain.specs.declared.error.TextFault.TheVariants as fault

@@ -3,7 +3,7 @@ use Rattle.std.proofs.Common.{◌≡◌, ℕ, zero, suc, ◌+◌, ◌*◌, ◌-�
 use Rattle.std.proofs.Common.{length, length-append, length-drop, take, drop, slice_index, refl, sym, ap, ap₂, ◌∙◌, arith, subst, inl, inr, Some, None}
 use Rattle.std.specs.Prelude.{◌&&◌, nat_le, nat_lt, Option, if◌then◌else◌}
 use Rattle.std.specs.Option.{option_and_then}
-use Rattle.std.proofs.Math.Nat.{div-div-eq-div-mul, div-one, mod-add-div}
+use Rattle.std.proofs.Math.Nat.{div-div-eq-div-mul, div-one}
 use Rattle.std.proofs.lemmas.Bool.{cases_lt}
 use Rattle.std.proofs.lemmas.Bool.Decides.{nat_tests}
 use Rattle.std.proofs.lemmas.List.{drop-drop, drop_at, take-append-drop}

@@ -1,7 +1,7 @@
 -- The definitions by computing. The values are those of bench/yescrypt_definitions.py, a transcription into Python whose
 -- texts are libxcrypt's, or of settings that libxcrypt's crypt_gensalt writes.
-use Rattle.std.specs.Prelude.{◌≡◌, ℕ, ◌+◌, ◌*◌, ◌^◌, List, [], ◌∷◌, codes, refl, Some, None, Ok, Err}
-use Rattle.base64ct.specs.Encoding.{bits, encoding, eights, groups, low_bits, number as number_of_bits, sixes}
+use Rattle.std.specs.Prelude.{◌≡◌, ℕ, ◌+◌, ◌*◌, ◌^◌, List, [], ◌∷◌, codes, refl, Ok, Err}
+use Rattle.base64ct.specs.Encoding.{bits, encoding, groups, low_bits, number as number_of_bits, sixes}
 use Rattle.scrypt_plain.specs.Scrypt.{column_round, double_rounds, quarter_round, row_round, salsa20_2_words}
 use Rattle.yescrypt_plain.specs.Field.{crypt_field}
 use Rattle.yescrypt_plain.specs.Numbers.{digits, digits_text, five_text, number, number_text}

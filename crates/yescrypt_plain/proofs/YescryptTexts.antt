@@ -1,26 +1,24 @@
 -- The texts `$y$` that a password passes.
-use Rattle.std.proofs.Common.{◌≡◌, ℕ, ◌≤◌, ◌<◌, Bool, true, false, List, [], ◌∷◌, length, refl, sym, ap, ◌∙◌, arith, subst}
+use Rattle.std.proofs.Common.{◌≡◌, ℕ, ◌≤◌, true, List, [], ◌∷◌, length, refl, sym, ap, ◌∙◌, subst}
 use Rattle.std.proofs.Common.{Some, None, Result, Ok, Err}
-use Rattle.std.specs.Prelude.{◌↔◌, codes, nat_eq, nat_lt, Option, if◌then◌else◌}
+use Rattle.std.specs.Prelude.{codes, nat_eq, Option}
 use Rattle.std.specs.Cmp.Lexicographic.{pointwise}
 use Rattle.std.specs.List.{join_with_byte}
-use Rattle.std.proofs.lemmas.Bool.Decides.{nat_tests}
 use Rattle.base64ct.specs.Encoding.{EachBelow}
 use Rattle.base64ct.proofs.DecodingLaws.{same_true, true_same}
 use Rattle.pieces.specs.Lists.{is_empty}
 use Rattle.pieces.proofs.FaultLaws.{err_ok}
 use Rattle.pieces.proofs.ListLaws.{nil_of_empty}
 use Rattle.stored_check.specs.Limits.{password_max}
-use Rattle.yescrypt_plain.specs.Check.{Answer, verdict, yescrypt_answer, yescrypt_matches, yescrypt_verdict}
+use Rattle.yescrypt_plain.specs.Check.{yescrypt_answer, yescrypt_matches, yescrypt_verdict}
 use Rattle.yescrypt_plain.specs.Field.{crypt_field, hash_bytes, salt_bytes}
 use Rattle.yescrypt_plain.specs.Laws.{YescryptMadeMatches, YescryptMatchesExactly}
-use Rattle.yescrypt_plain.specs.Made.{IsYescryptText, yescrypt_hash_text, yescrypt_text_of}
+use Rattle.yescrypt_plain.specs.Made.{IsYescryptText, yescrypt_text_of}
 use Rattle.yescrypt_plain.specs.Params.{in_bounds, yescrypt_params, yescrypt_params_text}
 use Rattle.yescrypt_plain.specs.Text.{YescryptFields, YescryptMeaning, pieces_behind, split_yescrypt, yescrypt_by_hash}
 use Rattle.yescrypt_plain.specs.Text.{yescrypt_by_params, yescrypt_by_salt, yescrypt_fields, yescrypt_of, yescrypt_text}
 use Rattle.yescrypt_plain.specs.Yescrypt.{yescrypt}
-use Rattle.yescrypt_plain.specs.declared.error.CheckError.{CheckError}
-use Rattle.yescrypt_plain.specs.declared.error.CheckError.TheVariants.{InvalidFormat, PasswordTooLong, HashMismatch}
+use Rattle.yescrypt_plain.specs.declared.error.CheckError.TheVariants.{InvalidFormat}
 use Rattle.yescrypt_plain.specs.declared.error.TextFault.{TextFault}
 use Rattle.yescrypt_plain.specs.declared.error.TextFault.TheVariants as fault
 use Rattle.yescrypt_plain.specs.declared.params.YescryptParams.{YescryptParams}

@@ -1,5 +1,5 @@
 -- The text of a password, a salt and costs; and the text that is made, or why none is.
-use Rattle.std.specs.Prelude.{◌≡◌, ◌≤◌, ◌⊎◌, ℕ, ◌^◌, ◌&&◌, Bool, true, List, [], ◌∷◌, ◌++◌, length, nat_le, Option, Result, Err, codes, is_ok}
+use Rattle.std.specs.Prelude.{◌≡◌, ◌≤◌, ◌⊎◌, ℕ, ◌^◌, ◌&&◌, true, List, [], ◌∷◌, ◌++◌, length, nat_le, Option, Result, Err, codes, is_ok}
 use Rattle.std.specs.List.{join_with_byte}
 use Rattle.base64ct.specs.Encoding.{EachBelow}
 use Rattle.pieces.specs.Characters.{dollar}

@@ -1,6 +1,6 @@
 -- The parameter fields of the texts `$y$` and `$7$`: what they say, what of it is taken, and how it is written.
-use Rattle.std.specs.Prelude.{ℕ, ◌+◌, ◌-◌, ◌*◌, ◌/◌, ◌%◌, ◌^◌, ◌==◌, ◌&&◌, ◌||◌, not, Bool, List, [], ◌∷◌, ◌++◌, length, nat_le}
-use Rattle.std.specs.Prelude.{nat_lt, slice_index, Option, Some, None, Result, Ok, Err, if◌then◌else◌}
+use Rattle.std.specs.Prelude.{ℕ, ◌-◌, ◌*◌, ◌/◌, ◌%◌, ◌^◌, ◌==◌, ◌&&◌, ◌||◌, not, Bool, List, [], ◌∷◌, ◌++◌, length, nat_le}
+use Rattle.std.specs.Prelude.{nat_lt, slice_index, Option, Some, None, Result, Err, if◌then◌else◌}
 use Rattle.std.specs.Option.{option_and_then}
 use Rattle.pieces.specs.Faults.{first_fault, unless, value_or_fault}
 use Rattle.yescrypt_plain.specs.Numbers.{character, five, five_text, named, number, number_text, value_of}

@@ -1,4 +1,4 @@
-use Rattle.std.proofs.Common.{rules, arith, ◌≡◌, ◌≤◌, ◌∙◌, length, Some, refl}
+use Rattle.std.proofs.Common.{rules, arith, ◌≡◌, ◌≤◌, length, Some, refl}
 use Rattle.base64ct.specs.Alphabets.{base64_sha_crypt}
 use Rattle.base64ct.specs.Decoding.{decoding}
 use Rattle.base64ct.specs.Encoding.{byte_count, decoded_len}

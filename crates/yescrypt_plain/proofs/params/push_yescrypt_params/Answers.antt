@@ -1,6 +1,5 @@
-use Rattle.std.proofs.Common.{◌≡◌, true, false, rules, arith}
+use Rattle.std.proofs.Common.{◌≡◌, true, false, rules}
 use Rattle.std.specs.Prelude.{◌==◌}
-use Rattle.std.proofs.lemmas.Bool.Decides.{nat_tests}
 use Rattle.yescrypt_plain.proofs.Pushed.{pushed, pushed_time}
 use Rattle.yescrypt_plain.proofs.params.push_yescrypt_params.Goals as goal
 
