@@ -28,7 +28,7 @@ module _ {S : Type 0} (takes : S → List ℕ → Bool) (after : S → List ℕ 
       by_test false is more = absurd (cc (ap (λ b. cond b (after_all takes after (after s0 l) lines) None) is, so_far))
 
   -- the first fault behind lines that are taken
-  fault_behind : (s0 s : S) (at : ℕ) (lines more : List (List ℕ)) (end : List ℕ) → after_all takes after s0 lines ≡ Some s
+  pub fault_behind : (s0 s : S) (at : ℕ) (lines more : List (List ℕ)) (end : List ℕ) → after_all takes after s0 lines ≡ Some s
       → line_fault takes after s0 at (lines ++ more) end ≡ line_fault takes after s (at + length (joined lines)) more end
   fault_behind s0 s at [] more end so_far =
       let same : s0 ≡ s = cc so_far in
@@ -138,3 +138,15 @@ end_is end is = by_short (nat_le (length end) 1) refl
             let le_is : nat_le (length end) (group_max + 1) ≡ true = sym (ap (λ b. not b && nat_le (length end) (group_max + 1)) is_o) ∙ both in
             let le : length end ≤ (group_max + 1) = grind (arith, nat_tests) in
             record { shut = inl is_o; short = le }
+
+pub end_test : (end : List ℕ) → IsEnd end → is_end end ≡ true
+end_test end is = elim is.shut [
+  | inl shut ↦ by_short (nat_le (length end) 1) (is_open end) (nat_le (length end) (group_max + 1)) shut fits
+  | inr short ↦ let one : nat_le (length end) 1 ≡ true = grind (arith, nat_tests, short) in ap (λ b. b || (not (is_open end) && nat_le (length end) (group_max + 1))) one
+]
+  where
+    fits : nat_le (length end) (group_max + 1) ≡ true
+    fits = let short = is.short in grind (arith, nat_tests, short)
+    by_short : (a b c : Bool) → b ≡ false → c ≡ true → (a || (not b && c)) ≡ true
+    by_short true b c shut fits = refl
+    by_short false b c shut fits = rw (shut, fits) refl

@@ -10,9 +10,9 @@ pub struct Failed;
 
 /// A file, and one more that is to replace it.
 ///
-/// What a crash may leave of the file is known at each moment, and so is what a crash at some moment since an earlier
-/// one might have left: a contract speaks of a crash during a call by that. After `Failed` nothing is said of the
-/// bytes of the file but what a crash may leave.
+/// A crash is a power cut, or the end of the process whatever its cause. What it may leave of the file is known at each
+/// moment, and so is what a crash at some moment since an earlier one might have left: a contract speaks of a crash
+/// during a call by that. After `Failed` nothing is said of the bytes of the file but what a crash may leave.
 pub trait Device {
     /// The bytes that a read of the file gives.
     ghost seen: { Self → List ℕ };

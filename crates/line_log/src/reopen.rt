@@ -1,6 +1,6 @@
 //! Recovery into what takes the lines.
 
-ghost use Rattle.std.specs.Prelude.{◌≡◌, ◌⊎◌, ◌<◌, ◌≤◌, ◌+◌, ◌^◌, ◌++◌, ◌∷◌, [], ℕ, Bool, List, None, Some, Err, length, drop, true, false, IfErr, IfOk, IfSome, OnErr, OnOk, IsErrOf};
+ghost use Rattle.std.specs.Prelude.{◌≡◌, ◌⊎◌, ◌<◌, ◌≤◌, ◌+◌, ◌^◌, ◌++◌, ◌∷◌, [], ℕ, Bool, List, None, Some, Err, length, drop, true, false, is_some, IfErr, IfOk, IfSome, OnErr, OnOk, IsErrOf};
 ghost use Rattle.pieces.specs.FaultCounts.{HasRisen};
 ghost use Rattle.line_log.specs.Device.{LeavesOnly, Only};
 ghost use Rattle.line_log.specs.Log.{IsEnd, IsSettled, Stands, at_rest, header, is_end, joined, open_lines, recovered, written};
@@ -134,6 +134,12 @@ pub fn recover<D: Device, T: Taker>(
     ensures ok { OnOk result (file_fault T.takes T.after state.old (D.seen device.old) ≡ None) }
     ensures err { IfErr result (λ e. is_refusal e ≡ true → file_fault T.takes T.after state.old (D.seen device.old) ≡ Some e) }
     ensures refused { IfErr result (λ e. is_refusal e ≡ true → device.new ≡ device.old) }
+
+    // What a run can have left isn't refused, where its lines are taken.
+    ensures accepted { Stands (recovered (D.seen device.old)) (D.seen device.old)
+        → is_some (after_all T.takes T.after state.old (recovered (D.seen device.old))) ≡ true
+        → IfErr result (λ e. is_refusal e ≡ false) }
+
     ensures failed { IsErrOf result OpenError.Failed → HasRisen (D.faults device.old) (D.faults device.new) }
 {
     let Some(text) = after_header(bytes) else {
