@@ -1,14 +1,14 @@
 -- What a crash leaves while a group is added.
-use Rattle.std.proofs.Common.{◌≡◌, ◌≢◌, inl, inr, ℕ, zero, suc, ◌+◌, ◌-◌, ◌<◌, ◌≤◌, Bool, true, false, List, [], ◌∷◌, ◌++◌, length, get_or, take, drop, refl, sym, ◌∙◌, ap, subst, arith, append_assoc, length-append, length-drop, take-append-drop}
+use Rattle.std.proofs.Common.{◌≡◌, inl, inr, ℕ, zero, suc, ◌+◌, ◌-◌, ◌<◌, ◌≤◌, true, List, [], ◌∷◌, ◌++◌, length, get_or, take, drop, refl, sym, ◌∙◌, ap, subst, arith, append_assoc, length-append, length-drop, take-append-drop}
 use Rattle.std.specs.Prelude.{min}
 use Rattle.std.proofs.lemmas.List.{take_at, drop_at, drop_more, take_all, drop_all, append-nil}
 use Rattle.std.proofs.lemmas.Bool.{cases_eq}
 use Rattle.std.proofs.lemmas.Bool.Decides.{nat_tests}
 use Rattle.line_log.specs.Device.{Holds, Torn, Follows, Only}
-use Rattle.line_log.specs.Log.{header, group_max, is_open, open_lines, recovered, joined, written, at_rest, IsGroup, IsSettled, IsEnd, Stands, IsBeforeOrAfter}
+use Rattle.line_log.specs.Log.{header, is_open, open_lines, recovered, joined, written, at_rest, IsGroup, IsSettled, IsEnd, Stands, IsBeforeOrAfter}
 use Rattle.line_log.specs.Staged.{staged}
 use Rattle.line_log.specs.declared.log.LineLog.{LineLog}
-use Rattle.line_log.proofs.LogLines.{AreLines, AreLines-append, joined-append, open_lines_are, open_lines_closed, closed, short_nothing, not_open, open_lines-joined, shut_text}
+use Rattle.line_log.proofs.LogLines.{AreLines, AreLines-append, joined-append, open_lines_are, open_lines_closed, short_nothing, not_open, open_lines-joined, shut_text}
 
 -- a file that ends so stands for its lines
 end_nothing : (end : List ℕ) → IsEnd end → open_lines end ≡ []

@@ -1,8 +1,8 @@
 -- What a crash leaves while the end of a file is repaired.
-use Rattle.std.proofs.Common.{◌≡◌, inl, inr, ℕ, zero, suc, ◌+◌, ◌-◌, ◌≤◌, Bool, true, false, List, [], ◌∷◌, ◌++◌, length, take, drop, refl, sym, ◌∙◌, ap, arith, length-drop, length-append, take-append-drop}
+use Rattle.std.proofs.Common.{◌≡◌, inl, inr, ℕ, zero, suc, ◌+◌, ◌-◌, ◌≤◌, false, List, [], ◌∷◌, ◌++◌, length, take, drop, refl, sym, ◌∙◌, ap, arith, length-drop, take-append-drop}
 use Rattle.std.proofs.lemmas.List.{append-nil, take_at, take_all, drop_all}
 use Rattle.line_log.specs.Device.{Holds, Torn, Cut}
-use Rattle.line_log.specs.Log.{is_open, recovered, written, at_rest, IsEnd, Stands}
+use Rattle.line_log.specs.Log.{is_open, written, at_rest, IsEnd, Stands}
 use Rattle.line_log.proofs.LogLines.{AreLines}
 use Rattle.line_log.proofs.Crash.{stands, torn_keeps}
 

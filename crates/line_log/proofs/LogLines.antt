@@ -1,5 +1,5 @@
 -- What files of lines stand for.
-use Rattle.std.proofs.Common.{◌≡◌, ◌≢◌, ◌⊎◌, inl, inr, ℕ, zero, suc, ◌+◌, ◌<◌, ◌≤◌, Bool, true, false, cond, ◌||◌, List, [], ◌∷◌, ◌++◌, length, take, drop, refl, sym, ◌∙◌, ap, subst, arith, rules, append_assoc, length-append}
+use Rattle.std.proofs.Common.{◌≡◌, ◌≢◌, ◌⊎◌, inl, inr, ℕ, zero, suc, ◌<◌, ◌≤◌, true, false, cond, ◌||◌, List, [], ◌∷◌, ◌++◌, length, take, drop, refl, sym, ◌∙◌, ap, subst, arith, rules, append_assoc}
 use Rattle.std.specs.Prelude.{All, slice_index}
 use Rattle.std.specs.List.{slice_split, list_any, onto_first}
 use Rattle.std.proofs.lemmas.List.{append-nil}
@@ -9,7 +9,7 @@ use Rattle.std.proofs.lemmas.Bool.{or_parts, cases_eq}
 use Rattle.std.proofs.lemmas.Bool.Decides.{nat_tests}
 use Rattle.line_io.specs.Lines.{is_feed, NoFeed}
 use Rattle.pieces.specs.Places.{LacksBelow}
-use Rattle.line_log.specs.Log.{header, is_open, all_but_last, open_front, open_lines, recovered, joined, written, at_rest, IsBeforeOrAfter, IsLine, IsEnd, is_end}
+use Rattle.line_log.specs.Log.{is_open, all_but_last, open_front, open_lines, joined, IsLine}
 
 -- ---- splitting
 

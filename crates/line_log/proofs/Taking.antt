@@ -1,5 +1,5 @@
 -- How lines are taken one by one.
-use Rattle.std.proofs.Common.{◌≡◌, ◌≢◌, ◌⊎◌, inl, inr, ℕ, ◌+◌, ◌-◌, ◌≤◌, Bool, true, false, cond, List, [], ◌∷◌, ◌++◌, length, take, drop, refl, sym, ◌∙◌, ap, subst, arith, rules, append_assoc, length-append, Option, None, Some}
+use Rattle.std.proofs.Common.{◌≡◌, inl, inr, ℕ, ◌+◌, ◌-◌, ◌≤◌, Bool, true, false, cond, List, [], ◌∷◌, ◌++◌, length, drop, refl, sym, ◌∙◌, ap, subst, arith, length-append, None, Some}
 use Rattle.std.specs.Prelude.{nat_le, not, ◌||◌, ◌&&◌}
 use Rattle.std.proofs.lemmas.List.{append-nil, drop_at}
 use Rattle.std.proofs.lemmas.Bool.Decides.{nat_tests}
@@ -147,6 +147,7 @@ end_test end is = elim is.shut [
   where
     fits : nat_le (length end) (group_max + 1) ≡ true
     fits = let short = is.short in grind (arith, nat_tests, short)
+
     by_short : (a b c : Bool) → b ≡ false → c ≡ true → (a || (not b && c)) ≡ true
     by_short true b c shut fits = refl
     by_short false b c shut fits = rw (shut, fits) refl

@@ -1,7 +1,7 @@
 -- How the lines of a text are walked.
-use Rattle.std.proofs.Common.{◌≡◌, ℕ, ◌+◌, ◌-◌, ◌≤◌, List, [], ◌∷◌, ◌++◌, length, refl, sym, ◌∙◌, ap, arith, length-append}
+use Rattle.std.proofs.Common.{◌≡◌, ℕ, ◌+◌, ◌-◌, List, [], ◌∷◌, ◌++◌, length, refl, sym, ◌∙◌, ap, arith, length-append}
 use Rattle.std.proofs.lemmas.List.{append-nil}
-use Rattle.line_log.specs.Log.{AreWhole, IsGroup, IsLine, group_max, joined, open_lines}
+use Rattle.line_log.specs.Log.{AreWhole, IsLine, joined, open_lines}
 use Rattle.line_log.proofs.LogLines.{AreLines, AreLines-push, joined-push, open_lines-joined, parts, parts_lines}
 
 -- so many lines of the text have been walked

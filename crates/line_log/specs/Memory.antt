@@ -2,7 +2,7 @@
 use Rattle.std.specs.Prelude.{◌≡◌, ◌⊎◌, ℕ, ◌≤◌, Bool, true, false, List, [], ◌∷◌, length}
 use Rattle.std.proofs.Common.{zero, suc}
 use Prim.Native.Nat.{zero-le}
-use mathlib.Core.Logic.{inl, inr}
+use mathlib.Core.Logic.{inr}
 use Rattle.std.proofs.Math.Nat.{le_of_suc-le-suc, not-suc-le-zero}
 use Rattle.line_log.specs.Device.{Cut, Torn}
 use Rattle.line_log.specs.declared.memory.Call.{Call}

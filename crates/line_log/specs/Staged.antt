@@ -1,7 +1,7 @@
 -- A file while it is written. No clause of a public call names these words.
-use Rattle.std.specs.Prelude.{◌≡◌, ℕ, List, [], ◌∷◌, ◌++◌, drop}
-use Rattle.line_log.specs.Device.{Only, Torn}
-use Rattle.line_log.specs.Log.{at_rest, open_lines, written}
+use Rattle.std.specs.Prelude.{ℕ, List, [], ◌∷◌, ◌++◌, drop}
+use Rattle.line_log.specs.Device.{Torn}
+use Rattle.line_log.specs.Log.{written}
 
 -- the group stands behind the lines, closed, and the next closed byte behind it
 abbrev pub staged : List (List ℕ) → List ℕ → List ℕ
