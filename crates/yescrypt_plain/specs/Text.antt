@@ -134,3 +134,23 @@ scrypt_fields (Ok pieces) = split_scrypt pieces
 -- what a text says, or its first fault
 unfoldable pub scrypt_text : List ℕ → Result ScryptMeaning TextFault
 scrypt_text text = scrypt_of (scrypt_fields (pieces_behind (codes "7") text))
+
+-- ---- the costs of a text
+
+-- of what a text `$y$` says
+abbrev pub yescrypt_meaning_costs : Result YescryptMeaning TextFault → Result YescryptParams TextFault
+yescrypt_meaning_costs (Err e) = Err e
+yescrypt_meaning_costs (Ok m) = Ok m.params
+
+-- the parameters of a valid text `$y$`, or the first fault
+abbrev pub yescrypt_costs : List ℕ → Result YescryptParams TextFault
+yescrypt_costs text = yescrypt_meaning_costs (yescrypt_text text)
+
+-- of what a text `$7$` says
+abbrev pub scrypt_meaning_costs : Result ScryptMeaning TextFault → Result ScryptParams TextFault
+scrypt_meaning_costs (Err e) = Err e
+scrypt_meaning_costs (Ok m) = Ok m.params
+
+-- the parameters of a valid text `$7$`, or the first fault
+abbrev pub scrypt_costs : List ℕ → Result ScryptParams TextFault
+scrypt_costs text = scrypt_meaning_costs (scrypt_text text)

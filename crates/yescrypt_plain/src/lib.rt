@@ -13,6 +13,7 @@ ghost use Rattle.yescrypt_plain.specs.Yescrypt.{yescrypt};
 
 mod block_mix;
 mod check;
+mod costs;
 mod error;
 mod field;
 mod kdf;
@@ -30,6 +31,7 @@ mod tests;
 mod text;
 
 pub use check::{scrypt_check, scrypt_check_kept, yescrypt_check, yescrypt_check_kept};
+pub use costs::{scrypt_costs, yescrypt_costs};
 pub use error::{CheckError, MakeError, TextFault};
 pub use kept::CryptKept;
 pub use make::{scrypt_text, yescrypt_text};

@@ -2,9 +2,10 @@
 
 use crate::{
     CheckError, CryptKept, MakeError, ScryptParams, TextFault, YescryptParams, in_bounds,
-    read_scrypt_params, read_yescrypt_params, scrypt_check, scrypt_check_kept, scrypt_in_bounds,
+    read_scrypt_params, read_yescrypt_params, scrypt_check, scrypt_check_kept, scrypt_costs,
+    scrypt_in_bounds,
     scrypt_params_text, scrypt_text, table_len, words_len, yescrypt, yescrypt_check,
-    yescrypt_check_kept, yescrypt_in, yescrypt_params_text, yescrypt_text,
+    yescrypt_check_kept, yescrypt_costs, yescrypt_in, yescrypt_params_text, yescrypt_text,
 };
 use base64ct::Counts;
 use std::test::Fail;
@@ -465,4 +466,22 @@ fn not_made(rt: HostRuntime) -> Result<(), Fail> {
         assert!(rt; text.map(|_| ()) == Err(error));
     }
     Ok(())
+}
+
+#[test]
+fn costs(rt: HostRuntime) {
+    assert_eq!(rt;
+        yescrypt_costs("$y$j2.//$./$id/pr9M1.HIRSLIKXB/WJRDDnOU3bUkk089O.c4L1C/"),
+        Ok(YescryptParams { ln: 5, r: 1, t: 2 })
+    );
+    for (stored, fault) in YESCRYPT_FAULTS {
+        assert_eq!(rt; yescrypt_costs(stored), Err(fault), "{stored:?}");
+    }
+    assert_eq!(rt;
+        scrypt_costs("$7$41....0....SodiumChloride$i79Z2Io0yuEUnAEV0Z2t4r.guoEXBFEWthY/nUn9u//"),
+        Ok(ScryptParams { ln: 6, r: 3, p: 2 })
+    );
+    for (stored, fault) in SCRYPT_FAULTS {
+        assert_eq!(rt; scrypt_costs(stored), Err(fault), "{stored:?}");
+    }
 }
