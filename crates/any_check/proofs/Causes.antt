@@ -1,0 +1,140 @@
+-- The first causes, and that the definition never gives want of memory.
+use Rattle.std.proofs.Common.{◌≡◌, ◌≢◌, ℕ, ◌<◌, ◌≤◌, Bool, true, false, List, length, refl, sym, ap, arith, Option, Some, None}
+use Rattle.std.proofs.Common.{Result, Ok, Err}
+use Rattle.std.specs.Prelude.{nat_lt, if◌then◌else◌}
+use Rattle.std.proofs.lemmas.Bool.Decides.{nat_tests}
+use Rattle.phc.specs.declared.password_hash.PasswordHash.{PasswordHash}
+use Rattle.stored_check.proofs.Causes.{fits, never_memory}
+use Rattle.stored_check.specs.Verdict.{verdict}
+use Rattle.stored_check.specs.declared.error.StoredError.{StoredError}
+use Rattle.stored_check.specs.declared.error.StoredError.TheVariants.{OutOfMemory, PasswordTooLong}
+use Rattle.md5_crypt.specs.Verdict.{legacy_verdict}
+use Rattle.md5_crypt.specs.declared.error.LegacyError.{LegacyError}
+use Rattle.md5_crypt.specs.declared.error.LegacyError.TheVariants as of_md5
+use Rattle.md5_crypt.proofs.Causes.{never_lacks}
+use Rattle.bcrypt_plain.specs.Check.{bcrypt_answer}
+use Rattle.bcrypt_plain.specs.declared.error.BcryptError.{BcryptError}
+use Rattle.bcrypt_plain.specs.declared.error.BcryptError.TheVariants as of_bcrypt
+use Rattle.yescrypt_plain.specs.Check.{scrypt_answer, scrypt_matches, scrypt_verdict, yescrypt_answer, yescrypt_matches}
+use Rattle.yescrypt_plain.specs.Check.{yescrypt_verdict}
+use Rattle.yescrypt_plain.specs.Text.{ScryptMeaning, YescryptMeaning, scrypt_text, yescrypt_text}
+use Rattle.yescrypt_plain.specs.declared.error.CheckError.{CheckError}
+use Rattle.yescrypt_plain.specs.declared.error.CheckError.TheVariants as of_crypt
+use Rattle.yescrypt_plain.specs.declared.error.TextFault.{TextFault}
+use Rattle.any_check.specs.Cost.{is_costly, verdict_within}
+use Rattle.any_check.specs.Table.{any_verdict, of_bcrypt_check, of_legacy, of_scrypt_check, of_stored, of_yescrypt_check, row, scheme_answer, text_scheme}
+use Rattle.any_check.specs.declared.cost.CostLimits.{CostLimits}
+use Rattle.any_check.specs.declared.error.AnyError.{AnyError}
+use Rattle.any_check.specs.declared.error.AnyError.TheVariants.{NoScheme, Stored}
+use Rattle.any_check.specs.declared.scheme.AnyScheme.{AnyScheme}
+use Rattle.any_check.specs.declared.scheme.AnyScheme.TheVariants.{Bcrypt, Md5Crypt, Record, Scrypt, ShaCrypt, Yescrypt}
+
+abbrev Other : Result Bool AnyError → Type 0
+Other r = r ≢ Err (Stored OutOfMemory)
+
+of_other : (r : Result Bool StoredError) → r ≢ Err OutOfMemory → Other (of_stored r)
+of_other (Ok b) other = λ h. cc
+of_other (Err e) other = λ h. other cc
+
+of_old : (r : Result Bool LegacyError) → r ≢ Err (of_md5.Stored OutOfMemory) → Other (of_legacy r)
+of_old (Ok b) other = λ h. cc
+of_old (Err (of_md5.Md5 e)) other = λ h. cc
+of_old (Err (of_md5.Stored e)) other = λ h. other cc
+
+of_check : (r : Result (Unit {0}) BcryptError) → Other (of_bcrypt_check r)
+of_check (Ok done) = λ h. cc
+of_check (Err of_bcrypt.HashMismatch) = λ h. cc
+of_check (Err of_bcrypt.ZeroByte) = λ h. cc
+of_check (Err (of_bcrypt.InvalidFormat e)) = λ h. cc
+
+of_yescrypt : (r : Result (Unit {0}) CheckError) → r ≢ Err of_crypt.OutOfMemory → Other (of_yescrypt_check r)
+of_yescrypt (Ok done) other = λ h. cc
+of_yescrypt (Err of_crypt.HashMismatch) other = λ h. cc
+of_yescrypt (Err of_crypt.PasswordTooLong) other = λ h. cc
+of_yescrypt (Err of_crypt.OutOfMemory) other = λ h. other refl
+of_yescrypt (Err (of_crypt.InvalidFormat e)) other = λ h. cc
+
+of_scrypt : (r : Result (Unit {0}) CheckError) → r ≢ Err of_crypt.OutOfMemory → Other (of_scrypt_check r)
+of_scrypt (Ok done) other = λ h. cc
+of_scrypt (Err of_crypt.HashMismatch) other = λ h. cc
+of_scrypt (Err of_crypt.PasswordTooLong) other = λ h. cc
+of_scrypt (Err of_crypt.OutOfMemory) other = λ h. other refl
+of_scrypt (Err (of_crypt.InvalidFormat e)) other = λ h. cc
+
+-- ---- the checks of `$y$` and `$7$`
+
+abbrev Told : Result (Unit {0}) CheckError → Type 0
+Told r = r ≢ Err of_crypt.OutOfMemory
+
+told_by : (long matches : Bool) → Told
+    (if long then Err of_crypt.PasswordTooLong else (if matches then Ok tt else Err of_crypt.HashMismatch))
+told_by true matches = λ h. cc
+told_by false true = λ h. cc
+told_by false false = λ h. cc
+
+module _ (password : List ℕ) where
+  by_yescrypt : (r : Result YescryptMeaning TextFault) → Told (yescrypt_verdict password r)
+  by_yescrypt (Err e) = λ h. cc
+  by_yescrypt (Ok m) = told_by (nat_lt 4096 (length password)) (yescrypt_matches password m)
+
+  by_scrypt : (r : Result ScryptMeaning TextFault) → Told (scrypt_verdict password r)
+  by_scrypt (Err e) = λ h. cc
+  by_scrypt (Ok m) = told_by (nat_lt 4096 (length password)) (scrypt_matches password m)
+
+  yescrypt_told : (stored : List ℕ) → Told (yescrypt_answer password stored)
+  unfolding yescrypt_answer
+  yescrypt_told stored = by_yescrypt (yescrypt_text stored)
+
+  scrypt_told : (stored : List ℕ) → Told (scrypt_answer password stored)
+  unfolding scrypt_answer
+  scrypt_told stored = by_scrypt (scrypt_text stored)
+
+by_test : (t : Bool) (x y : Result Bool AnyError) → Other x → Other y → Other (if t then x else y)
+by_test true x y hx hy = hx
+by_test false x y hx hy = hy
+
+module _ (accepted : PasswordHash → List ℕ → ℕ → Bool) (tag : List ℕ → PasswordHash → List ℕ → ℕ → List ℕ)
+    (password stored : List ℕ) where
+  by_row : (s : AnyScheme) → Other (row accepted tag s password stored)
+  by_row Md5Crypt = of_old (legacy_verdict accepted tag password stored) (never_lacks accepted tag password stored)
+  by_row (ShaCrypt family) = of_other (verdict accepted tag password stored) (never_memory accepted tag password stored)
+  by_row Bcrypt = of_check (bcrypt_answer password stored)
+  by_row Yescrypt = of_yescrypt (yescrypt_answer password stored) (yescrypt_told password stored)
+  by_row Scrypt = of_scrypt (scrypt_answer password stored) (scrypt_told password stored)
+  by_row Record = of_other (verdict accepted tag password stored) (never_memory accepted tag password stored)
+
+  by_scheme : (o : Option AnyScheme) → Other (scheme_answer accepted tag o password stored)
+  by_scheme None = λ h. cc
+  by_scheme (Some s) = by_row s
+
+  pub never_wanting : Other (any_verdict accepted tag password stored)
+  unfolding any_verdict
+  never_wanting = by_test (nat_lt 4096 (length password)) _ _ (λ h. cc) (by_scheme (text_scheme stored))
+
+  -- ---- the first causes
+
+  pub too_long : 4096 < length password → any_verdict accepted tag password stored ≡ Err (Stored PasswordTooLong)
+  unfolding any_verdict
+  too_long h = let test : nat_lt 4096 (length password) ≡ true = grind (arith, nat_tests) in rw test refl
+
+  pub no_scheme : length password ≤ 4096 → text_scheme stored ≡ None
+      → any_verdict accepted tag password stored ≡ Err NoScheme
+  unfolding any_verdict
+  no_scheme short none = rw (fits password short, none) refl
+
+  -- ---- a bound on cost
+
+  any_long : nat_lt 4096 (length password) ≡ true → any_verdict accepted tag password stored ≡ Err (Stored PasswordTooLong)
+  unfolding any_verdict
+  any_long long = rw long refl
+
+  within_by : (long : Bool) → nat_lt 4096 (length password) ≡ long
+      → (if long then Err (Stored PasswordTooLong) else any_verdict accepted tag password stored)
+      ≡ any_verdict accepted tag password stored
+  within_by true is = sym (any_long is)
+  within_by false is = refl
+
+  pub within : (limits : CostLimits) → is_costly accepted limits stored ≡ false
+      → verdict_within accepted tag limits password stored ≡ any_verdict accepted tag password stored
+  unfolding verdict_within
+  within limits cheap = rw cheap (within_by (nat_lt 4096 (length password)) refl)

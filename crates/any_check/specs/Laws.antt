@@ -1,0 +1,64 @@
+-- Laws over the definitions.
+use Rattle.std.specs.Prelude.{◌≡◌, ◌≢◌, ◌<◌, ◌≤◌, ℕ, Bool, false, true, List, length, None, Ok, Err, is_ok}
+use Rattle.phc.specs.declared.password_hash.PasswordHash.{PasswordHash}
+use Rattle.stored_check.specs.Limits.{password_max}
+use Rattle.stored_check.specs.Verdict.{verdict}
+use Rattle.stored_check.specs.declared.error.StoredError.TheVariants.{OutOfMemory, PasswordTooLong}
+use Rattle.bcrypt_plain.specs.Check.{has_zero}
+use Rattle.any_check.specs.Cost.{is_costly, verdict_within}
+use Rattle.any_check.specs.Records as here
+use Rattle.any_check.specs.Table.{any_verdict, is_record, text_scheme}
+use Rattle.any_check.specs.declared.cost.CostLimits.{CostLimits}
+use Rattle.any_check.specs.declared.error.AnyError.TheVariants.{NoScheme, Stored}
+
+-- which records a key derivation takes
+abbrev pub Accepted : Type 0
+Accepted = PasswordHash → List ℕ → ℕ → Bool
+
+-- the tags that it gives
+abbrev pub Tag : Type 0
+Tag = List ℕ → PasswordHash → List ℕ → ℕ → List ℕ
+
+-- it takes no record but those of the table
+abbrev pub TakesRecords : Accepted → Type 0
+TakesRecords accepted =
+    (r : PasswordHash) (salt : List ℕ) (n : ℕ) → accepted r salt n ≡ true → is_record r.algorithm ≡ true
+
+-- where the definition of `check_stored` gives a verdict, this one gives the same
+abbrev pub OfCheckStored : Type 0
+OfCheckStored =
+    (accepted : Accepted) (tag : Tag) (password stored : List ℕ) (b : Bool) → TakesRecords accepted
+    → verdict accepted tag password stored ≡ Ok b → any_verdict accepted tag password stored ≡ Ok b
+
+-- the derivation of this crate takes no other records
+abbrev pub TakesRecordsHere : Type 0
+TakesRecordsHere = TakesRecords here.accepted
+
+-- the first causes, whatever the scheme: the password has more than 4,096 bytes; then, no scheme has the identifier
+abbrev pub FirstCauses : Type 0
+FirstCauses =
+    (accepted : Accepted) (tag : Tag) (password stored : List ℕ)
+    → (password_max < length password → any_verdict accepted tag password stored ≡ Err (Stored PasswordTooLong))
+    × (length password ≤ password_max → text_scheme stored ≡ None
+    → any_verdict accepted tag password stored ≡ Err NoScheme)
+
+-- want of memory is no verdict and no cause
+abbrev pub NoWantOfMemory : Type 0
+NoWantOfMemory =
+    (accepted : Accepted) (tag : Tag) (password stored : List ℕ)
+    → any_verdict accepted tag password stored ≢ Err (Stored OutOfMemory)
+
+-- below the bound, the verdict is that without one
+abbrev pub WithinNoBound : Type 0
+WithinNoBound =
+    (accepted : Accepted) (tag : Tag) (limits : CostLimits) (password stored : List ℕ)
+    → is_costly accepted limits stored ≡ false
+    → verdict_within accepted tag limits password stored ≡ any_verdict accepted tag password stored
+
+-- a text that costs too much has a verdict on each password without a zero byte: no fault of the text hides behind
+-- `too-costly`
+abbrev pub CostlyIsValid : Type 0
+CostlyIsValid =
+    (accepted : Accepted) (tag : Tag) (limits : CostLimits) (password stored : List ℕ)
+    → length password ≤ password_max → has_zero password ≡ false → is_costly accepted limits stored ≡ true
+    → is_ok (any_verdict accepted tag password stored) ≡ true

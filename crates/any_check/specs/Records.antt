@@ -1,0 +1,33 @@
+-- The records that have a verdict here, and the meanings of their derivations as one.
+use Rattle.std.specs.Prelude.{ℕ, Bool, true, false, List, codes}
+use Rattle.phc.specs.declared.password_hash.PasswordHash.{PasswordHash}
+use Rattle.pbkdf2_plain.specs.Either.{Accepted, Needs, Tag, either_accepted, either_needs, either_tag}
+use Rattle.pbkdf2_plain.specs.Profile.{pbkdf2_accepts, pbkdf2_key}
+use Rattle.scrypt_plain.specs.Profile as scrypt
+use Rattle.argon2_plain.specs.Profile.{argon2_accepts, argon2_key}
+
+-- which records PBKDF2 or Argon2 takes, by the identifier
+abbrev pub pbkdf2_or_argon2_accepted : Accepted
+pbkdf2_or_argon2_accepted =
+    either_accepted (codes "pbkdf2-sha256") (λ parsed salt n. pbkdf2_accepts parsed n)
+    (λ parsed salt n. argon2_accepts parsed n)
+
+-- which records scrypt, PBKDF2 or Argon2 takes
+abbrev pub accepted : Accepted
+accepted = either_accepted (codes "scrypt") scrypt.accepted pbkdf2_or_argon2_accepted
+
+-- the key of PBKDF2 or of Argon2
+abbrev pub pbkdf2_or_argon2_tag : Tag
+pbkdf2_or_argon2_tag =
+    either_tag (codes "pbkdf2-sha256") (λ password parsed salt n. pbkdf2_key password parsed salt n)
+    (λ password parsed salt n. argon2_key password parsed salt n)
+
+-- the key of a record
+abbrev pub tag : Tag
+tag = either_tag (codes "scrypt") scrypt.key pbkdf2_or_argon2_tag
+
+-- the records for whose keys memory may be wanting: scrypt's and Argon2's
+abbrev pub needs_memory : Needs
+needs_memory =
+    either_needs (codes "scrypt") (λ parsed. true)
+    (either_needs (codes "pbkdf2-sha256") (λ parsed. false) (λ parsed. true))

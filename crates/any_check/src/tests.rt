@@ -1,0 +1,268 @@
+//! Texts that outside programs made: openssl, glibc's and libxcrypt's crypt, Python's hashlib and the program argon2.
+
+use crate::{AnyError, AnyScheme, CostLimits, any_word, check_any, check_any_within, record_kdf, run_any, scheme_of_text};
+use bcrypt_plain::BcryptFault;
+use line_io::{MemorySink, MemorySource};
+use md5_crypt::Md5Fault;
+use sha_crypt::Family;
+use stored_check::StoredError;
+use yescrypt_plain::{CryptKept, TextFault};
+
+// The word; want of memory has none.
+fn word_of(answer: &Result<bool, AnyError>) -> &'static str {
+    if *answer == Err(AnyError::Stored(StoredError::OutOfMemory)) {
+        return "no-memory";
+    }
+    any_word(answer)
+}
+
+// Texts of the password `secret`.
+const TEXTS: [&str; 15] = [
+    "$1$abcdefgh$cHJi5PXp/ki/ktXzqlk6I1",
+    "$apr1$abcdefgh$h9FWgUz3n9YxylKLlR5SQ/",
+    "$5$abcdefgh$gruCpC7VkOTspMQTTSAR8mtlO9Upms.fwqE5y16JVM.",
+    "$5$rounds=1500$abcdefgh$qXUmNmbLEOn5YPWvewYoPCAAHp5vzLn73xcpCUC256C",
+    "$6$abcdefgh$ltjgWl6579NluT/Vi1nwEvcil.G5Nbc4NiXZaNGStk8PSwGfQv72N2CKPPrVACtLtip/cZ/1GM/O6IND4WQhG.",
+    "$2b$04$abcdefghijklmnopqrstuu2r9OfJnfCsdneAXAGHnS4UpFFP8WIrW",
+    "$2y$05$abcdefghijklmnopqrstuuOQiyCxlgf/oeuTqixKmWdcYUh4Hjl0a",
+    "$scrypt$ln=4,r=8,p=1$c2FsdHNhbHRzYWx0$09/untC+3Bg44eiJQ8bqhTXgE2ali+ykLaojkJZlF9U",
+    "$pbkdf2-sha256$i=1000,l=32$c2FsdHNhbHRzYWx0$sVaWem31qy3rw+Ldi3plA/XzhMSNi9/XHnnD1Ytj05o",
+    "$argon2id$v=19$m=64,t=1,p=1$c2FsdHNhbHRzYWx0$Sm3MnLdCFk0Af+croKgebRoqqmhbKd88iiW3yUOXn78",
+    "$argon2i$v=19$m=64,t=2,p=2$c2FsdHNhbHRzYWx0$vtdpD5eGGsEQdYh52JSgUbWdj2vdH1FR/Ncvk1mmMU8",
+    "$argon2d$v=19$m=128,t=1,p=1$c2FsdHNhbHRzYWx0$cnmEAHaXnZyNK8al32lcZA",
+    "$y$j75$0123456789ab$kb1fsIrDP1wOa4Q3gNpxZkfwQ3ce8kmPbnemuN65IT2",
+    "$y$j6///$./$eG1H3hAdiIw7LAyaeC1wsfq6rJHemsvZ8fPCiI8TWx/",
+    "$7$4/....0....SodiumChloride$V4S.p0ArbLXh9bvI9g1ReO/qmFMyvEX4e98XynaDdN9",
+];
+
+// Texts without a verdict, and their words.
+const FAULTS: [(&str, &str); 29] = [
+    ("$1$abcdefgh", "md5-format"),
+    ("$1$abcdefghi$cHJi5PXp/ki/ktXzqlk6I1", "md5-format"),
+    ("$apr1$", "mcf-delimiter"),
+    ("$5$rounds=1$abcdefgh$x", "sha-rounds"),
+    ("$6$abcdefgh$x", "sha-format"),
+    ("$6$abc:efgh$x", "mcf-encoding"),
+    ("x$1$abcdefgh$cHJi5PXp/ki/ktXzqlk6I1", "mcf-delimiter"),
+    ("$2b$03$abcdefghijklmnopqrstuu2r9OfJnfCsdneAXAGHnS4UpFFP8WIrW", "bcrypt-cost"),
+    ("$2b$04$abcdefghijklmnopqrstuu2r9OfJnfCsdneAXAGHnS4UpFFP8WIr", "bcrypt-format"),
+    ("$2b$04$abcdefghijklmnopqrstuv2r9OfJnfCsdneAXAGHnS4UpFFP8WIrW", "bcrypt-b64"),
+    ("$2b$04$abcdefghijklmnopqrstu+2r9OfJnfCsdneAXAGHnS4UpFFP8WIrW", "bcrypt-b64"),
+    ("$2x$04$abcdefghijklmnopqrstuu2r9OfJnfCsdneAXAGHnS4UpFFP8WIrW", "bcrypt-obsolete"),
+    ("$2$04$abcdefghijklmnopqrstuu2r9OfJnfCsdneAXAGHnS4UpFFP8WIrW", "bcrypt-obsolete"),
+    ("$argon2id$m=64,t=1,p=1$c2FsdHNhbHRzYWx0$Sm3MnLdCFk0Af+croKgebRoqqmhbKd88iiW3yUOXn78", "kdf"),
+    ("$scrypt$ln=4,r=8,p=1$c2FsdHNhbHRzYWx0", "no-hash"),
+    ("$y$j75$0123456789ab", "yescrypt-format"),
+    ("$y$/75$0123456789ab$kb1fsIrDP1wOa4Q3gNpxZkfwQ3ce8kmPbnemuN65IT2", "yescrypt-flavor"),
+    ("$y$jT5$0123456789ab$kb1fsIrDP1wOa4Q3gNpxZkfwQ3ce8kmPbnemuN65IT2", "yescrypt-cost"),
+    ("$y$j75$0123456789ab$kb1fsIrDP1wOa4Q3gNpxZkfwQ3ce8kmPbnemuN65IT", "yescrypt-format"),
+    ("$7$4/..../....SodiumChloride", "scrypt-format"),
+    ("$7$T/..../....SodiumChloride$nlEbTww0ryKdVNlzWsYxiiWbBXRoFx2X8iNJtJTvzX.", "scrypt-cost"),
+    ("abJnggxhB/yWI", "no-scheme"),
+    ("{SHA}5en6G6MezRroT3XKqkdPOmY/BfQ=", "no-scheme"),
+    ("$md5,rounds=904$iPPKEBnEkp3JV8uX$$0zl94xqyvhRdTxvl8ydHC.", "no-scheme"),
+    ("$3$$8846f7eaee8fb117ad06bdd830b7586c", "no-scheme"),
+    ("$gy$j9T$abcdefgh$x", "no-scheme"),
+    ("*", "no-scheme"),
+    ("!$6$abcdefgh$x", "mcf-delimiter"),
+    ("", "no-scheme"),
+];
+
+#[test]
+fn words(rt: HostRuntime) {
+    let kdf = record_kdf(rt.alloc());
+    let kept = CryptKept::new(rt.alloc());
+    for stored in TEXTS {
+        let answer = check_any(rt.alloc(), &kdf, &kept, "secret", stored);
+        assert_eq!(rt; word_of(&answer), "match", "{stored}");
+        let answer = check_any(rt.alloc(), &kdf, &kept, "Secret", stored);
+        assert_eq!(rt; word_of(&answer), "mismatch", "{stored}");
+    }
+    for (stored, word) in FAULTS {
+        let answer = check_any(rt.alloc(), &kdf, &kept, "secret", stored);
+        assert_eq!(rt; word_of(&answer), word, "{stored}");
+    }
+}
+
+// The least bound under which each text gets its verdict.
+fn least() -> CostLimits {
+    CostLimits {
+        sha_rounds: 5_000,
+        bcrypt_cost: 5,
+        yescrypt_ln: 10,
+        yescrypt_r: 8,
+        yescrypt_t: 2,
+        pbkdf2_rounds: 1_000,
+        scrypt_ln: 6,
+        scrypt_r: 8,
+        scrypt_p: 2,
+        argon2_memory: 128,
+        argon2_passes: 2,
+        argon2_lanes: 2,
+    }
+}
+
+#[test]
+fn bounds_reached(rt: HostRuntime) {
+    let kdf = record_kdf(rt.alloc());
+    let kept = CryptKept::new(rt.alloc());
+    for stored in TEXTS {
+        let answer = check_any_within(rt.alloc(), &kdf, &kept, &least(), "secret", stored);
+        assert_eq!(rt; word_of(&answer), "match", "{stored}");
+        let answer = check_any_within(rt.alloc(), &kdf, &kept, &least(), "Secret", stored);
+        assert_eq!(rt; word_of(&answer), "mismatch", "{stored}");
+    }
+    let none = CostLimits {
+        sha_rounds: 0,
+        bcrypt_cost: 0,
+        yescrypt_ln: 0,
+        yescrypt_r: 0,
+        yescrypt_t: 0,
+        pbkdf2_rounds: 0,
+        scrypt_ln: 0,
+        scrypt_r: 0,
+        scrypt_p: 0,
+        argon2_memory: 0,
+        argon2_passes: 0,
+        argon2_lanes: 0,
+    };
+    for (stored, word) in FAULTS {
+        let answer = check_any_within(rt.alloc(), &kdf, &kept, &none, "secret", stored);
+        assert_eq!(rt; word_of(&answer), word, "{stored}");
+    }
+}
+
+#[test]
+fn bounds_passed(rt: HostRuntime) {
+    let kdf = record_kdf(rt.alloc());
+    let kept = CryptKept::new(rt.alloc());
+    for (number, low) in [
+        (2usize, CostLimits { sha_rounds: 4_999, ..least() }),
+        (4, CostLimits { sha_rounds: 4_999, ..least() }),
+        (6, CostLimits { bcrypt_cost: 4, ..least() }),
+        (7, CostLimits { scrypt_r: 7, ..least() }),
+        (14, CostLimits { scrypt_ln: 5, ..least() }),
+        (14, CostLimits { scrypt_p: 1, ..least() }),
+        (12, CostLimits { yescrypt_ln: 9, ..least() }),
+        (12, CostLimits { yescrypt_r: 7, ..least() }),
+        (13, CostLimits { yescrypt_t: 1, ..least() }),
+        (8, CostLimits { pbkdf2_rounds: 999, ..least() }),
+        (11, CostLimits { argon2_memory: 127, ..least() }),
+        (10, CostLimits { argon2_passes: 1, ..least() }),
+        (10, CostLimits { argon2_lanes: 1, ..least() }),
+    ] {
+        for (i, stored) in TEXTS.into_iter().enumerate() {
+            let answer = check_any_within(rt.alloc(), &kdf, &kept, &low, "secret", stored);
+            if i == number {
+                assert_eq!(rt; word_of(&answer), "too-costly", "{stored}");
+            } else if number != 2 && number != 4 {
+                assert_eq!(rt; word_of(&answer), "match", "{stored}");
+            }
+        }
+    }
+}
+
+#[test]
+fn first_causes(rt: HostRuntime) {
+    let kdf = record_kdf(rt.alloc());
+    let kept = CryptKept::new(rt.alloc());
+    let bytes = [b'a'; 4097];
+    let Ok(long) = str::from_utf8(&bytes) else {
+        unreachable!();
+    };
+    for stored in TEXTS {
+        let answer = check_any(rt.alloc(), &kdf, &kept, long, stored);
+        assert_eq!(rt; answer, Err(AnyError::Stored(StoredError::PasswordTooLong)), "{stored}");
+        let answer = check_any_within(rt.alloc(), &kdf, &kept, &least(), long, stored);
+        assert_eq!(rt; answer, Err(AnyError::Stored(StoredError::PasswordTooLong)), "{stored}");
+        let answer = check_any(rt.alloc(), &kdf, &kept, &long[1..], stored);
+        assert_eq!(rt; answer, Ok(false), "{stored}");
+    }
+    let answer = check_any(rt.alloc(), &kdf, &kept, long, "*");
+    assert_eq!(rt; answer, Err(AnyError::Stored(StoredError::PasswordTooLong)));
+    let answer = check_any(rt.alloc(), &kdf, &kept, "secret", "$1$abcdefgh");
+    assert_eq!(rt; answer, Err(AnyError::Md5(Md5Fault::NoHash)));
+    let answer = check_any(rt.alloc(), &kdf, &kept, "secret", "$2a$04");
+    assert_eq!(rt; answer, Err(AnyError::Bcrypt(BcryptFault::NoHash)));
+    let answer = check_any(rt.alloc(), &kdf, &kept, "sec\0ret", TEXTS[5]);
+    assert_eq!(rt; answer, Err(AnyError::ZeroByte));
+    assert_eq!(rt; word_of(&answer), "zero-byte");
+}
+
+#[test]
+fn schemes(rt: HostRuntime) {
+    for (stored, scheme) in [
+        ("$1$x", AnyScheme::Md5Crypt),
+        ("$apr1", AnyScheme::Md5Crypt),
+        ("$5$x", AnyScheme::ShaCrypt(Family::Sha256)),
+        ("$6$", AnyScheme::ShaCrypt(Family::Sha512)),
+        ("$2a$", AnyScheme::Bcrypt),
+        ("$2$", AnyScheme::Bcrypt),
+        ("$y$j9T", AnyScheme::Yescrypt),
+        ("$7$", AnyScheme::Scrypt),
+        ("$scrypt$x", AnyScheme::Record),
+        ("$argon2i", AnyScheme::Record),
+    ] {
+        assert_eq!(rt; scheme_of_text(stored), Some(scheme), "{stored}");
+    }
+    for stored in ["", "$", "1", "$$1", "$55$x", "$argon2$x", "$gy$x", "!"] {
+        assert_eq!(rt; scheme_of_text(stored), None, "{stored}");
+    }
+}
+
+#[test]
+fn lines(rt: HostRuntime) {
+    let input = b"secret\t$1$abcdefgh$cHJi5PXp/ki/ktXzqlk6I1\n\
+        Secret\t$2b$04$abcdefghijklmnopqrstuu2r9OfJnfCsdneAXAGHnS4UpFFP8WIrW\n\
+        a\tb\t*\nno tab\n\xff\t*\nsec\0ret\t$2y$05$abcdefghijklmnopqrstuuOQiyCxlgf/oeuTqixKmWdcYUh4Hjl0a\n\
+        secret\t$argon2d$v=19$m=128,t=1,p=1$c2FsdHNhbHRzYWx0$cnmEAHaXnZyNK8al32lcZA";
+    let words = b"match\nmismatch\nno-scheme\nbadline\nbadline\nzero-byte\nmatch\n".as_slice();
+    let mut room = [0; 100];
+    let mut source = MemorySource::new(input, 50, &[]);
+    let mut sink = MemorySink::new(&mut room, 7, &[]);
+    assert_eq!(rt; run_any(rt.alloc(), None, &mut source, &mut sink, 1000), 1);
+    assert_eq!(rt; sink.bytes(), words);
+    let mut room = [0; 100];
+    let mut source = MemorySource::new(input, 1000, &[]);
+    let mut sink = MemorySink::new(&mut room, 100, &[]);
+    let limits = CostLimits { argon2_memory: 64, ..least() };
+    assert_eq!(rt; run_any(rt.alloc(), Some(limits), &mut source, &mut sink, 1000), 1);
+    assert_eq!(rt; sink.bytes(),
+        b"match\nmismatch\nno-scheme\nbadline\nbadline\nzero-byte\ntoo-costly\n".as_slice());
+}
+
+#[test]
+fn statuses(rt: HostRuntime) {
+    let line = b"secret\t$1$abcdefgh$cHJi5PXp/ki/ktXzqlk6I1\n".as_slice();
+    let mut room = [0; 16];
+    let mut source = MemorySource::new(line, 64, &[]);
+    let mut sink = MemorySink::new(&mut room, 64, &[]);
+    assert_eq!(rt; run_any(rt.alloc(), None, &mut source, &mut sink, 64), 0);
+    assert_eq!(rt; sink.bytes(), b"match\n".as_slice());
+    let mut room = [0; 16];
+    let mut source = MemorySource::new(line, 20, &[1]);
+    let mut sink = MemorySink::new(&mut room, 64, &[]);
+    assert_eq!(rt; run_any(rt.alloc(), None, &mut source, &mut sink, 64), 3);
+    assert_eq!(rt; sink.bytes(), b"".as_slice());
+    let mut room = [0; 16];
+    let mut source = MemorySource::new(line, 64, &[]);
+    let mut sink = MemorySink::new(&mut room, 4, &[1]);
+    assert_eq!(rt; run_any(rt.alloc(), None, &mut source, &mut sink, 64), 4);
+    assert_eq!(rt; sink.bytes(), b"matc".as_slice());
+    let mut room = [0; 16];
+    let mut source = MemorySource::new(line, 64, &[]);
+    let mut sink = MemorySink::new(&mut room, 64, &[]);
+    assert_eq!(rt; run_any(rt.alloc(), None, &mut source, &mut sink, 20), 6);
+    assert_eq!(rt; sink.bytes(), b"".as_slice());
+}
+
+#[test]
+fn long_lines(rt: HostRuntime) {
+    let mut input = [b'a'; 8194];
+    input[8193] = b'\n';
+    let mut room = [0; 16];
+    let mut source = MemorySource::new(&input, 8194, &[]);
+    let mut sink = MemorySink::new(&mut room, 64, &[]);
+    assert_eq!(rt; run_any(rt.alloc(), None, &mut source, &mut sink, 10_000), 1);
+    assert_eq!(rt; sink.bytes(), b"toolong\n".as_slice());
+}
