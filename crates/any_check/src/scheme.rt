@@ -27,7 +27,11 @@ pub enum AnyScheme {
 fn is_record(id: &str) -> bool
     ensures { result ≡ is_record id.now }
 {
-    id == "scrypt" || id == "pbkdf2-sha256" || id == "argon2d" || id == "argon2i" || id == "argon2id"
+    id == "scrypt"
+        || id == "pbkdf2-sha256"
+        || id == "argon2d"
+        || id == "argon2i"
+        || id == "argon2id"
 }
 
 fn is_md5(id: &str) -> bool

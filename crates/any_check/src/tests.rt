@@ -1,6 +1,9 @@
 //! Texts that outside programs made: openssl, glibc's and libxcrypt's crypt, Python's hashlib and the program argon2.
 
-use crate::{AnyError, AnyScheme, CostLimits, any_word, check_any, check_any_within, record_kdf, run_any, scheme_of_text};
+use crate::{
+    AnyError, AnyScheme, CostLimits, any_word, check_any, check_any_within, record_kdf, run_any,
+    scheme_of_text,
+};
 use bcrypt_plain::BcryptFault;
 use line_io::{MemorySink, MemorySource};
 use md5_crypt::Md5Fault;
@@ -44,23 +47,59 @@ const FAULTS: [(&str, &str); 29] = [
     ("$6$abcdefgh$x", "sha-format"),
     ("$6$abc:efgh$x", "mcf-encoding"),
     ("x$1$abcdefgh$cHJi5PXp/ki/ktXzqlk6I1", "mcf-delimiter"),
-    ("$2b$03$abcdefghijklmnopqrstuu2r9OfJnfCsdneAXAGHnS4UpFFP8WIrW", "bcrypt-cost"),
-    ("$2b$04$abcdefghijklmnopqrstuu2r9OfJnfCsdneAXAGHnS4UpFFP8WIr", "bcrypt-format"),
-    ("$2b$04$abcdefghijklmnopqrstuv2r9OfJnfCsdneAXAGHnS4UpFFP8WIrW", "bcrypt-b64"),
-    ("$2b$04$abcdefghijklmnopqrstu+2r9OfJnfCsdneAXAGHnS4UpFFP8WIrW", "bcrypt-b64"),
-    ("$2x$04$abcdefghijklmnopqrstuu2r9OfJnfCsdneAXAGHnS4UpFFP8WIrW", "bcrypt-obsolete"),
-    ("$2$04$abcdefghijklmnopqrstuu2r9OfJnfCsdneAXAGHnS4UpFFP8WIrW", "bcrypt-obsolete"),
-    ("$argon2id$m=64,t=1,p=1$c2FsdHNhbHRzYWx0$Sm3MnLdCFk0Af+croKgebRoqqmhbKd88iiW3yUOXn78", "kdf"),
+    (
+        "$2b$03$abcdefghijklmnopqrstuu2r9OfJnfCsdneAXAGHnS4UpFFP8WIrW",
+        "bcrypt-cost",
+    ),
+    (
+        "$2b$04$abcdefghijklmnopqrstuu2r9OfJnfCsdneAXAGHnS4UpFFP8WIr",
+        "bcrypt-format",
+    ),
+    (
+        "$2b$04$abcdefghijklmnopqrstuv2r9OfJnfCsdneAXAGHnS4UpFFP8WIrW",
+        "bcrypt-b64",
+    ),
+    (
+        "$2b$04$abcdefghijklmnopqrstu+2r9OfJnfCsdneAXAGHnS4UpFFP8WIrW",
+        "bcrypt-b64",
+    ),
+    (
+        "$2x$04$abcdefghijklmnopqrstuu2r9OfJnfCsdneAXAGHnS4UpFFP8WIrW",
+        "bcrypt-obsolete",
+    ),
+    (
+        "$2$04$abcdefghijklmnopqrstuu2r9OfJnfCsdneAXAGHnS4UpFFP8WIrW",
+        "bcrypt-obsolete",
+    ),
+    (
+        "$argon2id$m=64,t=1,p=1$c2FsdHNhbHRzYWx0$Sm3MnLdCFk0Af+croKgebRoqqmhbKd88iiW3yUOXn78",
+        "kdf",
+    ),
     ("$scrypt$ln=4,r=8,p=1$c2FsdHNhbHRzYWx0", "no-hash"),
     ("$y$j75$0123456789ab", "yescrypt-format"),
-    ("$y$/75$0123456789ab$kb1fsIrDP1wOa4Q3gNpxZkfwQ3ce8kmPbnemuN65IT2", "yescrypt-flavor"),
-    ("$y$jT5$0123456789ab$kb1fsIrDP1wOa4Q3gNpxZkfwQ3ce8kmPbnemuN65IT2", "yescrypt-cost"),
-    ("$y$j75$0123456789ab$kb1fsIrDP1wOa4Q3gNpxZkfwQ3ce8kmPbnemuN65IT", "yescrypt-format"),
+    (
+        "$y$/75$0123456789ab$kb1fsIrDP1wOa4Q3gNpxZkfwQ3ce8kmPbnemuN65IT2",
+        "yescrypt-flavor",
+    ),
+    (
+        "$y$jT5$0123456789ab$kb1fsIrDP1wOa4Q3gNpxZkfwQ3ce8kmPbnemuN65IT2",
+        "yescrypt-cost",
+    ),
+    (
+        "$y$j75$0123456789ab$kb1fsIrDP1wOa4Q3gNpxZkfwQ3ce8kmPbnemuN65IT",
+        "yescrypt-format",
+    ),
     ("$7$4/..../....SodiumChloride", "scrypt-format"),
-    ("$7$T/..../....SodiumChloride$nlEbTww0ryKdVNlzWsYxiiWbBXRoFx2X8iNJtJTvzX.", "scrypt-cost"),
+    (
+        "$7$T/..../....SodiumChloride$nlEbTww0ryKdVNlzWsYxiiWbBXRoFx2X8iNJtJTvzX.",
+        "scrypt-cost",
+    ),
     ("abJnggxhB/yWI", "no-scheme"),
     ("{SHA}5en6G6MezRroT3XKqkdPOmY/BfQ=", "no-scheme"),
-    ("$md5,rounds=904$iPPKEBnEkp3JV8uX$$0zl94xqyvhRdTxvl8ydHC.", "no-scheme"),
+    (
+        "$md5,rounds=904$iPPKEBnEkp3JV8uX$$0zl94xqyvhRdTxvl8ydHC.",
+        "no-scheme",
+    ),
     ("$3$$8846f7eaee8fb117ad06bdd830b7586c", "no-scheme"),
     ("$gy$j9T$abcdefgh$x", "no-scheme"),
     ("*", "no-scheme"),
@@ -137,19 +176,97 @@ fn bounds_passed(rt: HostRuntime) {
     let kdf = record_kdf(rt.alloc());
     let kept = CryptKept::new(rt.alloc());
     for (number, low) in [
-        (2usize, CostLimits { sha_rounds: 4_999, ..least() }),
-        (4, CostLimits { sha_rounds: 4_999, ..least() }),
-        (6, CostLimits { bcrypt_cost: 4, ..least() }),
-        (7, CostLimits { scrypt_r: 7, ..least() }),
-        (14, CostLimits { scrypt_ln: 5, ..least() }),
-        (14, CostLimits { scrypt_p: 1, ..least() }),
-        (12, CostLimits { yescrypt_ln: 9, ..least() }),
-        (12, CostLimits { yescrypt_r: 7, ..least() }),
-        (13, CostLimits { yescrypt_t: 1, ..least() }),
-        (8, CostLimits { pbkdf2_rounds: 999, ..least() }),
-        (11, CostLimits { argon2_memory: 127, ..least() }),
-        (10, CostLimits { argon2_passes: 1, ..least() }),
-        (10, CostLimits { argon2_lanes: 1, ..least() }),
+        (
+            2usize,
+            CostLimits {
+                sha_rounds: 4_999,
+                ..least()
+            },
+        ),
+        (
+            4,
+            CostLimits {
+                sha_rounds: 4_999,
+                ..least()
+            },
+        ),
+        (
+            6,
+            CostLimits {
+                bcrypt_cost: 4,
+                ..least()
+            },
+        ),
+        (
+            7,
+            CostLimits {
+                scrypt_r: 7,
+                ..least()
+            },
+        ),
+        (
+            14,
+            CostLimits {
+                scrypt_ln: 5,
+                ..least()
+            },
+        ),
+        (
+            14,
+            CostLimits {
+                scrypt_p: 1,
+                ..least()
+            },
+        ),
+        (
+            12,
+            CostLimits {
+                yescrypt_ln: 9,
+                ..least()
+            },
+        ),
+        (
+            12,
+            CostLimits {
+                yescrypt_r: 7,
+                ..least()
+            },
+        ),
+        (
+            13,
+            CostLimits {
+                yescrypt_t: 1,
+                ..least()
+            },
+        ),
+        (
+            8,
+            CostLimits {
+                pbkdf2_rounds: 999,
+                ..least()
+            },
+        ),
+        (
+            11,
+            CostLimits {
+                argon2_memory: 127,
+                ..least()
+            },
+        ),
+        (
+            10,
+            CostLimits {
+                argon2_passes: 1,
+                ..least()
+            },
+        ),
+        (
+            10,
+            CostLimits {
+                argon2_lanes: 1,
+                ..least()
+            },
+        ),
     ] {
         for (i, stored) in TEXTS.into_iter().enumerate() {
             let answer = check_any_within(rt.alloc(), &kdf, &kept, &low, "secret", stored);
@@ -168,13 +285,21 @@ fn first_causes(rt: HostRuntime) {
     let kept = CryptKept::new(rt.alloc());
     let bytes = [b'a'; 4097];
     let Ok(long) = str::from_utf8(&bytes) else {
-        unreachable!();
+        panic!(rt; "letters are text")
     };
     for stored in TEXTS {
         let answer = check_any(rt.alloc(), &kdf, &kept, long, stored);
-        assert_eq!(rt; answer, Err(AnyError::Stored(StoredError::PasswordTooLong)), "{stored}");
+        assert_eq!(rt;
+            answer,
+            Err(AnyError::Stored(StoredError::PasswordTooLong)),
+            "{stored}"
+        );
         let answer = check_any_within(rt.alloc(), &kdf, &kept, &least(), long, stored);
-        assert_eq!(rt; answer, Err(AnyError::Stored(StoredError::PasswordTooLong)), "{stored}");
+        assert_eq!(rt;
+            answer,
+            Err(AnyError::Stored(StoredError::PasswordTooLong)),
+            "{stored}"
+        );
         let answer = check_any(rt.alloc(), &kdf, &kept, &long[1..], stored);
         assert_eq!(rt; answer, Ok(false), "{stored}");
     }
@@ -225,10 +350,18 @@ fn lines(rt: HostRuntime) {
     let mut room = [0; 100];
     let mut source = MemorySource::new(input, 1000, &[]);
     let mut sink = MemorySink::new(&mut room, 100, &[]);
-    let limits = CostLimits { argon2_memory: 64, ..least() };
-    assert_eq!(rt; run_any(rt.alloc(), Some(limits), &mut source, &mut sink, 1000), 1);
-    assert_eq!(rt; sink.bytes(),
-        b"match\nmismatch\nno-scheme\nbadline\nbadline\nzero-byte\ntoo-costly\n".as_slice());
+    let limits = CostLimits {
+        argon2_memory: 64,
+        ..least()
+    };
+    assert_eq!(rt;
+        run_any(rt.alloc(), Some(limits), &mut source, &mut sink, 1000),
+        1
+    );
+    assert_eq!(rt;
+        sink.bytes(),
+        b"match\nmismatch\nno-scheme\nbadline\nbadline\nzero-byte\ntoo-costly\n".as_slice()
+    );
 }
 
 #[test]
@@ -263,6 +396,9 @@ fn long_lines(rt: HostRuntime) {
     let mut room = [0; 16];
     let mut source = MemorySource::new(&input, 8194, &[]);
     let mut sink = MemorySink::new(&mut room, 64, &[]);
-    assert_eq!(rt; run_any(rt.alloc(), None, &mut source, &mut sink, 10_000), 1);
+    assert_eq!(rt;
+        run_any(rt.alloc(), None, &mut source, &mut sink, 10_000),
+        1
+    );
     assert_eq!(rt; sink.bytes(), b"toolong\n".as_slice());
 }
