@@ -3,9 +3,9 @@
 use crate::{
     CheckError, CryptKept, MakeError, ScryptParams, TextFault, YescryptParams, in_bounds,
     read_scrypt_params, read_yescrypt_params, scrypt_check, scrypt_check_kept, scrypt_costs,
-    scrypt_in_bounds,
-    scrypt_params_text, scrypt_text, table_len, words_len, yescrypt, yescrypt_check,
-    yescrypt_check_kept, yescrypt_costs, yescrypt_in, yescrypt_params_text, yescrypt_text,
+    scrypt_in_bounds, scrypt_params_text, scrypt_text, table_len, words_len, yescrypt,
+    yescrypt_check, yescrypt_check_kept, yescrypt_costs, yescrypt_in, yescrypt_params_text,
+    yescrypt_text,
 };
 use base64ct::Counts;
 use std::test::Fail;
