@@ -10,7 +10,7 @@ set -eu
 top=$(cd "$(dirname "$0")" && pwd)
 prefix=$(realpath -m -- "${1:-/usr/local}")
 root=${DESTDIR:-}$prefix
-programs="pwcheck wrapstream pwkdf pwlegacy pwfile"
+programs="pwcheck pwtool wrapstream pwkdf pwlegacy pwfile"
 
 fail() {
   echo "install.sh: $*" >&2

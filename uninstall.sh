@@ -14,8 +14,8 @@ take() { # FILE
 }
 
 version=$(sed -n 's/^#define PWCHECK_VERSION "\(.*\)"$/\1/p' "$top/include/pwcheck.h")
-for file in bin/pwcheck bin/wrapstream bin/pwkdf bin/pwlegacy bin/pwfile include/pwcheck.h lib/pkgconfig/pwcheck.pc \
-  lib/libpwcheck.a lib/libpwcheck.so "lib/libpwcheck.so.${version%%.*}" "lib/libpwcheck.so.$version"; do
+for file in bin/pwcheck bin/pwtool bin/wrapstream bin/pwkdf bin/pwlegacy bin/pwfile include/pwcheck.h \
+  lib/pkgconfig/pwcheck.pc lib/libpwcheck.a lib/libpwcheck.so "lib/libpwcheck.so.${version%%.*}" "lib/libpwcheck.so.$version"; do
   take "$file"
 done
 for page in "$top"/man/*.[135]; do

@@ -26,8 +26,8 @@ Section: admin
 Priority: optional
 Installed-Size: $(du -sk "$tree/usr" | cut -f1)
 Description: verification of stored passwords, proved
- Programs that answer each line of a password file with one word (SHA-crypt, scrypt, PBKDF2, md5-crypt for migration),
- a table of users, wrapped Base64, and a C library of the same verdicts. Written in Rattle; each function is proved to
+ Programs that answer each line of a password file with one word (SHA-crypt, yescrypt, bcrypt, scrypt, PBKDF2, Argon2,
+ md5-crypt for migration), a table of users, wrapped Base64, and a C library of the same verdicts. Written in Rattle; each function is proved to
  meet its contract.
 CONTROL
 dpkg-deb --root-owner-group --build "$tree" "$folder/pwcheck_${version:-0}_amd64.deb"

@@ -1,0 +1,30 @@
+//! The form `check` without its command line: what the theorem is about.
+
+ghost use Rattle.std.specs.Prelude.{◌≡◌, ◌≢◌, ◌≤◌, ◌^◌};
+ghost use Rattle.line_io.specs.Devices.{WhereTold};
+ghost use Rattle.pieces.specs.FaultCounts.{HasRisen};
+ghost use Rattle.line_program.specs.Outcome.{Outcome};
+ghost use Rattle.any_check.specs.Lines.{any_line_rules};
+
+use any_check::{CostLimits, run_any};
+use line_io::{INPUT_MAX, Sink, Source};
+use std::alloc::Global;
+
+/// Answers each line of a source of at most 2^40 bytes with its word, and gives the status.
+///
+/// A line is a password, a tab and a stored text. Where there is a bound, a valid text whose cost is above it is answered by
+/// `too-costly`. Statuses and memory are those of [`run_any`].
+pub fn check_lines<S: Source, K: Sink>(
+    alloc: Global,
+    limits: Option<CostLimits>,
+    source: &mut S,
+    sink: &mut K,
+) -> u8
+    ensures statuses { (result ≤ 6) × (result ≢ 2) }
+    ensures read_fault { result ≡ 3 → HasRisen (S.faults source.old) (S.faults source.new) }
+    ensures write_fault { result ≡ 4 → HasRisen (K.faults sink.old) (K.faults sink.new) }
+    ensures outcome { WhereTold (S.left source.old) (S.left source.new) (K.written sink.old) (K.written sink.new)
+        (λ held taken added. Outcome (any_line_rules limits) result (2 ^ 40) held taken added) }
+{
+    run_any(alloc, limits, source, sink, INPUT_MAX)
+}

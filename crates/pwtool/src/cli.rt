@@ -1,0 +1,119 @@
+//! The command line.
+
+use clap::{Arg, Command, value_parser};
+use std::alloc::{AllocError, Global};
+
+/// What stands behind the options in the help of the program.
+const STATUSES: &str = "\
+Statuses:
+   0  the whole input was read, and every answer is a match
+   1  the whole input was read, and some answer is another word
+   3  a read failed; the whole lines that were taken are answered
+   4  a write failed
+   5  memory is wanting; the lines before are answered
+   6  the input has more than 2^40 bytes
+   8  a word of the command line isn't UTF-8
+  64  the words of the command line are no form of the program
+  66  the file can't be opened
+'pwtool check --help' and pwtool(1) tell more.";
+
+/// What stands behind the options in the help of `check`.
+const LINES: &str = "\
+A line is a password, a tab and a stored text: of md5-crypt ($1$, $apr1$), SHA-crypt
+($5$, $6$), bcrypt ($2a$, $2b$, $2y$), yescrypt ($y$) or crypt's scrypt ($7$), or a PHC
+record of scrypt ($scrypt$), PBKDF2 ($pbkdf2-sha256$) or Argon2 ($argon2d$, $argon2i$,
+$argon2id$). The word is match, mismatch, or the first cause that there is no verdict:
+no-scheme where no scheme has the text, too-costly where a number of it is above the most
+given here. pwtool(1) has all words. Status 0 is for matches alone, 1 for some other word;
+pwtool --help has the rest.";
+
+// What an option bounds: its name, its help, its least and its most.
+#[derive(Drop)]
+struct CostOption {
+    name: &'static str,
+    help: &'static str,
+    least: i64,
+    most: i64,
+}
+
+fn cost(name: &'static str, help: &'static str, least: i64, most: i64) -> CostOption {
+    CostOption {
+        name,
+        help,
+        least,
+        most,
+    }
+}
+
+// The bounds on cost. The most of each is what its scheme takes.
+fn costs() -> [CostOption; 12] {
+    [
+        cost(
+            "max-sha-rounds",
+            "SHA-crypt: rounds, 1000 to 999999999",
+            1_000,
+            999_999_999,
+        ),
+        cost("max-bcrypt-cost", "bcrypt: cost, 4 to 31", 4, 31),
+        cost("max-yescrypt-ln", "yescrypt: log2 of N, 2 to 23", 2, 23),
+        cost("max-yescrypt-r", "yescrypt: r, 1 to 524287", 1, 524_287),
+        cost("max-yescrypt-t", "yescrypt: t, 0 to 1024", 0, 1_024),
+        cost(
+            "max-pbkdf2-rounds",
+            "PBKDF2: i, 1 to 10000000",
+            1,
+            10_000_000,
+        ),
+        cost(
+            "max-scrypt-ln",
+            "scrypt: ln, 1 to 24, and log2 of N of $7$",
+            1,
+            24,
+        ),
+        cost("max-scrypt-r", "scrypt: r, 1 to 131072", 1, 131_072),
+        cost("max-scrypt-p", "scrypt: p, 1 to 1024", 1, 1_024),
+        cost(
+            "max-argon2-memory",
+            "Argon2: m in KiB, 8 to 2097152",
+            8,
+            2_097_152,
+        ),
+        cost("max-argon2-passes", "Argon2: t, 1 to 2097152", 1, 2_097_152),
+        cost("max-argon2-lanes", "Argon2: p, 1 to 262144", 1, 262_144),
+    ]
+}
+
+// The argument of an option.
+fn argument<'a>(alloc: Global, option: &CostOption) -> Arg<'a> {
+    Arg::new(alloc, option.name)
+        .long(option.name)
+        .value_name("N")
+        .value_parser(value_parser!(u32).range(option.least..=option.most))
+        .help_heading("The most that a stored text may ask for (left out: what its scheme takes)")
+        .help(option.help)
+}
+
+// The form `check`.
+fn check<'a>(alloc: Global) -> Result<Command<'a>, AllocError> {
+    let file = Arg::new(alloc, "FILE").help("The file; standard input where it is left out or -");
+    let mut command = Command::new(alloc, "check")
+        .about("Answer each line, a password, a tab and a stored text, with one word")
+        .after_help(LINES)
+        .arg(file)?;
+    for option in &costs() {
+        command = command.arg(argument(alloc, option))?;
+    }
+    Ok(command)
+}
+
+/// The program's command line.
+pub fn command<'a>(alloc: Global) -> Result<Command<'a>, AllocError> {
+    Command::new(alloc, "pwtool")
+        .bin_name("pwtool")?
+        .version("0.1.0")
+        .about("Passwords checked against stored texts of every scheme")
+        .subcommand_required(true)
+        .disable_help_subcommand(true)
+        .after_help(STATUSES)
+        .subcommand(check(alloc)?)
+}

@@ -1,0 +1,96 @@
+//! `pwtool check [FILE]`: answers each line of a password file, a password, a tab and a stored text, with one word,
+//! where every scheme of `any_check` has a verdict.
+//!
+//! The lines come from the file that is named, or from standard input, and each word goes to standard output with a line
+//! feed. Errors are one line on standard error. The status says how the run ended.
+#![tactic(auto)]
+
+mod bounds;
+mod check;
+mod cli;
+mod fault;
+mod form;
+
+use crate::cli::command;
+use crate::fault::{say, say_refused};
+use crate::form::run_check;
+pub use check::check_lines;
+use clap::ArgMatches;
+use clap::error::ErrorKind;
+use line_program::status::{ALL_GOOD, NO_MEMORY, NO_WORDS, WRITE_FAULT};
+use std::process::ExitCode;
+use std::{env, io};
+
+/// The words of the command line are no form of the program.
+const BAD_WORDS: u8 = 64;
+
+// The words of the command line, or the status.
+fn words(rt: &HostRuntime) -> Result<Vec<String>, u8> {
+    let words = match env::args(rt) {
+        Ok(words) => words,
+        Err(error) if error.kind() == io::ErrorKind::OutOfMemory => {
+            return Err(no_memory(rt));
+        }
+        Err(_) => {
+            say(rt, "a word of the command line isn't UTF-8");
+            return Err(NO_WORDS);
+        }
+    };
+    match words.collect(rt.alloc()) {
+        Ok(words) => Ok(words),
+        Err(_) => Err(no_memory(rt)),
+    }
+}
+
+fn no_memory(rt: &HostRuntime) -> u8 {
+    say(rt, "memory is wanting for the words of the command line");
+    NO_MEMORY
+}
+
+// Runs the form that is named.
+fn run_form(rt: &HostRuntime, matches: &ArgMatches<'_>) -> u8 {
+    match matches.subcommand() {
+        Some((_, matches)) => run_check(rt, matches),
+        None => {
+            say(rt, "no form is named");
+            BAD_WORDS
+        }
+    }
+}
+
+// Says why the words are refused, or writes the help or the version that they ask for.
+fn answer_refused(rt: &HostRuntime, error: &clap::Error) -> u8 {
+    match error.kind() {
+        ErrorKind::DisplayHelp | ErrorKind::DisplayVersion => match error.print(rt) {
+            Ok(()) => ALL_GOOD,
+            Err(_) => {
+                say(rt, "standard output: a write failed");
+                WRITE_FAULT
+            }
+        },
+        ErrorKind::OutOfMemory => no_memory(rt),
+        _ => {
+            say_refused(rt, error);
+            BAD_WORDS
+        }
+    }
+}
+
+fn run(rt: &HostRuntime) -> u8 {
+    let words = match words(rt) {
+        Ok(words) => words,
+        Err(status) => return status,
+    };
+    let command = match command(rt.alloc()) {
+        Ok(command) => command,
+        Err(_) => return no_memory(rt),
+    };
+    match command.try_get_matches_from(words.as_slice()) {
+        Ok(matches) => run_form(rt, &matches),
+        Err(error) => answer_refused(rt, &error),
+    }
+}
+
+fn main(rt: HostRuntime) -> ExitCode {
+    ExitCode::from(run(&rt))
+}
