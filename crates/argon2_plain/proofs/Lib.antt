@@ -1,4 +1,5 @@
 pub mod Pieces
+pub mod Agreement
 pub mod Lanes
 pub mod Columns
 pub mod Places

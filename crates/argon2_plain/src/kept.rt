@@ -8,7 +8,7 @@ ghost use Rattle.argon2_plain.specs.KeyLength.{length-argon2_key};
 ghost use Rattle.argon2_plain.specs.Argon2.{argon2};
 
 use crate::profile::taken_params;
-use crate::{Argon2Plain, Params, argon2, argon2_in};
+use crate::{Argon2Plain, FIRST_WORD, Params, argon2, argon2_in};
 use phc::PasswordHash;
 use std::alloc::{AllocError, Global};
 use std::cell::RefCell;
@@ -67,7 +67,7 @@ fn grow(alloc: Global, table: &mut Vec<u64>, len: usize) -> Result<(), AllocErro
         return Ok(());
     }
     *table = Vec::new(alloc);
-    *table = Vec::from_elem(alloc, 0, len)?;
+    *table = Vec::from_elem(alloc, FIRST_WORD, len)?;
     Ok(())
 }
 
