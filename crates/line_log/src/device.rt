@@ -4,9 +4,7 @@ ghost use Rattle.std.specs.Prelude.{◌≡◌, ◌⊎◌, ◌≤◌, ◌++◌, [
 ghost use Rattle.pieces.specs.FaultCounts.{HasRisen};
 ghost use Rattle.line_log.specs.Device.{Cut, Elapses, Follows, Holds, Only, Torn};
 
-/// A call of the device failed. The device has counted it.
-#[derive(Clone, Copy, Debug, PartialEq, Eq)]
-pub struct Failed;
+use line_io::Failed;
 
 /// A file, and one more that is to replace it.
 ///

@@ -13,7 +13,8 @@ mod rewrite;
 #[cfg(test)]
 mod tests;
 
-pub use device::{Device, Failed};
+pub use device::Device;
+pub use line_io::Failed;
 pub use log::{FILE_MAX, GROUP_MAX, HEADER, LineLog};
 pub use memory::MemoryDevice;
 pub use read::{first_line, is_end, is_group};
