@@ -10,7 +10,6 @@ absent is skipped. The goal is at most 1.0 of libxcrypt's time. It installs noth
 
 usage: bench/bcrypt.py [ROUNDS]      (8 if left out)
 """
-import ctypes
 import os
 import resource
 import shutil
@@ -19,6 +18,7 @@ import sys
 import time
 
 from building import built, need
+from libxcrypt import crypt_r
 
 PASSWORD = b"correct horse battery staple"
 SALT = b"0123456789abcdef"
@@ -49,10 +49,7 @@ def lines_of(command):
 
 
 def libxcrypt():
-    call = ctypes.CDLL("libcrypt.so.1").crypt_r
-    call.argtypes = [ctypes.c_char_p, ctypes.c_char_p, ctypes.c_void_p]
-    call.restype = ctypes.c_char_p
-    data = ctypes.create_string_buffer(32768)
+    call = crypt_r()
 
     def rows():
         made = []
@@ -60,7 +57,7 @@ def libxcrypt():
             for _ in range(batches):
                 begin = time.perf_counter_ns()
                 for _ in range(runs):
-                    text = call(PASSWORD, setting(cost).encode(), data)
+                    text = call(PASSWORD, setting(cost).encode())
                 made.append((cost, (time.perf_counter_ns() - begin) / runs, text.decode()[29:]))
         return made
     return rows

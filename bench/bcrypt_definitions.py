@@ -8,11 +8,11 @@ identifier is `2a`, `2b` or `2y`. libcrypt.so.1 is called through ctypes. It ins
 
 usage: bench/bcrypt_definitions.py [SEED [TEXTS]]      (1 and 60 if left out; two to three seconds a text)
 """
-import ctypes
 import random
 import sys
 
 from building import need
+from libxcrypt import crypt_r
 
 CHARACTERS = "./ABCDEFGHIJKLMNOPQRSTUVWXYZabcdefghijklmnopqrstuvwxyz0123456789"
 LENGTHS = [0, 1, 2, 3, 4, 5, 7, 8, 15, 16, 17, 30, 35, 36, 55, 56, 57, 70, 71, 72, 73, 74, 80, 100, 254, 255, 256, 300]
@@ -217,23 +217,22 @@ def changed(rnd, text):
 def main():
     rnd = random.Random(int(sys.argv[1]) if len(sys.argv) > 1 else 1)
     count = int(sys.argv[2]) if len(sys.argv) > 2 else 60
-    library = ctypes.CDLL("libcrypt.so.1")
-    library.crypt.restype = ctypes.c_char_p
+    call = crypt_r()
     need(PI_WORDS == stormer(), "the words of pi differ")
     agree, rows, answers = 0, 0, {}
     for _ in range(count):
         password = bytes(rnd.randrange(1, 256) for _ in range(rnd.choice(LENGTHS)))
         salt = rnd.randbytes(16)
         text = text_of(b"2y", 4, salt, bcrypt(password, salt, 4))
-        agree += library.crypt(password, text[:29]) == text
+        agree += call(password, text[:29]) == text
         # libxcrypt's 2a has a measure of its own where a byte 255 stands
         ascii_word = bytes(rnd.randrange(1, 128) for _ in range(rnd.choice(LENGTHS)))
-        stored = library.crypt(ascii_word, b"$2%c$04$" % rnd.choice(b"aby") + bcrypt_field(salt))
+        stored = call(ascii_word, b"$2%c$04$" % rnd.choice(b"aby") + bcrypt_field(salt))
         need(bcrypt_answer(ascii_word, stored) == "Ok", f"no match: {stored}")
         for _ in range(20):
             other = changed(rnd, stored)
             answer = bcrypt_answer(ascii_word, other)
-            same = library.crypt(ascii_word, other) == other and other[:4] in (b"$2a$", b"$2b$", b"$2y$")
+            same = call(ascii_word, other) == other and other[:4] in (b"$2a$", b"$2b$", b"$2y$")
             need((answer == "Ok") == same, f"libxcrypt disagrees: {answer} {other}")
             rows += 1
             answers[answer] = answers.get(answer, 0) + 1

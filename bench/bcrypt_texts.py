@@ -6,32 +6,16 @@ match their password, and no other one, by `bcrypt_check`; and 300 texts that `b
 libxcrypt for their password. It proves and builds bench/bcrypt_texts_ours.txt under bench/out/ over the repository's
 crates, and calls libcrypt.so.1 through ctypes. It installs nothing.
 """
-import ctypes
-import os
 import random
-import shutil
-import subprocess
 import sys
 
-from building import HERE, need
+from building import answers, built, need
+from libxcrypt import crypt_r
 
 COUNT = 300
 CHARACTERS = "./ABCDEFGHIJKLMNOPQRSTUVWXYZabcdefghijklmnopqrstuvwxyz0123456789"
 LETTERS = [chr(c) for c in range(32, 127)] + list("äöüßéÿ€ łжあ漢🔑")
 LENGTHS = [0, 1, 2, 3, 4, 5, 7, 8, 12, 16, 17, 24, 35, 36, 54, 55, 56, 57, 63, 64, 70, 71, 72, 73, 90, 128]
-
-
-def built():
-    folder = os.path.join(HERE, "out", "bcrypt_texts")
-    os.makedirs(os.path.join(folder, "src"), exist_ok=True)
-    with open(os.path.join(folder, "BUILD.bazel"), "w", encoding="utf-8") as file:
-        file.write('load("@rattle//build:rattle.bzl", "rattle_crate")\n\nrattle_crate(\n    name = "bcrypt_texts",\n'
-                   '    deps = ["//crates/bcrypt_plain", "//crates/pieces", "@rattle//crates/rand_core",'
-                   ' "@rattle//crates/rand_chacha"],\n)\n')
-    shutil.copy(os.path.join(HERE, "bcrypt_texts_ours.txt"), os.path.join(folder, "src", "main.rt"))
-    done = subprocess.run(["rt", "run"], cwd=folder, input="", capture_output=True, text=True, check=False)
-    need(done.returncode == 0, "rt run failed:\n" + done.stdout[-2000:] + done.stderr[-2000:])
-    return os.path.join(folder, "out", "bcrypt_texts")
 
 
 def password(rnd, most):
@@ -46,18 +30,12 @@ def password(rnd, most):
 
 def main():
     rnd = random.Random(20)
-    program = built()
-    library = ctypes.CDLL("libcrypt.so.1")
-    library.crypt.restype = ctypes.c_char_p
+    program = built("bcrypt_texts", "bcrypt_texts_ours.txt", "bcrypt_plain", "pieces", "@rattle//crates/rand_core",
+                    "@rattle//crates/rand_chacha")
+    call = crypt_r()
 
     def crypt(text, setting):
-        return library.crypt(text.encode(), setting.encode()).decode()
-
-    def ask(lines):
-        out = subprocess.run([program], input="".join(line + "\n" for line in lines), capture_output=True, text=True,
-                             check=True).stdout.splitlines()
-        need(len(out) == len(lines), "another number of answers")
-        return out
+        return call(text.encode(), setting.encode()).decode()
 
     theirs = []
     for k in range(COUNT):
@@ -65,13 +43,13 @@ def main():
         right = password(rnd, 128)
         theirs.append((right, crypt(right, f"${['2a', '2b', '2y'][k % 3]}$0{4 + k % 2}${salt}")))
     need(all(len(text) == 60 for _, text in theirs), "libxcrypt refused")
-    right = ask([f"{word}\t{text}" for word, text in theirs])
+    right = answers(program, [f"{word}\t{text}" for word, text in theirs])
     # another first letter: a longer password may have the same first 72 bytes
-    wrong = ask([f"{'X' if word[:1] != 'X' else 'Y'}{word[1:]}\t{text}" for word, text in theirs])
+    wrong = answers(program, [f"{'X' if word[:1] != 'X' else 'Y'}{word[1:]}\t{text}" for word, text in theirs])
     print(f"texts of libxcrypt: {COUNT}; right password: {right.count('match')} match; wrong password:"
           f" {wrong.count('mismatch')} mismatch")
     words = [password(rnd, 72) for _ in range(COUNT)]
-    ours = ask([f"{word}\t{4 + k % 2}" for k, word in enumerate(words)])
+    ours = answers(program, [f"{word}\t{4 + k % 2}" for k, word in enumerate(words)])
     back = sum(crypt(word, text) == text for word, text in zip(words, ours))
     other = sum(crypt(word + "x", text) != text for word, text in zip(words, ours) if len(word.encode()) < 72)
     shorter = sum(len(word.encode()) < 72 for word in words)
@@ -81,4 +59,5 @@ def main():
     sys.exit(0 if agree else 1)
 
 
-main()
+if __name__ == "__main__":
+    main()

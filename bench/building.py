@@ -20,15 +20,25 @@ def _write(folder, name, text):
         file.write(text)
 
 
-def built(name, source, crate):
-    """Proves and builds the program of a source in bench/ over a crate of the repository, and answers its file."""
+def answers(program, lines):
+    """The lines that a program writes for lines on its standard input, one for each."""
+    out = subprocess.run([program], input="".join(line + "\n" for line in lines), capture_output=True, text=True,
+                         check=True).stdout.splitlines()
+    need(len(out) == len(lines), "another number of answers")
+    return out
+
+
+def built(name, source, *crates):
+    """Proves and builds the program of a source in bench/ over crates of the repository, or of the kit where they begin
+    with `@rattle//`, and answers its file."""
     folder = os.path.join(HERE, "out", name)
+    deps = ", ".join(f'"{crate}"' if crate.startswith("@") else f'"//crates/{crate}"' for crate in crates)
     _write(folder, "BUILD.bazel", 'load("@rattle//build:rattle.bzl", "rattle_crate")\n\n'
-           f'rattle_crate(\n    name = "{name}",\n    deps = ["//crates/{crate}"],\n)\n')
+           f'rattle_crate(\n    name = "{name}",\n    deps = [{deps}],\n)\n')
     shutil.copy(os.path.join(HERE, source), os.path.join(folder, "src", "main.rt"))
-    made = subprocess.run(["rt", "run"], cwd=folder, capture_output=True, text=True, check=False)
+    made = subprocess.run(["rt", "run"], cwd=folder, input="", capture_output=True, text=True, check=False)
     program = os.path.join(folder, "out", name)
-    need(made.returncode == 0 and os.path.exists(program), "rt run failed:\n" + made.stdout + made.stderr)
+    need(made.returncode == 0 and os.path.exists(program), "rt run failed:\n" + made.stdout[-2000:] + made.stderr[-2000:])
     return program
 
 

@@ -12,7 +12,6 @@ installs nothing.
 
 usage: bench/md5_crypt.py [ROUNDS]      (8 if left out)
 """
-import ctypes
 import os
 import resource
 import subprocess
@@ -20,6 +19,7 @@ import sys
 import time
 
 from building import built, need
+from libxcrypt import crypt_r
 
 SALT = "saltsalt"
 LENGTHS = [1, 8, 12, 16, 32, 64]
@@ -37,10 +37,7 @@ def ours(program):
 
 
 def libxcrypt():
-    call = ctypes.CDLL("libcrypt.so.1").crypt_r
-    call.argtypes = [ctypes.c_char_p, ctypes.c_char_p, ctypes.c_void_p]
-    call.restype = ctypes.c_char_p
-    data = ctypes.create_string_buffer(32768)
+    call = crypt_r()
     setting = ("$1$" + SALT).encode()
 
     def batches(length):
@@ -48,7 +45,7 @@ def libxcrypt():
         for _ in range(BATCHES):
             begin = time.perf_counter_ns()
             for _ in range(RUNS):
-                text = call(password, setting, data)
+                text = call(password, setting)
             made.append(((time.perf_counter_ns() - begin) / RUNS, text.decode().rsplit("$", 1)[1]))
         return made
     return batches

@@ -21,13 +21,14 @@ import sys
 import time
 
 from building import built, need
+from libxcrypt import CHARACTERS, crypt_r
 
 PASSWORD = b"pleaseletmein"
 SALT = b"SodiumChloride"
 LNS = [14, 16]
 RUNS = 8
 RFC = bytes.fromhex("7023bdcb3afd7348461c06cd81fd38ebfda8fbba904f8e3ea9b543f6545da1f2")
-TAB = b"./0123456789ABCDEFGHIJKLMNOPQRSTUVWXYZabcdefghijklmnopqrstuvwxyz"
+TAB = CHARACTERS.encode()
 
 
 def openssl(ln):
@@ -53,16 +54,13 @@ def from_kdf(name, function):
 def libxcrypt():
     """libxcrypt's $7$, whose salt is used as it stands; the 43 characters are the key, lowest bits first."""
     try:
-        call = ctypes.CDLL("libcrypt.so.1").crypt_r
+        call = crypt_r()
     except (OSError, AttributeError):
         return None
-    call.argtypes = [ctypes.c_char_p, ctypes.c_char_p, ctypes.c_void_p]
-    call.restype = ctypes.c_char_p
-    data = ctypes.create_string_buffer(32768)
 
     def derive(ln):
         setting = b"$7$" + TAB[ln:ln + 1] + b"6..../...." + SALT
-        text = call(PASSWORD, setting, data)
+        text = call(PASSWORD, setting)
         need(text is not None and text.startswith(setting + b"$"), "libxcrypt failed")
         characters = text[len(setting) + 1:]
         bits = sum(TAB.index(c) << 6 * i for i, c in enumerate(characters))

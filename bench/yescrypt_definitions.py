@@ -8,14 +8,14 @@ installs nothing.
 
 usage: bench/yescrypt_definitions.py [SEED [COUNT]]
 """
-import ctypes
 import hashlib
 import hmac as _hmac
 import random
 import sys
 
+from libxcrypt import CHARACTERS, crypt_field, crypt_r
+
 M32, M64 = 2 ** 32 - 1, 2 ** 64 - 1
-ALPHABET = "./0123456789ABCDEFGHIJKLMNOPQRSTUVWXYZabcdefghijklmnopqrstuvwxyz"
 
 
 def hmac(key, text):
@@ -160,21 +160,12 @@ def yescrypt(password, salt, ln, r, t):
 
 # ---- texts
 
-def crypt_field(data):
-    text = ""
-    for i in range(0, len(data), 3):
-        piece = data[i:i + 3]
-        value = int.from_bytes(piece, "little")
-        text += "".join(ALPHABET[value >> 6 * k & 63] for k in range((len(piece) * 8 + 5) // 6))
-    return text
-
-
 def number_text(v):
     for bound, start, more, base in ((48, 0, 0, 0), (560, 48, 1, 48), (16944, 56, 2, 560), (541232, 60, 3, 16944),
                                      (17318448, 62, 4, 541232), (2 ** 31, 63, 5, 17318448)):
         if v < bound:
             v -= base
-            return ALPHABET[start + v // 64 ** more] + "".join(ALPHABET[v // 64 ** k % 64] for k in reversed(range(more)))
+            return CHARACTERS[start + v // 64 ** more] + "".join(CHARACTERS[v // 64 ** k % 64] for k in reversed(range(more)))
     return None
 
 
@@ -185,7 +176,7 @@ def yescrypt_text(password, salt, ln, r, t):
 
 
 def scrypt_text(password, salt, ln, r, p):
-    params = ALPHABET[ln] + "".join(ALPHABET[v // 64 ** k % 64] for v in (r, p) for k in range(5))
+    params = CHARACTERS[ln] + "".join(CHARACTERS[v // 64 ** k % 64] for v in (r, p) for k in range(5))
     key = hashlib.scrypt(password, salt=salt.encode(), n=2 ** ln, r=r, p=p, dklen=32)
     return f"$7${params}{salt}${crypt_field(key)}"
 
@@ -193,18 +184,17 @@ def scrypt_text(password, salt, ln, r, p):
 def main():
     rnd = random.Random(int(sys.argv[1]) if len(sys.argv) > 1 else 1)
     count = int(sys.argv[2]) if len(sys.argv) > 2 else 60
-    library = ctypes.CDLL("libcrypt.so.1")
-    library.crypt.restype = ctypes.c_char_p
+    call = crypt_r()
     same = 0
     for k in range(2 * count):
         password = "".join(rnd.choice("abcXYZ019 -_äß") for _ in range(rnd.randint(0, 80)))
         if k % 2:
-            salt = "".join(rnd.choice(ALPHABET) for _ in range(rnd.randint(0, 86)))
+            salt = "".join(rnd.choice(CHARACTERS) for _ in range(rnd.randint(0, 86)))
             text = scrypt_text(password.encode(), salt, rnd.randint(2, 8), rnd.randint(1, 8), rnd.randint(1, 4))
         else:
             salt = rnd.randbytes(rnd.randint(1, 64))
             text = yescrypt_text(password.encode(), salt, rnd.randint(2, 8), rnd.randint(1, 3), rnd.choice([0, 0, 1, 2, 3]))
-        found = library.crypt(password.encode(), text.encode()).decode()
+        found = call(password.encode(), text.encode()).decode()
         if found == text:
             same += 1
         else:
@@ -213,4 +203,5 @@ def main():
     sys.exit(0 if same == 2 * count else 1)
 
 
-main()
+if __name__ == "__main__":
+    main()

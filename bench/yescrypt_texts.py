@@ -9,32 +9,16 @@ and calls libcrypt.so.1 through ctypes. It takes up to 1 GiB and some minutes, a
 
 usage: bench/yescrypt_texts.py [SEED]      (34 if left out)
 """
-import ctypes
-import os
 import random
-import shutil
-import subprocess
 import sys
 
-from building import HERE, need
+from building import answers, built, need
+from libxcrypt import CHARACTERS, crypt_field, crypt_r
 
 COUNT = 200
-CHARACTERS = "./0123456789ABCDEFGHIJKLMNOPQRSTUVWXYZabcdefghijklmnopqrstuvwxyz"
 LETTERS = [chr(c) for c in range(32, 127)] + list("äöüßéÿ€łжあ漢🔑")
 GENSALT_Y = ["j75", "j85", "j7T", "j8T", "j9T", "jAT", "jBT", "jCT", "jDT", "jET", "jFT"]
 GENSALT_7 = ["BU..../....", "CU..../....", "DU..../....", "EU..../....", "FU..../....", "GU..../...."]
-
-
-def built():
-    folder = os.path.join(HERE, "out", "yescrypt_texts")
-    os.makedirs(os.path.join(folder, "src"), exist_ok=True)
-    with open(os.path.join(folder, "BUILD.bazel"), "w", encoding="utf-8") as file:
-        file.write('load("@rattle//build:rattle.bzl", "rattle_crate")\n\nrattle_crate(\n    name = "yescrypt_texts",\n'
-                   '    deps = ["//crates/yescrypt_plain", "//crates/pieces"],\n)\n')
-    shutil.copy(os.path.join(HERE, "yescrypt_texts_ours.txt"), os.path.join(folder, "src", "main.rt"))
-    done = subprocess.run(["rt", "run"], cwd=folder, input="", capture_output=True, text=True, check=False)
-    need(done.returncode == 0, "rt run failed:\n" + done.stdout[-2000:] + done.stderr[-2000:])
-    return os.path.join(folder, "out", "yescrypt_texts")
 
 
 def number(value):
@@ -53,15 +37,6 @@ def field(ln, r, t):
     return "j" + number(ln - 1) + number(r - 1) + (number(1) + number(t - 1) if t else "")
 
 
-def encoded(data):
-    text = ""
-    for i in range(0, len(data), 3):
-        piece = data[i:i + 3]
-        value = int.from_bytes(piece, "little")
-        text += "".join(CHARACTERS[value >> 6 * k & 63] for k in range((len(piece) * 8 + 5) // 6))
-    return text
-
-
 def five(value):
     return "".join(CHARACTERS[value >> 6 * k & 63] for k in range(5))
 
@@ -74,45 +49,39 @@ def settings(rnd):
     """The settings of both forms: random ones, and those of each number of rows and of each count of crypt_gensalt."""
     y, seven = [], []
     for _ in range(COUNT):
-        salt = encoded(rnd.randbytes(rnd.choice([1, 2, 3, 8, 16, 16, 16, 32, 63, 64])))
+        salt = crypt_field(rnd.randbytes(rnd.choice([1, 2, 3, 8, 16, 16, 16, 32, 63, 64])))
         y.append(f"$y${field(rnd.randint(2, 9), rnd.randint(1, 9), rnd.choice([0, 0, 0, 1, 2, 3]))}${salt}")
         salt = "".join(rnd.choice(CHARACTERS) for _ in range(rnd.choice([0, 1, 2, 8, 22, 22, 43, 86])))
         seven.append(f"$7${CHARACTERS[rnd.randint(2, 9)]}{five(rnd.randint(1, 9))}{five(rnd.randint(1, 4))}{salt}")
-    y += [f"$y${field(ln, min(2 ** (23 - ln), 2 ** 15), 0)}${encoded(rnd.randbytes(16))}" for ln in range(2, 24)]
-    y += [f"$y${name}${encoded(rnd.randbytes(16))}" for name in GENSALT_Y]
-    seven += [f"$7${name}{encoded(rnd.randbytes(16))}" for name in GENSALT_7]
+    y += [f"$y${field(ln, min(2 ** (23 - ln), 2 ** 15), 0)}${crypt_field(rnd.randbytes(16))}" for ln in range(2, 24)]
+    y += [f"$y${name}${crypt_field(rnd.randbytes(16))}" for name in GENSALT_Y]
+    seven += [f"$7${name}{crypt_field(rnd.randbytes(16))}" for name in GENSALT_7]
     return {"$y$": y, "$7$": seven}
 
 
 def main():
     rnd = random.Random(int(sys.argv[1]) if len(sys.argv) > 1 else 34)
-    program = built()
-    library = ctypes.CDLL("libcrypt.so.1")
-    library.crypt.restype = ctypes.c_char_p
+    program = built("yescrypt_texts", "yescrypt_texts_ours.txt", "yescrypt_plain", "pieces")
+    call = crypt_r()
 
     def crypt(text, setting):
-        return library.crypt(text.encode(), setting.encode()).decode()
-
-    def ask(lines):
-        out = subprocess.run([program], input="".join(line + "\n" for line in lines), capture_output=True, text=True,
-                             check=True).stdout.splitlines()
-        need(len(out) == len(lines), "another number of answers")
-        return out
+        return call(text.encode(), setting.encode()).decode()
 
     agree = True
     for form, rows in settings(rnd).items():
         theirs = [(word, crypt(word, setting)) for word, setting in ((password(rnd), row) for row in rows)]
         need(all(text.startswith(form) for _, text in theirs), "libxcrypt refused")
-        right = ask([f"{word}\t{text}" for word, text in theirs])
-        wrong = ask([f"{word}x\t{text}" for word, text in theirs[:COUNT]])
+        right = answers(program, [f"{word}\t{text}" for word, text in theirs])
+        wrong = answers(program, [f"{word}x\t{text}" for word, text in theirs[:COUNT]])
         print(f"texts {form} of libxcrypt: {len(theirs)}; right password: {right.count('match')} match; of the first"
               f" {COUNT}, with a wrong password: {wrong.count('mismatch')} mismatch")
         agree = agree and right.count("match") == len(theirs) and wrong.count("mismatch") == COUNT
     words = [(password(rnd), field(rnd.randint(2, 9), rnd.randint(1, 9), rnd.choice([0, 1, 2, 3]))) for _ in range(COUNT)]
-    ours = ask([f"{word}\t{name} {'s' * rnd.randint(1, 64)}" for word, name in words])
+    ours = answers(program, [f"{word}\t{name} {'s' * rnd.randint(1, 64)}" for word, name in words])
     back = sum(crypt(word, text) == text for (word, _), text in zip(words, ours))
     print(f"texts $y$ of ours: {COUNT}; given back by libxcrypt: {back}")
     sys.exit(0 if agree and back == COUNT else 1)
 
 
-main()
+if __name__ == "__main__":
+    main()
