@@ -2,7 +2,7 @@
 -- makes no difference, as no block is read before it is filled.
 use Rattle.std.proofs.Common.{◌≡◌, ◌≢◌, ◌⊎◌, ℕ, zero, suc, ◌+◌, ◌-◌, ◌*◌, ◌/◌, ◌%◌, ◌^◌, ◌<◌, ◌≤◌, Bool, true, false, cond, List, length}
 use Rattle.std.proofs.Common.{take, drop, slice_index, refl, sym, ap, ap₂, ◌∙◌, arith, inl, inr, subst}
-use Rattle.std.specs.Prelude.{◌==◌, ◌&&◌}
+use Rattle.std.specs.Prelude.{◌==◌}
 use Rattle.std.specs.Prelude.{bit_xor, ◌∷◌, [], ◌++◌}
 use Rattle.std.proofs.Math.Nat.{mod-eq_of_lt, mul-le-mul_right}
 use Rattle.std.proofs.lemmas.Nat.{mod_below}
@@ -12,8 +12,8 @@ use Rattle.std.proofs.lemmas.Simd.{length-zip2}
 use Rattle.blake2b.specs.Words.{word_at, words}
 use Rattle.argon2_plain.specs.Argon2.{begin_lanes, first_block, le32, variable_hash}
 use Rattle.argon2_plain.specs.Lists.{xor_words}
-use Rattle.argon2_plain.specs.Filling.{block_at, block_count, column, current, fill_block, fill_blocks, fill_lanes, fill_passes}
-use Rattle.argon2_plain.specs.Filling.{fill_segment, fill_slices, filled_with, first_index, lane_length, pair, previous, reference}
+use Rattle.argon2_plain.specs.Filling.{block_at, block_count, fill_block, fill_blocks, fill_lanes, fill_passes}
+use Rattle.argon2_plain.specs.Filling.{fill_segment, fill_slices, lane_length, pair, previous, reference}
 use Rattle.argon2_plain.specs.Filling.{address_block, is_independent, reference_column, reference_lane, window, window_place, with_block}
 use Rattle.argon2_plain.specs.Permutation.{g, permuted_columns, permuted_rows, transposed}
 use Rattle.argon2_plain.specs.declared.fill.Plan.{Plan}
