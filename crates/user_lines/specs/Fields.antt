@@ -1,0 +1,25 @@
+-- Lines of fields with colons between them, of which the first is a user (passwd(5), shadow(5), htpasswd(1)).
+use Rattle.std.specs.Prelude.{ℕ, Bool, ◌&&◌, ◌==◌, List, not}
+use Rattle.std.specs.List.{list_any, before_first, after_first}
+use Rattle.pieces.specs.Characters.{is_tab}
+
+-- `:`
+abbrev pub is_colon : ℕ → Bool
+is_colon b = b == 58
+
+-- what stands before the first colon; all, where there is none
+abbrev pub first_field : List ℕ → List ℕ
+first_field text = before_first is_colon text
+
+-- what stands before the first colon of a line
+abbrev pub user_of : List ℕ → List ℕ
+user_of line = before_first is_colon line
+
+-- what stands behind it
+abbrev pub rest_of : List ℕ → List ℕ
+rest_of line = after_first is_colon line
+
+-- A user stands before the first colon. What has a tab is no user: else a line whose user was left out would have its
+-- password written.
+abbrev pub has_user : List ℕ → Bool
+has_user line = list_any is_colon line && not (list_any is_tab (user_of line))

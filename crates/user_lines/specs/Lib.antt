@@ -1,0 +1,4 @@
+pub mod Fields
+pub mod Passwords
+pub mod Loads
+pub mod LoadRules

@@ -1,0 +1,15 @@
+//! Lines that begin with a user and a colon, as shadow, htpasswd and password files have them.
+//!
+//! [`cut_user`] takes the user off a line, [`put_user`] writes a user before a word. [`Passwords`] is a table of users and
+//! their passwords, which [`load_passwords`] fills from the lines of a source.
+#![tactic(auto)]
+
+mod cut;
+mod load;
+mod passwords;
+#[cfg(test)]
+mod tests;
+
+pub use cut::{cut_field, cut_user, put_user};
+pub use load::{Loading, load_passwords};
+pub use passwords::Passwords;
