@@ -1,5 +1,5 @@
 -- Lines of fields with colons between them, of which the first is a user (passwd(5), shadow(5), htpasswd(1)).
-use Rattle.std.specs.Prelude.{ℕ, Bool, ◌&&◌, ◌==◌, List, not}
+use Rattle.std.specs.Prelude.{ℕ, Bool, false, ◌&&◌, ◌||◌, ◌==◌, List, [], ◌∷◌, not}
 use Rattle.std.specs.List.{list_any, before_first, after_first}
 use Rattle.pieces.specs.Characters.{is_tab}
 
@@ -23,3 +23,14 @@ rest_of line = after_first is_colon line
 -- password written.
 abbrev pub has_user : List ℕ → Bool
 has_user line = list_any is_colon line && not (list_any is_tab (user_of line))
+
+-- ---- the outer form of a line of a shadow file (shadow(5)): the user, the stored text, and further fields
+
+-- the stored text: the second field
+abbrev pub text_of_line : List ℕ → List ℕ
+text_of_line line = first_field (rest_of line)
+
+-- what begins with `*` or `!` is no password's text: the account is locked (shadow(5))
+abbrev pub is_locked : List ℕ → Bool
+is_locked [] = false
+is_locked (b ∷ text) = (b == 42) || (b == 33)

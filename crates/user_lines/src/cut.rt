@@ -4,7 +4,7 @@ ghost use Rattle.std.specs.Prelude.{◌≡◌, ◌∷◌, ◌++◌, [], MatchOpt
 ghost use Rattle.std.specs.List.{after_first, before_first, list_any};
 ghost use Rattle.line_io.specs.Output.{Puts};
 ghost use Rattle.pieces.specs.Characters.{is_tab};
-ghost use Rattle.user_lines.specs.Fields.{first_field, has_user, is_colon, rest_of, user_of};
+ghost use Rattle.user_lines.specs.Fields.{first_field, has_user, is_colon, is_locked, rest_of, user_of};
 
 use line_io::{OutputBuffer, Sink};
 use pieces::places::first_place;
@@ -51,6 +51,16 @@ pub fn cut_field(rest: &[u8]) -> &[u8]
     match first_place(rest, b':') {
         Some(at) => &rest[..at],
         None => rest,
+    }
+}
+
+/// Whether a stored text begins with `*` or `!`, so that the account is locked.
+pub fn is_locked(text: &[u8]) -> bool
+    ensures locked { result ≡ is_locked text.now }
+{
+    match text.first() {
+        Some(b) => *b == b'*' || *b == b'!',
+        None => false,
     }
 }
 

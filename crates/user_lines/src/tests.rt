@@ -1,6 +1,6 @@
 //! Cut lines, and tables of passwords.
 
-use crate::{Loading, Passwords, cut_field, cut_user, load_passwords, put_user};
+use crate::{Loading, Passwords, cut_field, cut_user, is_locked, load_passwords, put_user};
 use line_io::{MemorySink, MemorySource, OutputBuffer};
 use std::hash::RandomState;
 use std::test::Fail;
@@ -21,6 +21,21 @@ fn users_of_lines(rt: HostRuntime) {
     }
     assert_eq!(rt; cut_field(b"$6$x:19000:0:99999:7:::"), b"$6$x".as_slice());
     assert_eq!(rt; cut_field(b"*"), b"*".as_slice());
+}
+
+#[test]
+fn locked_texts(rt: HostRuntime) {
+    let rows: [(&[u8], bool); 6] = [
+        (b"!", true),
+        (b"!$6$x$y", true),
+        (b"*", true),
+        (b"*LK*", true),
+        (b"$6$!*", false),
+        (b"", false),
+    ];
+    for (text, locked) in rows {
+        assert_eq!(rt; is_locked(text), locked, "{text:?}");
+    }
 }
 
 #[test]
