@@ -7,8 +7,8 @@ use Rattle.std.proofs.lemmas.Bool.Decides.{nat_tests}
 use Rattle.phc.specs.declared.password_hash.PasswordHash.{PasswordHash}
 use Rattle.stored_check.proofs.Causes.{fits}
 use Rattle.stored_check.specs.declared.error.StoredError.TheVariants.{PasswordTooLong}
-use Rattle.any_check.specs.Cost.{is_costly, verdict_within}
-use Rattle.any_check.specs.Table.{IsAnyVerdict, any_verdict}
+use Rattle.any_check.specs.Cost.{is_costly, verdict_within, within_may_lack}
+use Rattle.any_check.specs.Table.{IsAnyVerdict, any_may_lack, any_verdict}
 use Rattle.any_check.specs.declared.cost.CostLimits.{CostLimits}
 use Rattle.any_check.specs.declared.error.AnyError.{AnyError}
 use Rattle.any_check.specs.declared.error.AnyError.TheVariants.{Stored, TooCostly}
@@ -38,7 +38,11 @@ module _ (accepted : PasswordHash → List ℕ → ℕ → Bool) (limits : CostL
     unfolding verdict_within
     costly_within short costly = inl (rw (fits password short, costly) refl)
 
-    pub cheap_within : length password ≤ 4096 → is_costly accepted limits stored ≡ false → (r : Result Bool AnyError)
-        → IsAnyVerdict (any_verdict accepted tag password stored) lack r → Within r
-    unfolding verdict_within
-    cheap_within short cheap r told = rw (fits password short, cheap) told
+  pub cheap_within : (tag : List ℕ → PasswordHash → List ℕ → ℕ → List ℕ) (password : List ℕ)
+      (needs_memory : PasswordHash → Bool) → length password ≤ 4096 → is_costly accepted limits stored ≡ false
+      → (r : Result Bool AnyError) → IsAnyVerdict (any_verdict accepted tag password stored)
+      (any_may_lack accepted needs_memory tag password stored) r → IsAnyVerdict
+      (verdict_within accepted tag limits password stored)
+      (within_may_lack accepted needs_memory tag limits password stored) r
+  unfolding verdict_within within_may_lack
+  cheap_within tag password needs_memory short cheap r told = rw (fits password short, cheap) told

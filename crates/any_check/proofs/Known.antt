@@ -8,9 +8,10 @@ use Rattle.pieces.specs.Characters.{is_tab}
 use Rattle.stored_check.specs.declared.error.StoredError.TheVariants.{OutOfMemory}
 use Rattle.any_check.proofs.Causes.{never_wanting}
 use Rattle.any_check.specs.Cost.{is_costly, verdict_within}
-use Rattle.any_check.specs.Lines.{IsLineAnswer, IsTextAnswer, answer_word, given_verdict, is_match, line_answer}
+use Rattle.any_check.specs.Lines.{IsLineAnswer, IsTextAnswer, answer_word, given_may_lack, given_verdict, is_match, line_answer}
 use Rattle.any_check.specs.Lines.{line_may_lack, line_output, text_answer}
 use Rattle.any_check.specs.Records.{accepted, tag}
+use Rattle.any_check.specs.Table.{IsAnyVerdict}
 use Rattle.any_check.specs.declared.cost.CostLimits.{CostLimits}
 use Rattle.any_check.specs.declared.error.AnyError.{AnyError}
 use Rattle.any_check.specs.declared.error.AnyError.TheVariants.{Stored}
@@ -54,6 +55,19 @@ given_other : (limits : Option CostLimits) (password stored : List ℕ) → Othe
 given_other None password stored = never_wanting accepted tag password stored
 given_other (Some limits) password stored = within_other limits password stored
 
+-- the answer for a password and a stored text
+pub verdict_lacks_memory : (limits : Option CostLimits) (password stored : List ℕ) (r : Result Bool AnyError)
+    → IsAnyVerdict (given_verdict limits password stored) (given_may_lack limits password stored) r
+    → r ≡ Err (Stored OutOfMemory) → given_may_lack limits password stored ≡ true
+verdict_lacks_memory limits password stored r (inl is) h = absurd (given_other limits password stored (sym is ∙ h))
+verdict_lacks_memory limits password stored r (inr lacks) h = lacks.1
+
+pub verdict_is_known : (limits : Option CostLimits) (password stored : List ℕ) (r : Result Bool AnyError)
+    → IsAnyVerdict (given_verdict limits password stored) (given_may_lack limits password stored) r
+    → Other r → r ≡ given_verdict limits password stored
+verdict_is_known limits password stored r (inl is) h = is
+verdict_is_known limits password stored r (inr lacks) h = absurd (h lacks.0)
+
 of_verdict : (limits : Option CostLimits) (password stored : List ℕ)
     → Known (Checked (given_verdict limits password stored))
 of_verdict limits password stored = λ h. given_other limits password stored (cc h)
@@ -68,7 +82,7 @@ known limits line = by_test (nat_lt 8192 (length line)) _ _ (λ h. cc)
     (by_test (is_utf8 line) _ _ (known_text limits line) (λ h. cc))
 
 pub lacks_memory : (limits : Option CostLimits) (line : List ℕ) (a : LineAnswer) → IsLineAnswer limits line a
-    → a ≡ Checked (Err (Stored OutOfMemory)) → line_may_lack line ≡ true
+    → a ≡ Checked (Err (Stored OutOfMemory)) → line_may_lack limits line ≡ true
 lacks_memory limits line a (inl is) h = absurd (known limits line (sym is ∙ h))
 lacks_memory limits line a (inr lacks) h = lacks.1
 

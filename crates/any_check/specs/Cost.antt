@@ -23,7 +23,7 @@ use Rattle.any_check.specs.declared.error.AnyError.{AnyError}
 use Rattle.any_check.specs.declared.error.AnyError.TheVariants.{Stored, TooCostly}
 use Rattle.any_check.specs.declared.scheme.AnyScheme.{AnyScheme}
 use Rattle.any_check.specs.declared.scheme.AnyScheme.TheVariants.{Bcrypt, Md5Crypt, Record, Scrypt, ShaCrypt, Yescrypt}
-use Rattle.any_check.specs.Table.{any_verdict, text_scheme}
+use Rattle.any_check.specs.Table.{any_may_lack, any_verdict, text_scheme}
 
 -- ---- records, by their identifier
 
@@ -110,3 +110,9 @@ verdict_within accepted tag limits password stored =
     if nat_lt password_max (length password) then Err (Stored PasswordTooLong)
     else if is_costly accepted limits stored then Err TooCostly
     else any_verdict accepted tag password stored
+
+-- memory may be wanting under a bound: never for a text whose cost is above it
+unfoldable pub within_may_lack : (PasswordHash → List ℕ → ℕ → Bool) → (PasswordHash → Bool)
+    → (List ℕ → PasswordHash → List ℕ → ℕ → List ℕ) → CostLimits → List ℕ → List ℕ → Bool
+within_may_lack accepted needs_memory tag limits password stored =
+    if is_costly accepted limits stored then false else any_may_lack accepted needs_memory tag password stored

@@ -9,5 +9,5 @@ any_state_rules = record {
   reply = λ s line. line_output s.limits line;
   after = λ s line. s;
   is_good = λ s line. line_is_good s.limits line;
-  may_lack_memory = λ s line. line_may_lack line;
+  may_lack_memory = λ s line. line_may_lack s.limits line;
 }

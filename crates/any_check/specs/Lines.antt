@@ -7,7 +7,7 @@ use Rattle.pieces.specs.Characters.{is_tab}
 use Rattle.line_program.specs.Rules.{LineRules, each_line}
 use Rattle.line_io.specs.Limits.{line_max}
 use Rattle.stored_check.specs.declared.error.StoredError.TheVariants.{OutOfMemory}
-use Rattle.any_check.specs.Cost.{verdict_within}
+use Rattle.any_check.specs.Cost.{verdict_within, within_may_lack}
 use Rattle.any_check.specs.Records.{accepted, needs_memory, tag}
 use Rattle.any_check.specs.Table.{any_may_lack, any_verdict}
 use Rattle.any_check.specs.Words.{any_word}
@@ -23,8 +23,9 @@ given_verdict None password stored = any_verdict accepted tag password stored
 given_verdict (Some limits) password stored = verdict_within accepted tag limits password stored
 
 -- where memory may be wanting
-abbrev pub given_may_lack : List ℕ → List ℕ → Bool
-given_may_lack password stored = any_may_lack accepted needs_memory tag password stored
+abbrev pub given_may_lack : Option CostLimits → List ℕ → List ℕ → Bool
+given_may_lack None password stored = any_may_lack accepted needs_memory tag password stored
+given_may_lack (Some limits) password stored = within_may_lack accepted needs_memory tag limits password stored
 
 -- ---- words
 
@@ -62,22 +63,24 @@ line_answer limits line =
     if nat_lt line_max (length line) then TooLong else if is_utf8 line then text_answer limits line else BadLine
 
 -- memory may be wanting for such a line
-abbrev pub text_may_lack : List ℕ → Bool
-text_may_lack text = list_any is_tab text && given_may_lack (before_last is_tab text) (after_last is_tab text)
+abbrev pub text_may_lack : Option CostLimits → List ℕ → Bool
+text_may_lack limits text =
+    list_any is_tab text && given_may_lack limits (before_last is_tab text) (after_last is_tab text)
 
 -- memory may be wanting for a line
-unfoldable pub line_may_lack : List ℕ → Bool
-line_may_lack line = if nat_lt line_max (length line) then false else if is_utf8 line then text_may_lack line else false
+unfoldable pub line_may_lack : Option CostLimits → List ℕ → Bool
+line_may_lack limits line =
+    if nat_lt line_max (length line) then false else if is_utf8 line then text_may_lack limits line else false
 
 -- an answer is that of the text; or want of memory, where that may be
 abbrev pub IsTextAnswer : Option CostLimits → List ℕ → LineAnswer → Type 0
 IsTextAnswer limits text a =
-    (a ≡ text_answer limits text) ⊎ ((a ≡ Checked (Err (Stored OutOfMemory))) × (text_may_lack text ≡ true))
+    (a ≡ text_answer limits text) ⊎ ((a ≡ Checked (Err (Stored OutOfMemory))) × (text_may_lack limits text ≡ true))
 
 -- the same of a line
 abbrev pub IsLineAnswer : Option CostLimits → List ℕ → LineAnswer → Type 0
 IsLineAnswer limits line a =
-    (a ≡ line_answer limits line) ⊎ ((a ≡ Checked (Err (Stored OutOfMemory))) × (line_may_lack line ≡ true))
+    (a ≡ line_answer limits line) ⊎ ((a ≡ Checked (Err (Stored OutOfMemory))) × (line_may_lack limits line ≡ true))
 
 -- ---- what is written for a line: the word and a line feed
 
@@ -90,4 +93,4 @@ line_is_good limits line = is_match (line_answer limits line)
 
 -- the rules of a run
 abbrev pub any_line_rules : Option CostLimits → LineRules
-any_line_rules limits = each_line (line_output limits) (line_is_good limits) line_may_lack
+any_line_rules limits = each_line (line_output limits) (line_is_good limits) (line_may_lack limits)

@@ -2,7 +2,7 @@
 
 ghost use Rattle.std.specs.Prelude.{◌≡◌};
 ghost use Rattle.any_check.specs.Table.{IsAnyVerdict, any_may_lack, any_verdict, of_bcrypt_check, of_legacy, of_scrypt_check, of_stored, of_yescrypt_check};
-ghost use Rattle.any_check.specs.Cost.{verdict_within};
+ghost use Rattle.any_check.specs.Cost.{verdict_within, within_may_lack};
 
 use crate::cost::is_costly;
 use crate::{AnyError, AnyScheme, CostLimits, scheme_of_text};
@@ -121,7 +121,8 @@ pub fn check_any<K: PhcKdf>(
 ///
 /// # Errors
 ///
-/// As `check_any`; `TooCostly` comes behind a password of more than 4,096 bytes and only for a text without a fault.
+/// As `check_any`; `TooCostly` comes behind a password of more than 4,096 bytes and only for a text without a fault, and for
+/// it memory is never wanting.
 pub fn check_any_within<K: PhcKdf>(
     alloc: Global,
     kdf: &K,
@@ -132,7 +133,7 @@ pub fn check_any_within<K: PhcKdf>(
 ) -> Result<bool, AnyError>
     ensures verdict { IsAnyVerdict
         (verdict_within (K.accepted kdf.now) (K.tag kdf.now) limits.now password.now stored.now)
-        (any_may_lack (K.accepted kdf.now) (K.needs_memory kdf.now) (K.tag kdf.now) password.now stored.now)
+        (within_may_lack (K.accepted kdf.now) (K.needs_memory kdf.now) (K.tag kdf.now) limits.now password.now stored.now)
         result }
 {
     if password.len() > PASSWORD_MAX {

@@ -33,8 +33,8 @@ pub enum LineAnswer {
 }
 
 impl LineAnswer {
-    // The word.
-    fn word(&self) -> &'static str
+    /// The word. Want of memory has none.
+    pub fn word(&self) -> &'static str
         requires known { self.now ≢ LineAnswer.Checked (Err (AnyError.Stored OutOfMemory)) }
         ensures word { result.now ≡ answer_word self.now }
     {
@@ -45,15 +45,15 @@ impl LineAnswer {
         }
     }
 
-    // Whether this is a match.
-    fn is_match(&self) -> bool
+    /// Whether this is a match.
+    pub fn is_match(&self) -> bool
         ensures matches { result ≡ is_match self.now }
     {
         matches!(self, LineAnswer::Checked(Ok(true)))
     }
 
-    // Whether this is a match or a mismatch.
-    fn has_verdict(&self) -> bool
+    /// Whether this is a match or a mismatch.
+    pub fn has_verdict(&self) -> bool
         ensures verdict { result ≡ has_verdict self.now }
     {
         matches!(self, LineAnswer::Checked(Ok(_)))
@@ -101,7 +101,7 @@ fn check_given(
     requires first { kdf.now.first ≡ codes "scrypt" }
     requires second { kdf.now.b.first ≡ codes "pbkdf2-sha256" }
     ensures verdict { IsAnyVerdict (given_verdict limits.now password.now stored.now)
-        (given_may_lack password.now stored.now) result }
+        (given_may_lack limits.now password.now stored.now) result }
 {
     match limits {
         None => check_any(alloc, kdf, kept, password, stored),
@@ -121,6 +121,37 @@ pub struct AnyLines {
 }
 
 impl AnyLines {
+    /// Lines under a bound on cost, or under none. No table is kept yet.
+    pub fn new(alloc: Global, limits: Option<CostLimits>) -> AnyLines
+        ensures limits { result.limits ≡ limits }
+    {
+        AnyLines {
+            alloc,
+            limits,
+            kdf: record_kdf(alloc),
+            kept: CryptKept::new(alloc),
+        }
+    }
+
+    /// The answer for a password and a stored text; none where memory is wanting.
+    pub fn known_verdict(&self, password: &str, stored: &str) -> Option<Result<bool, AnyError>>
+        ensures answered { MatchOption result (given_may_lack self.now.limits password.now stored.now ≡ true)
+            (λ a. (a ≢ Err (AnyError.Stored OutOfMemory)) × (a ≡ given_verdict self.now.limits password.now stored.now)) }
+    {
+        let answer = check_given(
+            self.alloc,
+            &self.kdf,
+            &self.kept,
+            &self.limits,
+            password,
+            stored,
+        );
+        if answer == Err(AnyError::Stored(StoredError::OutOfMemory)) {
+            return None;
+        }
+        Some(answer)
+    }
+
     fn answer_to_text(&self, text: &str) -> LineAnswer
         ensures answer { IsTextAnswer self.now.limits text.now result }
     {
@@ -150,9 +181,9 @@ impl AnyLines {
         }
     }
 
-    // The answer of a line; none where memory is wanting.
-    fn known_answer(&self, line: &[u8]) -> Option<LineAnswer>
-        ensures answered { MatchOption result (line_may_lack line.now ≡ true)
+    /// The answer of a line; none where memory is wanting.
+    pub fn known_answer(&self, line: &[u8]) -> Option<LineAnswer>
+        ensures answered { MatchOption result (line_may_lack self.now.limits line.now ≡ true)
             (λ a. (a ≢ LineAnswer.Checked (Err (AnyError.Stored OutOfMemory))) × (a ≡ line_answer self.now.limits line.now)) }
     {
         let answer = self.answer_to(line);
@@ -213,11 +244,6 @@ pub fn run_any<S: Source, K: Sink>(
     ensures outcome { WhereTold (S.left source.old) (S.left source.new) (K.written sink.old) (K.written sink.new)
         (λ held taken added. Outcome (any_line_rules limits) result max held taken added) }
 {
-    let mut lines = AnyLines {
-        alloc,
-        limits,
-        kdf: record_kdf(alloc),
-        kept: CryptKept::new(alloc),
-    };
+    let mut lines = AnyLines::new(alloc, limits);
     run_lines(&mut lines, source, sink, max)
 }

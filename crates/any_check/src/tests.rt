@@ -402,3 +402,52 @@ fn long_lines(rt: HostRuntime) {
     );
     assert_eq!(rt; sink.bytes(), b"toolong\n".as_slice());
 }
+
+// Valid texts of which each digest takes a second and more.
+const DEAR: [&str; 7] = [
+    "$5$rounds=999999999$abcdefgh$gruCpC7VkOTspMQTTSAR8mtlO9Upms.fwqE5y16JVM.",
+    "$2b$31$abcdefghijklmnopqrstuu2r9OfJnfCsdneAXAGHnS4UpFFP8WIrW",
+    "$y$jFT$0123456789ab$kb1fsIrDP1wOa4Q3gNpxZkfwQ3ce8kmPbnemuN65IT2",
+    "$7$EU..../....SodiumChloride$V4S.p0ArbLXh9bvI9g1ReO/qmFMyvEX4e98XynaDdN9",
+    "$scrypt$ln=17,r=8,p=1024$c2FsdHNhbHRzYWx0$09/untC+3Bg44eiJQ8bqhTXgE2ali+ykLaojkJZlF9U",
+    "$pbkdf2-sha256$i=10000000,l=32$c2FsdHNhbHRzYWx0$sVaWem31qy3rw+Ldi3plA/XzhMSNi9/XHnnD1Ytj05o",
+    "$argon2id$v=19$m=2097152,t=1,p=1$c2FsdHNhbHRzYWx0$Sm3MnLdCFk0Af+croKgebRoqqmhbKd88iiW3yUOXn78",
+];
+
+// A thousand digests of such a text take more time than a test has.
+#[test]
+fn nothing_is_hashed(rt: HostRuntime) {
+    let kdf = record_kdf(rt.alloc());
+    let kept = CryptKept::new(rt.alloc());
+    for stored in DEAR {
+        for _ in 0..1_000 {
+            let answer = check_any_within(rt.alloc(), &kdf, &kept, &least(), "secret", stored);
+            assert_eq!(rt; answer, Err(AnyError::TooCostly), "{stored}");
+        }
+    }
+}
+
+// A line with a verdict is written at once: the second write comes behind it. Other words wait.
+#[test]
+fn written_behind_a_verdict(rt: HostRuntime) {
+    let checked = b"secret\t$1$abcdefgh$cHJi5PXp/ki/ktXzqlk6I1\n\
+        Secret\t$1$abcdefgh$cHJi5PXp/ki/ktXzqlk6I1\n"
+        .as_slice();
+    let one = b"x\nsecret\t$1$abcdefgh$cHJi5PXp/ki/ktXzqlk6I1\nx\n".as_slice();
+    let others = b"x\na\t*\n".as_slice();
+    let rows: [(&[u8], &[u64], &[u8], u8); 5] = [
+        (checked, &[], b"match\nmismatch\n", 1),
+        (checked, &[1], b"match\n", 4),
+        (one, &[1], b"badline\nmatch\n", 4),
+        (others, &[1], b"badline\nno-scheme\n", 1),
+        (others, &[0], b"", 4),
+    ];
+    for (input, failing, output, status) in rows {
+        let mut room = [0; 32];
+        let mut source = MemorySource::new(input, 1_000, &[]);
+        let mut sink = MemorySink::new(&mut room, 1_000, failing);
+        let got = run_any(rt.alloc(), None, &mut source, &mut sink, 1_000);
+        assert_eq!(rt; got, status, "{output:?}");
+        assert_eq!(rt; sink.bytes(), output);
+    }
+}
