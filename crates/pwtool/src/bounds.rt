@@ -28,7 +28,7 @@ fn number(matches: &ArgMatches<'_>, option: &str, most: u32) -> u32 {
 pub fn bound_of(matches: &ArgMatches<'_>) -> Option<CostLimits> {
     let own = &SCHEMES_OWN;
     let limits = CostLimits {
-        sha_rounds: number(matches, "max-sha-rounds", 999_999_999) as usize,
+        sha_rounds: number(matches, "max-sha-rounds", own.sha_rounds as u32) as usize,
         bcrypt_cost: number(matches, "max-bcrypt-cost", own.bcrypt_cost),
         yescrypt_ln: number(matches, "max-yescrypt-ln", own.yescrypt_ln),
         yescrypt_r: number(matches, "max-yescrypt-r", own.yescrypt_r),
