@@ -1,0 +1,3 @@
+mod OfUsers
+mod OfJoins
+mod TwoFiles
