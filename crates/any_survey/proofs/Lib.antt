@@ -1,0 +1,4 @@
+mod Judging
+mod McfTexts
+mod Putting
+mod Surveying

@@ -1,0 +1,4 @@
+pub mod Costs
+pub mod Judgements
+pub mod Rows
+pub mod Rules
