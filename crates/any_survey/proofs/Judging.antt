@@ -3,7 +3,8 @@ use Rattle.std.proofs.Common.{◌≡◌, ℕ, List, length, true, false, refl}
 use Rattle.std.specs.Prelude.{◌==◌}
 use Rattle.std.specs.Str.{is_utf8}
 use Rattle.any_survey.specs.Costs.{text_kind}
-use Rattle.any_survey.specs.Judgements.{is_locked, judged, judged_kind}
+use Rattle.user_lines.specs.Fields.{is_locked}
+use Rattle.any_survey.specs.Judgements.{judged, judged_kind}
 use Rattle.any_survey.specs.declared.judgement.Judgement.TheVariants.{Invalid}
 use Rattle.any_survey.specs.declared.judgement.LeastCosts.{LeastCosts}
 

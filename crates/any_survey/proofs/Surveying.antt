@@ -2,7 +2,7 @@
 use Rattle.std.proofs.Common.{◌≡◌, ℕ, true, false, List, [], length, refl, ap}
 use Rattle.std.specs.Prelude.{◌&&◌, nat_lt}
 use Rattle.std.specs.Str.{is_utf8}
-use Rattle.user_lines.specs.Fields.{first_field, has_user, rest_of, user_of}
+use Rattle.user_lines.specs.Fields.{has_user, text_of_line, user_of}
 use Rattle.any_survey.specs.Judgements.{judged}
 use Rattle.any_survey.specs.Rows.{line_row, row_text, surveyed, surveyed_line}
 use Rattle.any_survey.specs.declared.judgement.Judgement.{Judgement}
@@ -12,7 +12,7 @@ use Rattle.any_survey.specs.declared.rows.Format.{Format}
 
 module _ (least : LeastCosts) (line : List ℕ) where
   pub of_user : has_user line ≡ true → is_utf8 (user_of line) ≡ true
-      → surveyed least line ≡ (user_of line, judged least (first_field (rest_of line)))
+      → surveyed least line ≡ (user_of line, judged least (text_of_line line))
   of_user user utf8 = rw (user, utf8) refl
 
   pub of_bytes : has_user line ≡ true → is_utf8 (user_of line) ≡ false → surveyed least line ≡ ([], BadLine)

@@ -1,7 +1,8 @@
 -- The judgement on a stored text, and what is written of it.
-use Rattle.std.specs.Prelude.{ℕ, Bool, true, false, ◌+◌, ◌*◌, ◌||◌, ◌==◌, List, [], ◌∷◌, ◌++◌, length, nat_lt, codes, decimal}
+use Rattle.std.specs.Prelude.{ℕ, Bool, true, false, ◌==◌, List, [], ◌∷◌, ◌++◌, length, nat_lt, codes, decimal}
 use Rattle.std.specs.Prelude.{if◌then◌else◌}
 use Rattle.std.specs.Str.{is_utf8}
+use Rattle.user_lines.specs.Fields.{is_locked}
 use Rattle.any_survey.specs.Costs.{scheme_name, text_kind}
 use Rattle.any_survey.specs.declared.costs.Scheme.{Scheme}
 use Rattle.any_survey.specs.declared.costs.Scheme.TheVariants.{Md5Crypt, Sha256Crypt, Sha512Crypt, Bcrypt, Yescrypt}
@@ -12,11 +13,6 @@ use Rattle.any_survey.specs.declared.costs.TextKind.TheVariants as of
 use Rattle.any_survey.specs.declared.judgement.Judgement.{Judgement}
 use Rattle.any_survey.specs.declared.judgement.Judgement.TheVariants.{BadLine, Empty, Invalid, Locked, NoScheme, Strong, TooLong, Weak}
 use Rattle.any_survey.specs.declared.judgement.LeastCosts.{LeastCosts}
-
--- what begins with `*` or `!` is no password's text: the account is locked (shadow(5))
-abbrev pub is_locked : List ℕ → Bool
-is_locked [] = false
-is_locked (b ∷ text) = (b == 42) || (b == 33)
 
 -- ---- strong or weak
 

@@ -5,7 +5,7 @@ use Rattle.std.specs.List.{flat_map}
 use Rattle.std.specs.Str.{is_utf8}
 use Rattle.line_io.specs.Limits.{line_max}
 use Rattle.pieces.specs.FaultCounts.{one_more}
-use Rattle.user_lines.specs.Fields.{first_field, has_user, rest_of, user_of}
+use Rattle.user_lines.specs.Fields.{has_user, text_of_line, user_of}
 use Rattle.any_survey.specs.Judgements.{cost_cell, judged, judgement_cell, scheme_cell}
 use Rattle.any_survey.specs.declared.costs.Scheme.{Scheme}
 use Rattle.any_survey.specs.declared.costs.Scheme.TheVariants.{Md5Crypt, Sha256Crypt, Sha512Crypt, Bcrypt, Yescrypt}
@@ -60,7 +60,7 @@ row_text Json user j = json_row user j
 -- its user and the judgement on its text, the second field (shadow(5)); the user of a line without one is empty
 abbrev pub surveyed : LeastCosts → List ℕ → List ℕ × Judgement
 surveyed least line =
-    if has_user line && is_utf8 (user_of line) then (user_of line, judged least (first_field (rest_of line)))
+    if has_user line && is_utf8 (user_of line) then (user_of line, judged least (text_of_line line))
     else ([], BadLine)
 
 -- the same of a line of any length

@@ -1,11 +1,12 @@
 //! The judgement on a stored text.
 
 ghost use Rattle.std.specs.Prelude.{◌≡◌, ◌+◌, ◌≤◌, ◌++◌, codes, decimal, length};
-ghost use Rattle.any_survey.specs.Judgements.{cost_cell, is_locked, judged, judged_costs, judged_kind, judgement_cell, least_of, one, scheme_cell, scheme_costs, three, weakness};
+ghost use Rattle.any_survey.specs.Judgements.{cost_cell, judged, judged_costs, judged_kind, judgement_cell, least_of, one, scheme_cell, scheme_costs, three, weakness};
 
 use crate::costs::{Scheme, TextCosts, TextKind, text_kind};
 use pieces::short_bytes::ShortBytes;
 use pieces::text::text_of;
+use user_lines::is_locked;
 
 /// The least costs that aren't weak, scheme by scheme.
 #[derive(Clone, Copy, Debug, PartialEq, Eq)]
@@ -47,15 +48,6 @@ pub enum Judgement {
 
 /// What a cell of a row holds: the costs, or the judgement.
 pub(crate) type Cell = ShortBytes<96>;
-
-fn is_locked(text: &[u8]) -> bool
-    ensures { result ≡ is_locked text.now }
-{
-    match text.first() {
-        Some(b) => *b == b'*' || *b == b'!',
-        None => false,
-    }
-}
 
 fn least_of(least: &LeastCosts, scheme: Scheme) -> u64
     ensures { result ≡ least_of least.now scheme }

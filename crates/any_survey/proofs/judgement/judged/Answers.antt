@@ -3,7 +3,8 @@ use Rattle.std.specs.Prelude.{◌==◌}
 use Rattle.std.proofs.lemmas.Str.{is_utf8-from_IsUtf8}
 use Rattle.line_program.proofs.LastTab.{not_text}
 use Rattle.any_survey.specs.Costs.{text_kind}
-use Rattle.any_survey.specs.Judgements.{is_locked, judged_kind}
+use Rattle.user_lines.specs.Fields.{is_locked}
+use Rattle.any_survey.specs.Judgements.{judged_kind}
 use Rattle.any_survey.proofs.Judging.{of_other, of_text}
 use Rattle.any_survey.proofs.judgement.judged.Goals as goal
 
