@@ -75,7 +75,7 @@ fn each_user_by_the_last_password(rt: HostRuntime) -> Result<(), Fail> {
         assert_eq!(rt; end, JoinEnd::Texts(1));
         assert!(rt; sink.bytes().starts_with(WORDS));
         assert!(rt; sink.bytes().ends_with(last));
-        assert_eq!(rt; sink.bytes().len(), WORDS.len() + last.len());
+        assert_eq!(rt; sink.bytes().len(), WORDS.len().saturating_add(last.len()));
     }
     Ok(())
 }
