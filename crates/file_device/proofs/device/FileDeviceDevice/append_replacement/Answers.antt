@@ -1,0 +1,21 @@
+use Rattle.std.proofs.Common.{refl}
+use Rattle.file_device.proofs.Steps.{added_to, cause, count, left_as_before, on_ok, seen_as_before, time}
+use Rattle.file_device.proofs.device.FileDeviceDevice.append_replacement.Goals as goal
+
+pub returns-clause-appended : goal.returns-clause-appended
+returns-clause-appended c = on_ok c.note.result _ c.note.ensures.result (added_to c.note.new.self.record.calls c.args.self.now.record.calls _ 0 c.args.bytes.now c.note.ensures.call)
+
+pub returns-clause-seen : goal.returns-clause-seen
+returns-clause-seen c = seen_as_before c.note.new.self.record.calls c.args.self.now.record.calls _ c.note.ensures.call refl
+
+pub returns-clause-crash : goal.returns-clause-crash
+returns-clause-crash c = left_as_before c.note.new.self.record.calls c.args.self.now.record.calls _ c.note.ensures.call (λ x left. left)
+
+pub returns-clause-time : goal.returns-clause-time
+returns-clause-time c = time c.note.new.self.record.calls c.args.self.now.record.calls _ c.note.ensures.call
+
+pub returns-clause-count : goal.returns-clause-count
+returns-clause-count c = count c.note.new.self.record.calls c.args.self.now.record.calls _ c.note.ensures.call
+
+pub returns-clause-cause : goal.returns-clause-cause
+returns-clause-cause c = cause c.note.new.self.record.calls c.args.self.now.record.calls _ c.note.ensures.call c.note.result _ c.note.ensures.result refl

@@ -1,0 +1,16 @@
+//! A device of `line_log` over a file of the system: locked against a second process, written by place, synced, and replaced
+//! by a new file beside it.
+#![tactic(auto)]
+
+mod device;
+mod locking;
+mod opening;
+mod record;
+mod replacing;
+
+pub use device::FileDevice;
+pub use opening::{OpenFault, Opened, open};
+pub use record::Record;
+
+#[cfg(test)]
+mod tests;

@@ -1,0 +1,163 @@
+//! How a file is opened: found by its name, locked, synced and read.
+
+ghost use Rattle.std.specs.Prelude.{◌≡◌, IfOk};
+ghost use Rattle.file_device.specs.Calls.{seen};
+
+use crate::device::{FileDevice, OPENED, Place};
+use crate::locking::{Holder, is_named, lock};
+use crate::record::Record;
+use std::alloc::AllocError;
+use std::fs::{self, File, OpenOptions};
+use std::io;
+use std::os::fd::AsRawFd;
+use std::os::unix::fs::{FileExt, MetadataExt};
+use std::path::Path;
+
+/// How often a file is opened anew that was replaced between its opening and its locking.
+const MOST_TRIES: u32 = 64;
+
+/// The most bytes of a file that is read: those that a run writes at most, and a group behind them.
+const LENGTH_MAX: u64 = (1 << 28) + (1 << 15);
+
+/// The rights of the group and of all others, in a mode.
+const OF_OTHERS: u32 = 0o077;
+
+/// Why a file isn't opened.
+#[derive(Clone, Copy, Debug)]
+pub enum OpenFault {
+    /// Another process has it open.
+    InUse,
+    /// What has the name isn't a file, but a folder, a link or the like.
+    NotAFile,
+    /// It has more bytes than a run can have written.
+    TooLong,
+    /// Standard input, output or error is closed, so that the file would take its place.
+    NoStandardStream,
+    /// The system refused a call.
+    Io(io::Error),
+    /// Memory is wanting.
+    OutOfMemory,
+}
+
+impl From<io::Error> for OpenFault {
+    fn from(error: io::Error) -> OpenFault {
+        OpenFault::Io(error)
+    }
+}
+
+impl From<AllocError> for OpenFault {
+    fn from(_error: AllocError) -> OpenFault {
+        OpenFault::OutOfMemory
+    }
+}
+
+/// A file that was opened, with its bytes.
+#[derive(Drop)]
+pub struct Opened<'a> {
+    pub device: FileDevice<'a>,
+    pub bytes: Vec<u8>,
+    /// Whether there is a file at the name. One that isn't there has no bytes.
+    pub is_there: bool,
+    /// Whether others than its owner may read or write it.
+    pub is_shared: bool,
+}
+
+// The names of a file and of the one that is to replace it, and their folder.
+fn place_of(rt: &HostRuntime, name: &str) -> Result<Place, OpenFault> {
+    let folder = match Path::new(name).parent() {
+        Some(folder) if !folder.as_str().is_empty() => folder.as_str(),
+        _ => ".",
+    };
+    let folder = fs::open(rt, folder)?;
+    let mut new_name = String::from_str(rt.alloc(), name)?;
+    new_name.push_str(".new")?;
+    Ok(Place {
+        name: String::from_str(rt.alloc(), name)?,
+        new_name,
+        folder,
+    })
+}
+
+// Opens and locks the file, where there is one.
+fn open_once(rt: &HostRuntime, name: &str) -> Result<Option<File>, OpenFault> {
+    match fs::symlink_metadata(rt, name) {
+        Ok(found) if found.is_file() => {}
+        Ok(_) => return Err(OpenFault::NotAFile),
+        Err(error) if error.kind() == io::ErrorKind::NotFound => return Ok(None),
+        Err(error) => return Err(error.into()),
+    }
+    let file = OpenOptions::new().read(true).write(true).open(rt, name)?;
+    if file.as_raw_fd() < 3 {
+        return Err(OpenFault::NoStandardStream);
+    }
+    match lock(&file)? {
+        Holder::Own => Ok(Some(file)),
+        Holder::Other => Err(OpenFault::InUse),
+    }
+}
+
+// Opens and locks the file that has the name, where there is one. One that was replaced meanwhile is opened anew.
+fn open_locked(rt: &HostRuntime, name: &str) -> Result<Option<File>, OpenFault> {
+    for _ in 0..MOST_TRIES {
+        match open_once(rt, name)? {
+            None => return Ok(None),
+            Some(file) => {
+                if is_named(rt, &file, name)? {
+                    return Ok(Some(file));
+                }
+            }
+        }
+    }
+    Err(OpenFault::InUse)
+}
+
+// The bytes of a file, as the disk has them: it is synced first, and the kernel's copies are given back.
+fn read_synced(rt: &HostRuntime, file: &File, folder: &File) -> Result<Vec<u8>, OpenFault> {
+    file.sync_all()?;
+    let advised = libc::posix_fadvise(file.as_raw_fd(), 0, 0, libc::POSIX_FADV_DONTNEED);
+    if advised != 0 {
+        return Err(io::Error::from_raw_os_error(advised).into());
+    }
+    folder.sync_all()?;
+    let length = file.metadata()?.len();
+    if length > LENGTH_MAX {
+        return Err(OpenFault::TooLong);
+    }
+    let mut bytes = Vec::from_elem(rt.alloc(), 0, length as usize)?;
+    file.read_exact_at(bytes.as_mut_slice(), 0)?;
+    Ok(bytes)
+}
+
+// Whether others than its owner may read or write the file.
+fn is_shared(file: &File) -> io::Result<bool> {
+    Ok(file.metadata()?.mode() & OF_OTHERS != 0)
+}
+
+/// Opens the file of a name as a device, and reads it. It waits for no other process.
+///
+/// A file that isn't there is none: its device has no bytes, and a replacement makes it.
+pub fn open<'a>(rt: &'a HostRuntime, name: &str) -> Result<Opened<'a>, OpenFault>
+    ensures bytes { IfOk result (λ opened. opened.bytes.items ≡ seen opened.device.record.calls) }
+{
+    let place = place_of(rt, name)?;
+    let file = open_locked(rt, name)?;
+    let (bytes, shared) = match &file {
+        Some(file) => (read_synced(rt, file, &place.folder)?, is_shared(file)?),
+        None => (Vec::new(rt.alloc()), false),
+    };
+    let record = Record::noted(&Record::new(), &[OPENED, 1, 0], bytes.as_slice());
+    Ok(Opened {
+        is_there: file.is_some(),
+        is_shared: shared,
+        device: FileDevice {
+            rt,
+            place,
+            file,
+            replacement: None,
+            is_renamed: false,
+            cause: None,
+            record,
+        },
+        bytes,
+    })
+}
