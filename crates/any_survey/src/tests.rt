@@ -2,6 +2,7 @@
 
 use crate::{Format, Judgement, LeastCosts, SurveyLines, judged, run_survey};
 use line_io::{MemorySink, MemorySource};
+use std::test::Fail;
 
 const LEAST: LeastCosts = LeastCosts {
     sha_rounds: 5_000,
@@ -88,37 +89,20 @@ const ROWS: [(&str, &str); 23] = [
 ];
 
 #[test]
-fn a_row_for_each_text(rt: HostRuntime) {
+fn a_row_for_each_text(rt: HostRuntime) -> Result<(), Fail> {
     for (text, row) in ROWS {
-        let mut input = [0; 256];
-        let mut len = 0;
-        for part in [b"ann:".as_slice(), text.as_bytes(), b":19000:0\n"] {
-            for b in part {
-                if len < 256 {
-                    input[len] = *b;
-                    len += 1;
-                }
-            }
-        }
-        let mut wanted = [0; 64];
-        let mut end = 0;
-        for part in [b"ann\t".as_slice(), row.as_bytes(), b"\n\n"] {
-            for b in part {
-                if end < 64 {
-                    wanted[end] = *b;
-                    end += 1;
-                }
-            }
-        }
+        let input = format!(in rt.alloc(); "ann:{text}:19000:0\n")?;
+        let wanted = format!(in rt.alloc(); "ann\t{row}\n\n")?;
         let mut room = [0; 256];
         let mut sink = MemorySink::new(&mut room, 64, &[]);
-        let mut source = MemorySource::new(&input[..len], 64, &[]);
+        let mut source = MemorySource::new(input.as_bytes(), 64, &[]);
         let mut lines = SurveyLines::new(LEAST, Format::Tabs);
         let status = run_survey(&mut lines, &mut source, &mut sink, 1 << 20);
-        assert!(rt; sink.bytes().starts_with(&wanted[..end]), "{text}");
+        assert!(rt; sink.bytes().starts_with(wanted.as_bytes()), "{text}");
         let good = row.ends_with("ok") || row.ends_with("locked");
         assert_eq!(rt; status, u8::from(!good), "{text}");
     }
+    Ok(())
 }
 
 const LINES: &[u8] =

@@ -1,6 +1,7 @@
 //! The bound on cost that the command line gives.
 
 use any_check::CostLimits;
+use any_survey::LeastCosts;
 use clap::ArgMatches;
 
 /// The most that each scheme takes: no valid text is above it.
@@ -45,4 +46,34 @@ pub fn bound_of(matches: &ArgMatches<'_>) -> Option<CostLimits> {
         return None;
     }
     Some(limits)
+}
+
+/// The least costs that aren't weak, where the command line gives none.
+const LEAST: LeastCosts = LeastCosts {
+    sha_rounds: 5_000,
+    bcrypt_cost: 10,
+    yescrypt_ln: 12,
+    scrypt_ln: 14,
+    pbkdf2_rounds: 600_000,
+    argon2_memory: 19_456,
+};
+
+// The number of an option, or this one.
+fn least(matches: &ArgMatches<'_>, option: &str, number: u64) -> u64 {
+    match matches.get_one::<u32>(option) {
+        Some(n) => n as u64,
+        None => number,
+    }
+}
+
+/// The least costs that aren't weak, as the command line gives them.
+pub fn least_of(matches: &ArgMatches<'_>) -> LeastCosts {
+    LeastCosts {
+        sha_rounds: least(matches, "least-sha-rounds", LEAST.sha_rounds),
+        bcrypt_cost: least(matches, "least-bcrypt-cost", LEAST.bcrypt_cost),
+        yescrypt_ln: least(matches, "least-yescrypt-ln", LEAST.yescrypt_ln),
+        scrypt_ln: least(matches, "least-scrypt-ln", LEAST.scrypt_ln),
+        pbkdf2_rounds: least(matches, "least-pbkdf2-rounds", LEAST.pbkdf2_rounds),
+        argon2_memory: least(matches, "least-argon2-memory", LEAST.argon2_memory),
+    }
 }

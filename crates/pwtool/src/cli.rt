@@ -15,7 +15,7 @@ Statuses:
    8  a word of the command line isn't UTF-8
   64  the words of the command line are no form of the program
   66  the file can't be opened
-'pwtool check --help', 'pwtool join --help' and pwtool(1) tell more.";
+'pwtool check --help', 'pwtool join --help', 'pwtool survey --help' and pwtool(1) tell more.";
 
 /// What stands behind the options in the help of `check`.
 const LINES: &str = "\
@@ -36,6 +36,16 @@ word: match, mismatch, empty, locked (the text begins with * or !), no-password 
 line of the user), or a word of 'pwtool check'. One of the two files may be -, standard input.
 All of PASSWORDS is kept in memory. Status 0 is for matches alone, 1 for some other word;
 pwtool --help has the rest.";
+
+/// What stands behind the options in the help of `survey`.
+const TEXTS: &str = "\
+A line is a user, a colon and a stored text, which ends at the next colon: a line of a shadow or
+htpasswd file as it is. No password is asked for, and nothing is hashed. A row is the user, the
+scheme, its costs and a judgement, with tabs between them: ok, weak (with what is weak), locked
+(the text begins with * or !), empty, no scheme (none has the text), invalid (it has a fault),
+badline (no user) or toolong. Behind the rows stands how many there are of each. md5-crypt is weak
+in any case. Status 0 is for accounts that are ok or locked, 1 for some other; pwtool --help has
+the rest.";
 
 // What an option bounds: its name, its help, its least and its most.
 #[derive(Drop)]
@@ -103,6 +113,18 @@ fn argument<'a>(alloc: Global, option: &CostOption) -> Arg<'a> {
         .help(option.help)
 }
 
+// The least costs that aren't weak.
+fn least_costs() -> [(&'static str, &'static str); 6] {
+    [
+        ("least-sha-rounds", "SHA-crypt: rounds (5000)"),
+        ("least-bcrypt-cost", "bcrypt: cost (10)"),
+        ("least-yescrypt-ln", "yescrypt: log2 of N (12)"),
+        ("least-scrypt-ln", "scrypt: ln, and log2 of N of $7$ (14)"),
+        ("least-pbkdf2-rounds", "PBKDF2: i (600000)"),
+        ("least-argon2-memory", "Argon2: m in KiB (19456)"),
+    ]
+}
+
 // A form with the options that bound costs.
 fn with_costs<'a>(alloc: Global, command: Command<'a>) -> Result<Command<'a>, AllocError> {
     let mut command = command;
@@ -143,6 +165,35 @@ fn join<'a>(alloc: Global) -> Result<Command<'a>, AllocError> {
     with_costs(alloc, command)
 }
 
+// The form `survey`.
+fn survey<'a>(alloc: Global) -> Result<Command<'a>, AllocError> {
+    let file = Arg::new(alloc, "FILE").help("The file; standard input where it is left out or -");
+    let csv = Arg::new(alloc, "csv")
+        .long("csv")
+        .action(ArgAction::SetTrue)
+        .help("Write four fields of CSV a line, and no counts");
+    let json = Arg::new(alloc, "json")
+        .long("json")
+        .action(ArgAction::SetTrue)
+        .help("Write an object of JSON a line, and no counts");
+    let mut command = Command::new(alloc, "survey")
+        .about("Tell the scheme and the cost of each user's stored text, and whether it is weak")
+        .after_help(TEXTS)
+        .arg(file)?
+        .arg(csv)?
+        .arg(json)?;
+    for (name, help) in least_costs() {
+        let option = Arg::new(alloc, name)
+            .long(name)
+            .value_name("N")
+            .value_parser(value_parser!(u32))
+            .help_heading("The least that isn't weak (left out: the number that stands behind)")
+            .help(help);
+        command = command.arg(option)?;
+    }
+    Ok(command)
+}
+
 /// The program's command line.
 pub fn command<'a>(alloc: Global) -> Result<Command<'a>, AllocError> {
     Command::new(alloc, "pwtool")
@@ -153,5 +204,6 @@ pub fn command<'a>(alloc: Global) -> Result<Command<'a>, AllocError> {
         .disable_help_subcommand(true)
         .after_help(STATUSES)
         .subcommand(check(alloc)?)?
-        .subcommand(join(alloc)?)
+        .subcommand(join(alloc)?)?
+        .subcommand(survey(alloc)?)
 }

@@ -2,12 +2,14 @@
 
 ghost use Rattle.std.specs.Prelude.{◌≡◌, ◌≢◌, ◌≤◌};
 
-use crate::bounds::bound_of;
+use crate::bounds::{bound_of, least_of};
 use crate::check::{check_lines, check_users};
 use crate::fault::{say, say_at};
 use crate::join::join_files;
 use crate::status::{BAD_WORDS, NO_FILE};
+use crate::survey::survey_lines;
 use any_check::CostLimits;
+use any_survey::{Format, SurveyLines};
 use any_users::JoinEnd;
 use clap::ArgMatches;
 use line_io::{StdSink, StdSource};
@@ -147,6 +149,38 @@ pub fn run_join(rt: &HostRuntime, matches: &ArgMatches<'_>) -> u8 {
     }
     match opened(rt, names.passwords) {
         Some(passwords) => join(rt, &names, limits, passwords, texts),
+        None => NO_FILE,
+    }
+}
+
+// Surveys all lines that a reader gives on standard output.
+fn survey<R: Read + Drop>(rt: &HostRuntime, lines: SurveyLines, reader: R) -> u8
+    ensures status { (result ≤ 6) × (result ≢ 2) }
+{
+    let mut lines = lines;
+    let mut source = StdSource::new(reader);
+    let mut sink = StdSink::new(io::writer(rt));
+    survey_lines(&mut lines, &mut source, &mut sink)
+}
+
+/// Surveys the lines of the file that is named, or of standard input, and gives the status.
+pub fn run_survey(rt: &HostRuntime, matches: &ArgMatches<'_>) -> u8 {
+    let format = match (matches.get_flag("csv"), matches.get_flag("json")) {
+        (true, true) => {
+            say(rt, "--csv and --json exclude each other");
+            return BAD_WORDS;
+        }
+        (true, false) => Format::Csv,
+        (false, true) => Format::Json,
+        (false, false) => Format::Tabs,
+    };
+    let lines = SurveyLines::new(least_of(matches), format);
+    let name = matches.get_str("FILE").unwrap_or("-");
+    if name == "-" {
+        return told(rt, name, survey(rt, lines, rt.reader()));
+    }
+    match opened(rt, name) {
+        Some(file) => told(rt, name, survey(rt, lines, file)),
         None => NO_FILE,
     }
 }

@@ -1,8 +1,10 @@
 //! `pwtool check [FILE]`: answers each line of a password file, a password, a tab and a stored text, with one word,
 //! where every scheme of `any_check` has a verdict; with `--users` each line begins with a user, who is kept.
 //! `pwtool join TEXTS PASSWORDS`: answers each user of a shadow or htpasswd file by the user's password in another file.
+//! `pwtool survey [FILE]`: tells the scheme and the cost of each user's stored text, and whether it is weak.
 //!
-//! A file is standard input where it is `-`, and each answer goes to standard output with a line feed. Errors are one line on standard error. The status says how the run ended.
+//! A file is standard input where it is `-`, and each answer goes to standard output with a line feed. Errors are one line on
+//! standard error. The status says how the run ended.
 #![tactic(auto)]
 
 mod bounds;
@@ -12,10 +14,11 @@ mod fault;
 mod form;
 mod join;
 mod status;
+mod survey;
 
 use crate::cli::command;
 use crate::fault::{say, say_refused};
-use crate::form::{run_check, run_join};
+use crate::form::{run_check, run_join, run_survey};
 use crate::status::BAD_WORDS;
 pub use check::{check_lines, check_users};
 use clap::ArgMatches;
@@ -24,6 +27,7 @@ pub use join::join_files;
 use line_program::status::{ALL_GOOD, NO_MEMORY, NO_WORDS, WRITE_FAULT};
 use std::process::ExitCode;
 use std::{env, io};
+pub use survey::survey_lines;
 
 // The words of the command line, or the status.
 fn words(rt: &HostRuntime) -> Result<Vec<String>, u8> {
@@ -52,6 +56,7 @@ fn no_memory(rt: &HostRuntime) -> u8 {
 fn run_form(rt: &HostRuntime, matches: &ArgMatches<'_>) -> u8 {
     match matches.subcommand() {
         Some(("join", matches)) => run_join(rt, matches),
+        Some(("survey", matches)) => run_survey(rt, matches),
         Some((_, matches)) => run_check(rt, matches),
         None => {
             say(rt, "no form is named");
