@@ -5,8 +5,10 @@ ghost use Rattle.line_io.specs.Devices.{WhereTold};
 ghost use Rattle.pieces.specs.FaultCounts.{HasRisen};
 ghost use Rattle.line_program.specs.Outcome.{Outcome};
 ghost use Rattle.any_check.specs.Lines.{any_line_rules};
+ghost use Rattle.any_users.specs.Users.{user_line_rules};
 
 use any_check::{CostLimits, run_any};
+use any_users::run_users;
 use line_io::{INPUT_MAX, Sink, Source};
 use std::alloc::Global;
 
@@ -27,4 +29,21 @@ pub fn check_lines<S: Source, K: Sink>(
         (λ held taken added. Outcome (any_line_rules limits) result (2 ^ 40) held taken added) }
 {
     run_any(alloc, limits, source, sink, INPUT_MAX)
+}
+
+/// The same of lines that begin with a user and a colon: the user and a tab stand before each word. Statuses and memory are
+/// those of [`run_users`].
+pub fn check_users<S: Source, K: Sink>(
+    alloc: Global,
+    limits: Option<CostLimits>,
+    source: &mut S,
+    sink: &mut K,
+) -> u8
+    ensures statuses { (result ≤ 6) × (result ≢ 2) }
+    ensures read_fault { result ≡ 3 → HasRisen (S.faults source.old) (S.faults source.new) }
+    ensures write_fault { result ≡ 4 → HasRisen (K.faults sink.old) (K.faults sink.new) }
+    ensures outcome { WhereTold (S.left source.old) (S.left source.new) (K.written sink.old) (K.written sink.new)
+        (λ held taken added. Outcome (user_line_rules limits) result (2 ^ 40) held taken added) }
+{
+    run_users(alloc, limits, source, sink, INPUT_MAX)
 }

@@ -1,6 +1,6 @@
 //! The command line.
 
-use clap::{Arg, Command, value_parser};
+use clap::{Arg, ArgAction, Command, value_parser};
 use std::alloc::{AllocError, Global};
 
 /// What stands behind the options in the help of the program.
@@ -15,7 +15,7 @@ Statuses:
    8  a word of the command line isn't UTF-8
   64  the words of the command line are no form of the program
   66  the file can't be opened
-'pwtool check --help' and pwtool(1) tell more.";
+'pwtool check --help', 'pwtool join --help' and pwtool(1) tell more.";
 
 /// What stands behind the options in the help of `check`.
 const LINES: &str = "\
@@ -25,6 +25,16 @@ record of scrypt ($scrypt$), PBKDF2 ($pbkdf2-sha256$) or Argon2 ($argon2d$, $arg
 $argon2id$). The word is match, mismatch, or the first cause that there is no verdict:
 no-scheme where no scheme has the text, too-costly where a number of it is above the most
 given here. pwtool(1) has all words. Status 0 is for matches alone, 1 for some other word;
+pwtool --help has the rest.";
+
+/// What stands behind the options in the help of `join`.
+const USERS: &str = "\
+A line of TEXTS is a user, a colon and a stored text, which ends at the next colon: a line of a
+shadow or htpasswd file as it is. A line of PASSWORDS is a user, a colon and a password; of lines
+of one user the last counts. Each line of TEXTS is answered, in order, by its user, a tab and a
+word: match, mismatch, empty, locked (the text begins with * or !), no-password (PASSWORDS has no
+line of the user), or a word of 'pwtool check'. One of the two files may be -, standard input.
+All of PASSWORDS is kept in memory. Status 0 is for matches alone, 1 for some other word;
 pwtool --help has the rest.";
 
 // What an option bounds: its name, its help, its least and its most.
@@ -93,17 +103,44 @@ fn argument<'a>(alloc: Global, option: &CostOption) -> Arg<'a> {
         .help(option.help)
 }
 
-// The form `check`.
-fn check<'a>(alloc: Global) -> Result<Command<'a>, AllocError> {
-    let file = Arg::new(alloc, "FILE").help("The file; standard input where it is left out or -");
-    let mut command = Command::new(alloc, "check")
-        .about("Answer each line, a password, a tab and a stored text, with one word")
-        .after_help(LINES)
-        .arg(file)?;
+// A form with the options that bound costs.
+fn with_costs<'a>(alloc: Global, command: Command<'a>) -> Result<Command<'a>, AllocError> {
+    let mut command = command;
     for option in &costs() {
         command = command.arg(argument(alloc, option))?;
     }
     Ok(command)
+}
+
+// The form `check`.
+fn check<'a>(alloc: Global) -> Result<Command<'a>, AllocError> {
+    let file = Arg::new(alloc, "FILE").help("The file; standard input where it is left out or -");
+    let users = Arg::new(alloc, "users")
+        .long("users")
+        .action(ArgAction::SetTrue)
+        .help("Lines begin with a user and a colon; keep the user before the word");
+    let command = Command::new(alloc, "check")
+        .about("Answer each line, a password, a tab and a stored text, with one word")
+        .after_help(LINES)
+        .arg(file)?
+        .arg(users)?;
+    with_costs(alloc, command)
+}
+
+// The form `join`.
+fn join<'a>(alloc: Global) -> Result<Command<'a>, AllocError> {
+    let texts = Arg::new(alloc, "TEXTS").required(true).help(
+        "A shadow or htpasswd file: a user, a colon and a stored text a line",
+    );
+    let passwords = Arg::new(alloc, "PASSWORDS")
+        .required(true)
+        .help("A user, a colon and a password a line");
+    let command = Command::new(alloc, "join")
+        .about("Answer each user of a shadow or htpasswd file by the password in another file")
+        .after_help(USERS)
+        .arg(texts)?
+        .arg(passwords)?;
+    with_costs(alloc, command)
 }
 
 /// The program's command line.
@@ -115,5 +152,6 @@ pub fn command<'a>(alloc: Global) -> Result<Command<'a>, AllocError> {
         .subcommand_required(true)
         .disable_help_subcommand(true)
         .after_help(STATUSES)
-        .subcommand(check(alloc)?)
+        .subcommand(check(alloc)?)?
+        .subcommand(join(alloc)?)
 }

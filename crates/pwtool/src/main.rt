@@ -1,8 +1,8 @@
 //! `pwtool check [FILE]`: answers each line of a password file, a password, a tab and a stored text, with one word,
-//! where every scheme of `any_check` has a verdict.
+//! where every scheme of `any_check` has a verdict; with `--users` each line begins with a user, who is kept.
+//! `pwtool join TEXTS PASSWORDS`: answers each user of a shadow or htpasswd file by the user's password in another file.
 //!
-//! The lines come from the file that is named, or from standard input, and each word goes to standard output with a line
-//! feed. Errors are one line on standard error. The status says how the run ended.
+//! A file is standard input where it is `-`, and each answer goes to standard output with a line feed. Errors are one line on standard error. The status says how the run ended.
 #![tactic(auto)]
 
 mod bounds;
@@ -10,19 +10,20 @@ mod check;
 mod cli;
 mod fault;
 mod form;
+mod join;
+mod status;
 
 use crate::cli::command;
 use crate::fault::{say, say_refused};
-use crate::form::run_check;
-pub use check::check_lines;
+use crate::form::{run_check, run_join};
+use crate::status::BAD_WORDS;
+pub use check::{check_lines, check_users};
 use clap::ArgMatches;
 use clap::error::ErrorKind;
+pub use join::join_files;
 use line_program::status::{ALL_GOOD, NO_MEMORY, NO_WORDS, WRITE_FAULT};
 use std::process::ExitCode;
 use std::{env, io};
-
-/// The words of the command line are no form of the program.
-const BAD_WORDS: u8 = 64;
 
 // The words of the command line, or the status.
 fn words(rt: &HostRuntime) -> Result<Vec<String>, u8> {
@@ -50,6 +51,7 @@ fn no_memory(rt: &HostRuntime) -> u8 {
 // Runs the form that is named.
 fn run_form(rt: &HostRuntime, matches: &ArgMatches<'_>) -> u8 {
     match matches.subcommand() {
+        Some(("join", matches)) => run_join(rt, matches),
         Some((_, matches)) => run_check(rt, matches),
         None => {
             say(rt, "no form is named");
