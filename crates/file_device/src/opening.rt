@@ -111,13 +111,9 @@ fn open_locked(rt: &HostRuntime, name: &str) -> Result<Option<File>, OpenFault> 
     Err(OpenFault::InUse)
 }
 
-// The bytes of a file, as the disk has them: it is synced first, and the kernel's copies are given back.
+// The bytes of a file, which is synced first, so that a power cut takes none of them back.
 fn read_synced(rt: &HostRuntime, file: &File, folder: &File) -> Result<Vec<u8>, OpenFault> {
     file.sync_all()?;
-    let advised = libc::posix_fadvise(file.as_raw_fd(), 0, 0, libc::POSIX_FADV_DONTNEED);
-    if advised != 0 {
-        return Err(io::Error::from_raw_os_error(advised).into());
-    }
     folder.sync_all()?;
     let length = file.metadata()?.len();
     if length > LENGTH_MAX {
