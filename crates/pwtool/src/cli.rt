@@ -114,15 +114,38 @@ fn argument<'a>(alloc: Global, option: &CostOption) -> Arg<'a> {
 }
 
 // The least costs that aren't weak.
-fn least_costs() -> [(&'static str, &'static str); 6] {
+fn least_costs() -> [CostOption; 6] {
     [
-        ("least-sha-rounds", "SHA-crypt: rounds (5000)"),
-        ("least-bcrypt-cost", "bcrypt: cost (10)"),
-        ("least-yescrypt-ln", "yescrypt: log2 of N (12)"),
-        ("least-scrypt-ln", "scrypt: ln, and log2 of N of $7$ (14)"),
-        ("least-pbkdf2-rounds", "PBKDF2: i (600000)"),
-        ("least-argon2-memory", "Argon2: m in KiB (19456)"),
+        least("least-sha-rounds", "SHA-crypt: rounds (5000)"),
+        least("least-bcrypt-cost", "bcrypt: cost (10)"),
+        least("least-yescrypt-ln", "yescrypt: log2 of N (12)"),
+        least("least-scrypt-ln", "scrypt: ln, and log2 of N of $7$ (14)"),
+        least("least-pbkdf2-rounds", "PBKDF2: i (600000)"),
+        least("least-argon2-memory", "Argon2: m in KiB (19456)"),
     ]
+}
+
+fn least(name: &'static str, help: &'static str) -> CostOption {
+    cost(name, help, 0, 4_294_967_295)
+}
+
+// The argument of one of them.
+fn least_argument<'a>(alloc: Global, option: &CostOption) -> Arg<'a> {
+    Arg::new(alloc, option.name)
+        .long(option.name)
+        .value_name("N")
+        .value_parser(value_parser!(u32).range(option.least..=option.most))
+        .help_heading("The least that isn't weak (left out: the number that stands behind)")
+        .help(option.help)
+}
+
+// A form with the options of the least costs.
+fn with_least_costs<'a>(alloc: Global, command: Command<'a>) -> Result<Command<'a>, AllocError> {
+    let mut command = command;
+    for option in &least_costs() {
+        command = command.arg(least_argument(alloc, option))?;
+    }
+    Ok(command)
 }
 
 // A form with the options that bound costs.
@@ -176,22 +199,13 @@ fn survey<'a>(alloc: Global) -> Result<Command<'a>, AllocError> {
         .long("json")
         .action(ArgAction::SetTrue)
         .help("Write an object of JSON a line, and no counts");
-    let mut command = Command::new(alloc, "survey")
+    let command = Command::new(alloc, "survey")
         .about("Tell the scheme and the cost of each user's stored text, and whether it is weak")
         .after_help(TEXTS)
         .arg(file)?
         .arg(csv)?
         .arg(json)?;
-    for (name, help) in least_costs() {
-        let option = Arg::new(alloc, name)
-            .long(name)
-            .value_name("N")
-            .value_parser(value_parser!(u32))
-            .help_heading("The least that isn't weak (left out: the number that stands behind)")
-            .help(help);
-        command = command.arg(option)?;
-    }
-    Ok(command)
+    with_least_costs(alloc, command)
 }
 
 /// The program's command line.
