@@ -10,5 +10,6 @@ pub mod Entries
 pub mod LineAnswers
 pub mod TableAnswers
 pub mod Output
+pub mod Replacing
 pub mod Seen
 mod Vectors

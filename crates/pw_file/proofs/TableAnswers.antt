@@ -1,7 +1,7 @@
 -- What the calls of the table rest on.
 use Rattle.std.proofs.Common.{◌≡◌, ◌⊎◌, ℕ, suc, ◌+◌, ◌≤◌, ◌<◌, Bool, true, false, List, [], ◌∷◌, ◌++◌, length, cond}
 use Rattle.std.proofs.Common.{refl, sym, ap, ◌∙◌, arith, inl, inr, Option, Some, None, Result, Ok, Err, Bor}
-use Rattle.std.specs.Prelude.{◌&&◌, ◌||◌, MatchOption, String, string_bytes, codes, is_ok, is_some, nat_le, nat_lt, not}
+use Rattle.std.specs.Prelude.{◌&&◌, ◌||◌, IfOk, IfSome, MatchOption, String, string_bytes, codes, is_ok, is_some, nat_le, nat_lt, not}
 use Rattle.std.specs.Prelude.{unwrap_or, ◌^◌, if◌then◌else◌}
 use Rattle.std.specs.Option.{option_map}
 use Rattle.std.specs.List.{after_first, before_first, list_any, position_or_len}
@@ -27,7 +27,8 @@ use Rattle.scrypt_plain.specs.Profile.{accepted, key, needs_memory}
 use Rattle.pw_file.specs.Verdicts.{upgraded_text, upgraded_key, verdict_on}
 use Rattle.pieces.specs.Faults.{first_fault, unless}
 use Rattle.pw_file.specs.Answers.{IsAnswer, bad_text, check_answer, check_may_lack, checked, has_room, set_fault}
-use Rattle.pw_file.specs.Answers.{upgrade_answer, is_match, upgrade_may_lack}
+use Rattle.pw_file.specs.Answers.{upgrade_answer, is_match, upgrade_may_lack, done_of, done_or_fault, exchange_answer}
+use Rattle.pw_file.specs.Answers.{set_answer, with_salt}
 use Rattle.pw_file.specs.Commands.{by_cut, command, cut_at_tab}
 use Rattle.pieces.specs.Characters.{is_tab}
 use Rattle.pw_file.specs.History.{Rows, text_in}
@@ -36,6 +37,7 @@ use Rattle.pw_file.specs.declared.error.FileError.{FileError}
 use Rattle.pw_file.specs.declared.error.FileError.TheVariants as refused
 use Rattle.pw_file.proofs.Distinct.{set_few}
 use Rattle.pw_file.proofs.Entries.{rows_inserted, rows_length}
+use Rattle.pw_file.proofs.UpgradedTexts.{fresh_good, fresh_short}
 
 -- ---- the first tab
 
@@ -108,6 +110,28 @@ taken_has_room had n new h = room_cases (nat_le (length new) 1024) (mcf.fault ne
 pub error_is_no_value : {A : Type 0} (e : FileError) (a : A) → Err e ≡ Ok a → ⊥
 error_is_no_value e a h = cc
 
+exchanged_cases : (user : List ℕ) (had : Option (List ℕ)) (fault : Option FileError)
+    → done_of {A = List ℕ × Option (List ℕ)} (value_or_fault (user, had) fault) ≡ value_or_fault tt fault
+exchanged_cases user had None = refl
+exchanged_cases user had (Some e) = refl
+
+-- an answer of `exchange` without what it gives is one of `set`
+pub set_as_exchange : (user : List ℕ) (had : Option (List ℕ)) (n : ℕ) (new : List ℕ)
+    (answer : Result (List ℕ × Option (List ℕ)) FileError)
+    → IsAnswer (exchange_answer user had n new) (is_ok (set_answer had n new)) answer
+    → IsAnswer (set_answer had n new) (is_ok (set_answer had n new)) (done_of answer)
+set_as_exchange user had n new answer (inl is) = inl (ap done_of is ∙ exchanged_cases user had (set_fault had n new))
+set_as_exchange user had n new answer (inr (want, may)) = inr (ap done_of want, may)
+
+-- where no fault was found
+pub exchange_done : (user : List ℕ) (had : Option (List ℕ)) (n : ℕ) (new : List ℕ)
+    (answer : Result (List ℕ × Option (List ℕ)) FileError) → None ≡ set_fault had n new
+    → (answer ≡ Ok (user, had)) ⊎ (answer ≡ Err refused.OutOfMemory)
+    → IsAnswer (exchange_answer user had n new) (is_ok (set_answer had n new)) answer
+exchange_done user had n new answer none (inl is) = inl (is ∙ ap (value_or_fault (user, had)) none)
+exchange_done user had n new answer none (inr want) =
+    inr (want, ap (λ (fault : Option FileError). is_ok (done_or_fault fault)) (sym none))
+
 -- ---- check
 
 checked_ok : (r : Result Bool StoredError) (b : Bool) → Ok b ≡ checked r → is_ok r ≡ true
@@ -138,6 +162,13 @@ pub checked_short : (had : Option (List ℕ)) (password : List ℕ) (b : Bool)
     → IsAnswer (check_answer had password) (check_may_lack had password) (Ok b) → length password ≤ 4096
 checked_short had password b (inl h) = answer_short had password b h
 checked_short had password b (inr h) = absurd (ok_is_no_error b refused.OutOfMemory h.0)
+
+-- a user that was checked has a text
+pub checked_some : (had : Option (List ℕ)) (password : List ℕ) (b : Bool)
+    → IsAnswer (check_answer had password) (check_may_lack had password) (Ok b) → is_some had ≡ true
+checked_some None password b (inl h) = absurd cc
+checked_some None password b (inr h) = absurd (false≢true h.1)
+checked_some (Some text) password b h = refl
 
 -- ---- upgrade
 
@@ -189,6 +220,29 @@ upgrade_done had password salt answer good (inl h) (inr want) =
     inr (want, rw matched refl)
 upgrade_done had password salt answer good (inr h) r = absurd (ok_is_no_error true refused.OutOfMemory h.0)
 
+-- an upgrade that matches: the user has a text, and the salt is one
+upgraded_cases : (had : Option (List ℕ)) (password salt : List ℕ) (fault : Option phc_error.Error)
+    → salt_fault salt ≡ fault → Ok true ≡ with_salt fault (check_answer had password)
+    → (is_some had ≡ true) × (salt_fault salt ≡ None)
+upgraded_cases had password salt (Some e) is h = absurd cc
+upgraded_cases None password salt None is h = absurd cc
+upgraded_cases (Some text) password salt None is h = (refl, is)
+
+upgraded_parts : (had : Option (List ℕ)) (password salt : List ℕ) → Ok true ≡ upgrade_answer had password salt
+    → (is_some had ≡ true) × (salt_fault salt ≡ None)
+upgraded_parts None password salt h = absurd cc
+upgraded_parts (Some text) password salt h = upgraded_cases (Some text) password salt (salt_fault salt) refl h
+
+-- where the answer is that it matches
+pub upgrade_matched : (had : Option (List ℕ)) (password salt : List ℕ)
+    → IsAnswer (upgrade_answer had password salt) (upgrade_may_lack had password salt) (Ok true)
+    → (upgrade_may_lack had password salt ≡ true) × (is_some had ≡ true) × (salt_fault salt ≡ None)
+upgrade_matched had password salt (inl h) =
+    let matched : is_match (upgrade_answer had password salt) ≡ true = ap is_match (sym h) in
+    let parts = upgraded_parts had password salt h in
+    (rw matched refl, parts.0, parts.1)
+upgrade_matched had password salt (inr h) = absurd (ok_is_no_error true refused.OutOfMemory h.0)
+
 salt_cases : (t s : List ℕ) (fault : Option phc_error.Error) → Ok s ≡ value_or_fault t fault → (fault ≡ None) × (s ≡ t)
 salt_cases t s None h = (refl, cc)
 salt_cases t s (Some e) h = absurd cc
@@ -235,3 +289,21 @@ same_value a b h = cc
 
 pub false_is_not_true : ◌≡◌ {A = Result Bool FileError} (Ok false) (Ok true) → ⊥
 false_is_not_true h = false≢true (same_value false true h)
+
+-- the text that an upgrade makes is one that `set` takes
+pub fresh_taken : (had : Option (List ℕ)) (n : ℕ) (password salt new : List ℕ) → is_some had ≡ true
+    → salt_fault salt ≡ None → new ≡ upgraded_text password salt → set_answer had n new ≡ Ok tt
+fresh_taken None n password salt new some good is = absurd (false≢true some)
+fresh_taken (Some old) n password salt new some good is =
+    let most = fresh_short password salt good in
+    let short : nat_le (length (upgraded_text password salt)) 1024 ≡ true = grind (arith, nat_tests, most) in
+    rw (is, short, fresh_good password salt good) refl
+
+pub fresh_all : {A : Type 0} (had : Option (List ℕ)) (n : ℕ) (password salt : List ℕ)
+    (answer : Result (Option (String A)) FileError) → is_some had ≡ true → salt_fault salt ≡ None
+    → IfOk answer (λ new. IfSome new (λ text. string_bytes text ≡ upgraded_text password salt))
+    → IfOk answer (λ new. IfSome new (λ text. set_answer had n (string_bytes text) ≡ Ok tt))
+fresh_all had n password salt (Ok (Some text)) some good is =
+    fresh_taken had n password salt (string_bytes text) some good is
+fresh_all had n password salt (Ok None) some good is = tt
+fresh_all had n password salt (Err e) some good is = tt

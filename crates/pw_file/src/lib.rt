@@ -18,6 +18,7 @@ mod tests;
 pub use answer::answer_line;
 pub use command::Command;
 pub use error::FileError;
+pub use listing::put_reply;
 pub use reply::{LineReply, Word};
 pub use run::{run_file, run_file_limited};
-pub use table::{TEXT_MAX, Table, USERS_MAX};
+pub use table::{ROW_LINE_MAX, Replaced, TEXT_MAX, Table, USERS_MAX, line_of_row};

@@ -35,12 +35,7 @@ fn put_listing<K: Sink>(table: &Table, out: &mut OutputBuffer, sink: &mut K)
 }
 
 /// Puts a reply, where a listing is that of the table.
-pub(crate) fn put_reply<K: Sink>(
-    table: &Table,
-    reply: LineReply,
-    out: &mut OutputBuffer,
-    sink: &mut K,
-)
+pub fn put_reply<K: Sink>(table: &Table, reply: LineReply, out: &mut OutputBuffer, sink: &mut K)
     ensures puts { Puts (K.written sink.old) (K.written sink.new) (K.faults sink.old) (K.faults sink.new) out.old out.new
         (reply_text (shown table.now reply)) }
 {

@@ -1,6 +1,8 @@
 //! Replies to the lines of command files, and the calls of the table.
 
-use crate::{FileError, LineReply, Table, Word, answer_line, laws, run_file, run_file_limited};
+use crate::{
+    FileError, LineReply, Table, Word, answer_line, laws, line_of_row, run_file, run_file_limited,
+};
 use line_io::{MemorySink, MemorySource};
 use phc::Ident;
 use stored_check::{McfFault, StoredError};
@@ -128,6 +130,113 @@ fn refusals(rt: HostRuntime) {
     );
     assert!(rt; answer_line(&mut table, &[b'a'; 8_193]) == Some(LineReply::Word(Word::TooLong)));
     assert!(rt; answer_line(&mut table, &[0xff]) == Some(LineReply::Word(Word::BadCommand)));
+}
+
+// A text that is taken, and matches `Hello world!`.
+const HELLO: &str = "$5$saltstring$5B8vYYiY.CVt1RlTTf8KbXBH3hsxY/GNooZaBBGWEc5";
+
+// What an upgrade makes of `Hello world!` and the salt `abcdabcdabc`: hashlib.scrypt of Python, over OpenSSL.
+const RENEWED: &str =
+    "$scrypt$ln=14,r=8,p=1$abcdabcdabc$XUd185cY0rXnj/Ge/MUaiTt89Svsd7UcdrI5w2MoCoU";
+
+#[test]
+fn taken_back(rt: HostRuntime) {
+    let mut table = Table::new(rt.alloc());
+    let ann = Ident::new_unwrap("ann");
+    let bob = Ident::new_unwrap("bob");
+    assert!(rt; table.set(ann, "$5") == Ok(()));
+    // A text in the place of another, and a new user; from the last to the first.
+    let Ok(first) = table.exchange(ann, HELLO) else {
+        panic!(rt; "the text is taken")
+    };
+    assert!(rt; table.get(ann) == Some(HELLO));
+    let Ok(second) = table.exchange(bob, "$6") else {
+        panic!(rt; "the text is taken")
+    };
+    assert!(rt; table.get(bob) == Some("$6"));
+    let Ok(third) = table.exchange(ann, "$1$a$b") else {
+        panic!(rt; "the text is taken")
+    };
+    assert!(rt; table.row(0) == Some((ann, "$1$a$b")));
+    assert!(rt; table.row(1) == Some((bob, "$6")));
+    table.put_back(third);
+    assert!(rt; table.row(0) == Some((ann, HELLO)));
+    assert!(rt; table.row(1) == Some((bob, "$6")));
+    table.put_back(second);
+    assert!(rt; table.get(bob).is_none());
+    assert_eq!(rt; table.len(), 1);
+    table.put_back(first);
+    assert!(rt; table.row(0) == Some((ann, "$5")));
+    assert_eq!(rt; table.len(), 1);
+    // A refused exchange changes nothing.
+    assert!(rt; matches!(table.exchange(ann, "$"), Err(FileError::BadText(_))));
+    assert!(rt; table.get(ann) == Some("$5"));
+    assert!(rt; table.check(bob, "x") == Err(FileError::NoUser));
+}
+
+#[test]
+fn taken_back_where_the_table_is_full(rt: HostRuntime) {
+    let mut table = Table::new(rt.alloc());
+    for i in 0..4_095 {
+        let Ok(name) = format!(in rt.alloc(); "u{i}") else {
+            panic!(rt; "there is memory")
+        };
+        assert!(rt; table.set(Ident::new_unwrap(&name), "$5") == Ok(()));
+    }
+    let last = Ident::new_unwrap("u4095");
+    let Ok(new) = table.exchange(last, "$6") else {
+        panic!(rt; "there is room for one more")
+    };
+    let other = Ident::new_unwrap("u4096");
+    assert!(rt; matches!(table.exchange(other, "$6"), Err(FileError::Full)));
+    let first = Ident::new_unwrap("u0");
+    let Ok(old) = table.exchange(first, HELLO) else {
+        panic!(rt; "the user has room")
+    };
+    assert!(rt; table.row(0) == Some((first, HELLO)));
+    assert!(rt; table.row(4_095) == Some((last, "$6")));
+    table.put_back(old);
+    assert!(rt; table.row(0) == Some((first, "$5")));
+    assert_eq!(rt; table.len(), 4_096);
+    table.put_back(new);
+    assert!(rt; table.get(last).is_none());
+    assert_eq!(rt; table.len(), 4_095);
+    assert!(rt; table.set(other, "$6") == Ok(()));
+    assert!(rt; table.row(4_095) == Some((other, "$6")));
+}
+
+#[test]
+fn a_new_text_alone(rt: HostRuntime) {
+    let mut table = Table::new(rt.alloc());
+    let ann = Ident::new_unwrap("ann");
+    assert!(rt; table.set(ann, HELLO) == Ok(()));
+    let Ok(Some(text)) = table.renewed(ann, "Hello world!", "abcdabcdabc") else {
+        panic!(rt; "the password matches")
+    };
+    assert_eq!(rt; text.as_str(), RENEWED);
+    assert!(rt; table.get(ann) == Some(HELLO));
+    let line = line_of_row(ann, &text);
+    let Ok(line) = str::from_utf8(line.as_slice()) else {
+        panic!(rt; "a line is text")
+    };
+    assert!(rt; line.starts_with("set\tann\t$scrypt$ln=14,r=8,p=1$abcdabcdabc$"));
+    assert!(rt; line.ends_with("\n"));
+    assert!(rt; matches!(table.renewed(ann, "Hello world", "abcdabcdabc"), Ok(None)));
+    assert!(rt;
+        matches!(
+            table.renewed(ann, "Hello world!", "abc"),
+            Err(FileError::BadSalt(_))
+        )
+    );
+    let bob = Ident::new_unwrap("bob");
+    assert!(rt;
+        matches!(
+            table.renewed(bob, "Hello world!", "abcdabcdabc"),
+            Err(FileError::NoUser)
+        )
+    );
+    assert!(rt; table.exchange(ann, &text).is_ok());
+    assert!(rt; table.check(ann, "Hello world!") == Ok(true));
 }
 
 #[test]
