@@ -1,8 +1,8 @@
-mod Crash
+pub mod Crash
 mod Ends
 mod Kept
-mod LogLines
-mod Moments
+pub mod LogLines
+pub mod Moments
 mod Parsed
 mod Taking
 mod Walking

@@ -1,6 +1,5 @@
 pub mod Cuts
 pub mod UpgradedTexts
-pub mod TextBytes
 pub mod Content
 pub mod Calls
 pub mod Own
@@ -10,5 +9,7 @@ pub mod Entries
 pub mod LineAnswers
 pub mod TableAnswers
 pub mod Output
+pub mod Replacing
 pub mod Seen
+mod StoredVerdicts
 mod Vectors
