@@ -1,0 +1,28 @@
+-- What a file stands for: users with their texts.
+use Rattle.std.specs.Prelude.{◌≡◌, ℕ, Bool, true, false, List, [], ◌∷◌, map, Option, None, Some, if◌then◌else◌}
+use Rattle.line_log.specs.Log.{Stands, recovered}
+use Rattle.pw_file.specs.History.{History, Rows, Says, is_done}
+use Rattle.pw_file.specs.Rules.{table_after, table_reply}
+use Rattle.pw_file.specs.declared.reply.Word.TheVariants.{Done}
+
+-- The line is a `set` that is taken over these rows: no other command is answered `ok`.
+abbrev pub is_taken : Rows → List ℕ → Bool
+is_taken rows line = is_done (table_reply rows line)
+
+-- the rows after these lines, where each is taken over those before it
+abbrev pub rows_after : Rows → List (List ℕ) → Option Rows
+rows_after rows [] = Some rows
+rows_after rows (line ∷ more) = if is_taken rows line then rows_after (table_after rows line) more else None
+
+-- the rows that a file stands for, where each of its lines is taken
+unfoldable pub recovered_rows : List ℕ → Option Rows
+recovered_rows file = rows_after [] (recovered file)
+
+-- A run can have left this file, and it stands for these rows.
+pub record StandsFor (rows : Rows) (file : List ℕ) : Type 0 where
+  pub form : Stands (recovered file) file
+  pub rows_are : recovered_rows file ≡ Some rows
+
+-- the lines of a file as a history of `pw_file`: each was answered `ok`
+abbrev pub taken : List (List ℕ) → History
+taken lines = map (λ line. (line, Says Done)) lines

@@ -1,0 +1,71 @@
+//! Changes that are in the table and not yet in the file.
+
+ghost use Rattle.std.specs.Prelude.{◌≡◌, ◌++◌, ◌∷◌, [], IfErr, OnErr, OnOk};
+ghost use Rattle.pw_file.specs.History.{Rows};
+ghost use Rattle.pw_store.specs.Staged.{Undoes, lines_of, undo_of};
+
+use pw_file::{Replaced, Table};
+use std::alloc::Global;
+
+/// Changes that are in the table and not yet in the file: their lines, and what takes them back.
+#[derive(Drop)]
+pub(crate) struct Group {
+    pub lines: Vec<u8>,
+    pub undo: Vec<Replaced>,
+}
+
+impl Group {
+    /// No changes.
+    pub fn new(alloc: Global) -> Group
+        ensures lines { lines_of result ≡ [] }
+        ensures undo { undo_of result ≡ [] }
+    {
+        Group {
+            lines: Vec::new(alloc),
+            undo: Vec::new(alloc),
+        }
+    }
+
+    /// Adds a change that is in the table. Where memory is wanting, what takes it back is given back.
+    pub fn push(&mut self, replaced: Replaced, line: &[u8]) -> Result<(), Replaced>
+        ensures lines { OnOk result (lines_of self.new ≡ lines_of self.old ++ line.now) }
+        ensures undo { OnOk result (undo_of self.new ≡ undo_of self.old ++ replaced ∷ []) }
+        ensures back { IfErr result (λ back. back ≡ replaced) }
+        ensures same_lines { OnErr result (lines_of self.new ≡ lines_of self.old) }
+        ensures same_undo { OnErr result (undo_of self.new ≡ undo_of self.old) }
+    {
+        let len = self.lines.len();
+        match self.lines.extend_from_slice(line) {
+            Ok(()) => {}
+            Err(_) => return Err(replaced),
+        }
+        match self.undo.push(replaced) {
+            Ok(()) => Ok(()),
+            Err(e) => {
+                self.lines.truncate(len);
+                Err(e.value)
+            }
+        }
+    }
+
+    /// Forgets the changes, which are in the file.
+    pub fn clear(&mut self)
+        ensures lines { lines_of self.new ≡ [] }
+        ensures undo { undo_of self.new ≡ [] }
+    {
+        self.lines.clear();
+        self.undo.clear();
+    }
+
+    /// Takes the changes back, the last one first.
+    pub fn take_back(&mut self, table: &mut Table)
+        ensures back { (rows : Rows) → Undoes rows (undo_of self.old) table.old → table.new ≡ rows }
+        ensures lines { lines_of self.new ≡ [] }
+        ensures undo { undo_of self.new ≡ [] }
+    {
+        self.lines.clear();
+        while let Some(replaced) = self.undo.pop() {
+            table.put_back(replaced);
+        }
+    }
+}
