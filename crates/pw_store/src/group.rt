@@ -1,10 +1,12 @@
 //! Changes that are in the table and not yet in the file.
 
-ghost use Rattle.std.specs.Prelude.{◌≡◌, ◌++◌, ◌∷◌, [], IfErr, OnErr, OnOk};
+ghost use Rattle.std.specs.Prelude.{◌≡◌, ◌+◌, ◌≤◌, ◌++◌, ◌∷◌, [], length, true, IfErr, OnErr, OnOk};
+ghost use Rattle.line_log.specs.Log.{group_max};
 ghost use Rattle.pw_file.specs.History.{Rows};
 ghost use Rattle.pw_store.specs.Staged.{Undoes, lines_of, undo_of};
 
-use pw_file::{Replaced, Table};
+use line_log::GROUP_MAX;
+use pw_file::{ROW_LINE_MAX, Replaced, Table};
 use std::alloc::Global;
 
 /// Changes that are in the table and not yet in the file: their lines, and what takes them back.
@@ -24,6 +26,20 @@ impl Group {
             lines: Vec::new(alloc),
             undo: Vec::new(alloc),
         }
+    }
+
+    /// How many changes there are.
+    pub fn count(&self) -> usize
+        ensures count { result ≡ length (undo_of self.now) }
+    {
+        self.undo.len()
+    }
+
+    /// Whether there is room for one change more, whatever it is.
+    pub fn has_room(&self) -> bool
+        ensures room { result ≡ true → length (lines_of self.now) + ROW_LINE_MAX ≤ group_max }
+    {
+        self.lines.len() <= GROUP_MAX - ROW_LINE_MAX
     }
 
     /// Adds a change that is in the table. Where memory is wanting, what takes it back is given back.

@@ -140,11 +140,14 @@ impl<D: Device> Store<D> {
         ensures back { OnErr result (rows_of self.new ≡ rows_in (D.seen (device_of self.old))) }
         ensures failed { OnErr result (HasRisen (D.faults (device_of self.old)) (D.faults (device_of self.new))) }
         ensures lines { lines_of group.new ≡ [] }
+        ensures undo { undo_of group.new ≡ [] }
+        ensures count { D.faults (device_of self.old) ≤ D.faults (device_of self.new) }
         ensures any_moment { takes_changes self.old ≡ true → LeavesOnly D.moment D.left_since (device_of self.old) (device_of self.new)
             (λ c. StandsFor (rows_in (D.seen (device_of self.old))) c ⊎ StandsFor (rows_of self.old) c) }
         ensures closed { takes_changes self.old ≡ false → self.new.log ≡ self.old.log }
     {
         if group.lines.is_empty() {
+            group.clear();
             return Ok(());
         }
         match self.log.put(group.lines.as_slice()) {
@@ -176,6 +179,7 @@ impl<D: Device> Store<D> {
         ensures size { takes_changes self.new ≡ true → size_of self.new ≡ size_after_store_set (size_of self.old) user text.now result }
         ensures takes { takes_changes self.new ≡ takes_changes self.old && not (is_disk_fault result) }
         ensures sound { IsSound D.seen D.may_leave self.new }
+        ensures count { D.faults (device_of self.old) ≤ D.faults (device_of self.new) }
 
         // A crash at any moment of the call leaves a file of the content before it, or of the content with the change.
         ensures any_moment { takes_changes self.old ≡ true → LeavesOnly D.moment D.left_since (device_of self.old) (device_of self.new)
@@ -212,6 +216,7 @@ impl<D: Device> Store<D> {
             → size_of self.new ≡ size_after_store_upgrade (size_of self.old) user password.now salt.now result }
         ensures takes { takes_changes self.new ≡ takes_changes self.old && not (is_disk_fault result) }
         ensures sound { IsSound D.seen D.may_leave self.new }
+        ensures count { D.faults (device_of self.old) ≤ D.faults (device_of self.new) }
         ensures any_moment { takes_changes self.old ≡ true → LeavesOnly D.moment D.left_since (device_of self.old) (device_of self.new)
             (λ c. StandsFor (rows_of self.old) c
             ⊎ StandsFor (with_text (rows_of self.old) user (upgraded_text password.now salt.now)) c) }
