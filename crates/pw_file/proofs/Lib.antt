@@ -1,6 +1,5 @@
 pub mod Cuts
 pub mod UpgradedTexts
-pub mod TextBytes
 pub mod Content
 pub mod Calls
 pub mod Own
@@ -12,4 +11,5 @@ pub mod TableAnswers
 pub mod Output
 pub mod Replacing
 pub mod Seen
+mod StoredVerdicts
 mod Vectors

@@ -18,17 +18,13 @@ use Rattle.pieces.specs.Faults.{value_or_fault}
 use Rattle.phc.specs.Parts.{salt_text_or_fault}
 use Rattle.phc.specs.declared.error.Error as phc_error
 use Rattle.phc.proofs.EncodedBytes.{encoded_length}
-use Rattle.mcf.specs.Grammar as mcf
-use Rattle.mcf.specs.declared.error.Error as mcf_error
-use Rattle.stored_check.specs.Verdict.{may_lack_memory, same_text, text_answer, text_needs, verdict}
-use Rattle.stored_check.specs.declared.error.StoredError.{StoredError}
-use Rattle.stored_check.specs.declared.error.StoredError.TheVariants as stored
-use Rattle.scrypt_plain.specs.Profile.{accepted, key, needs_memory}
-use Rattle.pw_file.specs.Verdicts.{upgraded_text, upgraded_key, verdict_on}
+use Rattle.stored_check.specs.Verdict.{same_text}
+use Rattle.pw_file.specs.Policy.{IsLawful, TextPolicy}
+use Rattle.pw_file.specs.Upgraded.{upgraded_text, upgraded_key}
 use Rattle.pieces.specs.Faults.{first_fault, unless}
-use Rattle.pw_file.specs.Answers.{IsAnswer, bad_text, check_answer, check_may_lack, checked, has_room, set_fault}
-use Rattle.pw_file.specs.Answers.{upgrade_answer, is_match, upgrade_may_lack, done_of, done_or_fault, exchange_answer}
-use Rattle.pw_file.specs.Answers.{set_answer, with_salt}
+use Rattle.pw_file.specs.Answers.{IsAnswer, bad_text, check_answer, open_check, check_may_lack, checked, has_room, open_lack}
+use Rattle.pw_file.specs.Answers.{set_fault, upgrade_answer, open_upgrade, is_match, upgrade_may_lack, done_of}
+use Rattle.pw_file.specs.Answers.{done_or_fault, exchange_answer, open_text, set_answer, with_salt}
 use Rattle.pw_file.specs.Commands.{by_cut, command, cut_at_tab}
 use Rattle.pieces.specs.Characters.{is_tab}
 use Rattle.pw_file.specs.History.{Rows, text_in}
@@ -37,7 +33,7 @@ use Rattle.pw_file.specs.declared.error.FileError.{FileError}
 use Rattle.pw_file.specs.declared.error.FileError.TheVariants as refused
 use Rattle.pw_file.proofs.Distinct.{set_few}
 use Rattle.pw_file.proofs.Entries.{rows_inserted, rows_length}
-use Rattle.pw_file.proofs.UpgradedTexts.{fresh_good, fresh_short}
+use Rattle.pw_file.proofs.UpgradedTexts.{fresh_short}
 
 -- ---- the first tab
 
@@ -67,13 +63,14 @@ pub split_is : (s : List ℕ) (r : Option (Bor (List ℕ) × Bor (List ℕ)))
 split_is s None h = rw (no_tab s h) refl
 split_is s (Some x) h = rw (some_tab s h.2, h.0, h.1) refl
 
-pub command_text : (line : List ℕ) → is_utf8 line ≡ true → command line ≡ by_cut line (cut_at_tab line)
-unfolding command
-command_text line h = rw h refl
+module _ {T V : Type 0} (p : TextPolicy T V) where
+  pub command_text : (line : List ℕ) → is_utf8 line ≡ true → command p line ≡ by_cut p line (cut_at_tab line)
+  unfolding command
+  command_text line h = rw h refl
 
-pub command_other : (line : List ℕ) → is_utf8 line ≡ false → command line ≡ None
-unfolding command
-command_other line h = rw h refl
+  pub command_other : (line : List ℕ) → is_utf8 line ≡ false → command p line ≡ None
+  unfolding command
+  command_other line h = rw h refl
 
 -- ---- entries
 
@@ -97,151 +94,153 @@ put_room entries rows user text is room few =
 
 -- ---- set
 
-room_cases : (a : Bool) (b : Option mcf_error.Error) (c : Bool)
-    → None ≡ first_fault (unless a refused.TextTooLong ∷ (bad_text b ∷ (unless c refused.Full ∷ []))) → c ≡ true
-room_cases true None true h = refl
-room_cases true None false h = absurd cc
-room_cases true (Some e) c h = absurd cc
-room_cases false b c h = absurd cc
-
-pub taken_has_room : (had : Option (List ℕ)) (n : ℕ) (new : List ℕ) → None ≡ set_fault had n new → has_room had n ≡ true
-taken_has_room had n new h = room_cases (nat_le (length new) 1024) (mcf.fault new) (has_room had n) h
-
-pub error_is_no_value : {A : Type 0} (e : FileError) (a : A) → Err e ≡ Ok a → ⊥
+pub error_is_no_value : {A E : Type 0} → (e : E) (a : A) → Err e ≡ Ok a → ⊥
 error_is_no_value e a h = cc
 
-exchanged_cases : (user : List ℕ) (had : Option (List ℕ)) (fault : Option FileError)
-    → done_of {A = List ℕ × Option (List ℕ)} (value_or_fault (user, had) fault) ≡ value_or_fault tt fault
-exchanged_cases user had None = refl
-exchanged_cases user had (Some e) = refl
+module _ {T V : Type 0} (p : TextPolicy T V) where
+  room_cases : (a : Bool) (b : Option T) (c : Bool)
+      → None ≡ first_fault {E = FileError T V}
+      (unless a refused.TextTooLong ∷ (bad_text b ∷ (unless c refused.Full ∷ []))) → c ≡ true
+  room_cases true None true h = refl
+  room_cases true None false h = absurd cc
+  room_cases true (Some e) c h = absurd cc
+  room_cases false b c h = absurd cc
 
--- an answer of `exchange` without what it gives is one of `set`
-pub set_as_exchange : (user : List ℕ) (had : Option (List ℕ)) (n : ℕ) (new : List ℕ)
-    (answer : Result (List ℕ × Option (List ℕ)) FileError)
-    → IsAnswer (exchange_answer user had n new) (is_ok (set_answer had n new)) answer
-    → IsAnswer (set_answer had n new) (is_ok (set_answer had n new)) (done_of answer)
-set_as_exchange user had n new answer (inl is) = inl (ap done_of is ∙ exchanged_cases user had (set_fault had n new))
-set_as_exchange user had n new answer (inr (want, may)) = inr (ap done_of want, may)
+  pub taken_has_room : (had : Option (List ℕ)) (n : ℕ) (new : List ℕ) → None ≡ set_fault p had n new
+      → has_room had n ≡ true
+  taken_has_room had n new h = room_cases (nat_le (length new) 1024) (p.text_fault new) (has_room had n) h
 
--- where no fault was found
-pub exchange_done : (user : List ℕ) (had : Option (List ℕ)) (n : ℕ) (new : List ℕ)
-    (answer : Result (List ℕ × Option (List ℕ)) FileError) → None ≡ set_fault had n new
-    → (answer ≡ Ok (user, had)) ⊎ (answer ≡ Err refused.OutOfMemory)
-    → IsAnswer (exchange_answer user had n new) (is_ok (set_answer had n new)) answer
-exchange_done user had n new answer none (inl is) = inl (is ∙ ap (value_or_fault (user, had)) none)
-exchange_done user had n new answer none (inr want) =
-    inr (want, ap (λ (fault : Option FileError). is_ok (done_or_fault fault)) (sym none))
+  exchanged_cases : (user : List ℕ) (had : Option (List ℕ)) (fault : Option (FileError T V))
+      → done_of {A = List ℕ × Option (List ℕ)} (value_or_fault (user, had) fault) ≡ value_or_fault tt fault
+  exchanged_cases user had None = refl
+  exchanged_cases user had (Some e) = refl
+
+  -- an answer of `exchange` without what it gives is one of `set`
+  pub set_as_exchange : (user : List ℕ) (had : Option (List ℕ)) (n : ℕ) (new : List ℕ)
+      (answer : Result (List ℕ × Option (List ℕ)) (FileError T V))
+      → IsAnswer (exchange_answer p user had n new) (is_ok (set_answer p had n new)) answer
+      → IsAnswer (set_answer p had n new) (is_ok (set_answer p had n new)) (done_of answer)
+  set_as_exchange user had n new answer (inl is) =
+      inl (ap done_of is ∙ exchanged_cases user had (set_fault p had n new))
+  set_as_exchange user had n new answer (inr (want, may)) = inr (ap done_of want, may)
+
+  -- where no fault was found
+  pub exchange_done : (user : List ℕ) (had : Option (List ℕ)) (n : ℕ) (new : List ℕ)
+      (answer : Result (List ℕ × Option (List ℕ)) (FileError T V)) → None ≡ set_fault p had n new
+      → (answer ≡ Ok (user, had)) ⊎ (answer ≡ Err refused.OutOfMemory)
+      → IsAnswer (exchange_answer p user had n new) (is_ok (set_answer p had n new)) answer
+  exchange_done user had n new answer none (inl is) = inl (is ∙ ap (value_or_fault (user, had)) none)
+  exchange_done user had n new answer none (inr want) =
+      inr (want, ap (λ (fault : Option (FileError T V)). is_ok (done_or_fault fault)) (sym none))
 
 -- ---- check
 
-checked_ok : (r : Result Bool StoredError) (b : Bool) → Ok b ≡ checked r → is_ok r ≡ true
-checked_ok (Ok x) b h = refl
-checked_ok (Err e) b h = absurd cc
+ok_is_no_error : {A E : Type 0} → (a : A) (e : E) → Ok a ≡ Err e → ⊥
+ok_is_no_error a e h = cc
 
-length_cases : (t : Bool) (rest : Result Bool StoredError)
-    → is_ok (if t then Err stored.PasswordTooLong else rest) ≡ true → t ≡ false
-length_cases false rest h = refl
-length_cases true rest h = absurd (false≢true h)
+module _ {T V : Type 0} (p : TextPolicy T V) where
+  checked_is_ok : (r : Result Bool V) → is_ok (checked {T = T} r) ≡ is_ok r
+  checked_is_ok (Ok b) = refl
+  checked_is_ok (Err e) = refl
 
-verdict_short : (password text : List ℕ) → is_ok (verdict_on password text) ≡ true → length password ≤ 4096
-unfolding verdict
-verdict_short password text h =
-    let test = length_cases (nat_lt 4096 (length password)) (text_answer accepted key password (mcf.mcf text)) h in
-    grind (arith, nat_tests, test)
+  -- a user whose text is open has one
+  pub open_some : (had : Option (List ℕ)) (text : List ℕ) → open_text p had ≡ Ok text → is_some had ≡ true
+  open_some None text is = absurd cc
+  open_some (Some old) text is = refl
 
-answer_short : (had : Option (List ℕ)) (password : List ℕ) (b : Bool) → Ok b ≡ check_answer had password
-    → length password ≤ 4096
-answer_short None password b h = absurd cc
-answer_short (Some text) password b h = verdict_short password text (checked_ok (verdict_on password text) b h)
+  -- the answers where the text is open
+  pub check_open : (had : Option (List ℕ)) (text password : List ℕ) (answer : Result Bool (FileError T V))
+      → open_text p had ≡ Ok text
+      → IsAnswer (checked {T = T} (p.verdict password text)) (p.may_lack password text) answer
+      → IsAnswer (check_answer p had password) (check_may_lack p had password) answer
+  check_open had text password answer is judged = rw is judged
 
-ok_is_no_error : (b : Bool) (e : FileError) → Ok b ≡ Err e → ⊥
-ok_is_no_error b e h = cc
+  pub check_closed : (had : Option (List ℕ)) (e : FileError T V) (password : List ℕ) → open_text p had ≡ Err e
+      → IsAnswer (check_answer p had password) (check_may_lack p had password) (Err e)
+  check_closed had e password is = rw is (inl refl)
 
--- a password that was checked has at most 4,096 bytes
-pub checked_short : (had : Option (List ℕ)) (password : List ℕ) (b : Bool)
-    → IsAnswer (check_answer had password) (check_may_lack had password) (Ok b) → length password ≤ 4096
-checked_short had password b (inl h) = answer_short had password b h
-checked_short had password b (inr h) = absurd (ok_is_no_error b refused.OutOfMemory h.0)
-
--- a user that was checked has a text
-pub checked_some : (had : Option (List ℕ)) (password : List ℕ) (b : Bool)
-    → IsAnswer (check_answer had password) (check_may_lack had password) (Ok b) → is_some had ≡ true
-checked_some None password b (inl h) = absurd cc
-checked_some None password b (inr h) = absurd (false≢true h.1)
-checked_some (Some text) password b h = refl
+  -- a verdict of the code
+  pub judged_is : (password text : List ℕ) (answer : Result Bool V) → answer ≡ p.verdict password text
+      → IsAnswer (checked {T = T} (p.verdict password text)) (p.may_lack password text) (checked answer)
+  judged_is password text answer is = inl (ap checked is)
 
 -- ---- upgrade
-
-pub upgrade_is : (had : Option (List ℕ)) (password salt : List ℕ) → salt_fault salt ≡ None
-    → upgrade_answer had password salt ≡ check_answer had password
-upgrade_is None password salt good = refl
-upgrade_is (Some text) password salt good = rw good refl
-
-checked_is_ok : (r : Result Bool StoredError) → is_ok (checked r) ≡ is_ok r
-checked_is_ok (Ok b) = refl
-checked_is_ok (Err e) = refl
-
-lack_is_ok : (had : Option (List ℕ)) (password : List ℕ) → check_may_lack had password ≡ true
-    → is_ok (check_answer had password) ≡ true
-unfolding may_lack_memory
-lack_is_ok None password h = absurd (false≢true h)
-lack_is_ok (Some text) password h =
-    checked_is_ok (verdict_on password text)
-    ∙ (and_parts (is_ok (verdict_on password text)) (text_needs needs_memory (mcf.mcf text)) h).0
 
 or_later : (a b c : Bool) → b ≡ true → c ≡ true → (a || (b && c)) ≡ true
 or_later true b c hb hc = refl
 or_later false b c hb hc = rw (hb, hc) refl
 
--- an answer of the check is one of the upgrade, where the salt is one
-pub upgrade_as_check : (had : Option (List ℕ)) (password salt : List ℕ) (answer : Result Bool FileError)
-    → salt_fault salt ≡ None
-    → IsAnswer (check_answer had password) (check_may_lack had password) answer
-    → IsAnswer (upgrade_answer had password salt) (upgrade_may_lack had password salt) answer
-upgrade_as_check had password salt answer good (inl h) = inl (h ∙ sym (upgrade_is had password salt good))
-upgrade_as_check had password salt answer good (inr h) =
-    inr (
-      h.0,
-      or_later (is_match (upgrade_answer had password salt)) (is_ok (upgrade_answer had password salt))
-          (check_may_lack had password)
-          (ap is_ok (upgrade_is had password salt good) ∙ lack_is_ok had password h.1) h.1,
-    )
+module _ {T V : Type 0} (p : TextPolicy T V) (law : IsLawful p) where
+  -- a password that was judged has at most 4,096 bytes
+  pub judged_short : (password text : List ℕ) (b : Bool)
+      → IsAnswer (checked {T = T} (p.verdict password text)) (p.may_lack password text) (Ok b) → length password ≤ 4096
+  judged_short password text b (inl h) =
+      law.judged_short password text
+      (sym (checked_is_ok p (p.verdict password text)) ∙ ap is_ok (sym h))
+  judged_short password text b (inr h) = absurd (ok_is_no_error b refused.OutOfMemory h.0)
 
--- where the text matched, the answer is that it did, or want of memory
-pub upgrade_done : (had : Option (List ℕ)) (password salt : List ℕ) (answer : Result Bool FileError)
-    → salt_fault salt ≡ None
-    → IsAnswer (check_answer had password) (check_may_lack had password) (Ok true)
-    → (answer ≡ Ok true) ⊎ (answer ≡ Err refused.OutOfMemory)
-    → IsAnswer (upgrade_answer had password salt) (upgrade_may_lack had password salt) answer
-upgrade_done had password salt answer good (inl h) (inl done) = inl (done ∙ h ∙ sym (upgrade_is had password salt good))
-upgrade_done had password salt answer good (inl h) (inr want) =
-    let matched : is_match (upgrade_answer had password salt) ≡ true =
-    ap is_match (upgrade_is had password salt good ∙ sym h) in
-    inr (want, rw matched refl)
-upgrade_done had password salt answer good (inr h) r = absurd (ok_is_no_error true refused.OutOfMemory h.0)
+  module _ (had : Option (List ℕ)) (text password salt : List ℕ) (is : open_text p had ≡ Ok text)
+      (good : salt_fault salt ≡ None) where
+    upgrade_is : upgrade_answer p had password salt ≡ checked (p.verdict password text)
+    upgrade_is = rw (is, good) refl
 
--- an upgrade that matches: the user has a text, and the salt is one
-upgraded_cases : (had : Option (List ℕ)) (password salt : List ℕ) (fault : Option phc_error.Error)
-    → salt_fault salt ≡ fault → Ok true ≡ with_salt fault (check_answer had password)
-    → (is_some had ≡ true) × (salt_fault salt ≡ None)
-upgraded_cases had password salt (Some e) is h = absurd cc
-upgraded_cases None password salt None is h = absurd cc
-upgraded_cases (Some text) password salt None is h = (refl, is)
+    lack_is : check_may_lack p had password ≡ p.may_lack password text
+    lack_is = rw is refl
 
-upgraded_parts : (had : Option (List ℕ)) (password salt : List ℕ) → Ok true ≡ upgrade_answer had password salt
-    → (is_some had ≡ true) × (salt_fault salt ≡ None)
-upgraded_parts None password salt h = absurd cc
-upgraded_parts (Some text) password salt h = upgraded_cases (Some text) password salt (salt_fault salt) refl h
+    -- a verdict is an answer of the upgrade, where the salt is one
+    pub upgrade_as_judged : (answer : Result Bool (FileError T V))
+        → IsAnswer (checked {T = T} (p.verdict password text)) (p.may_lack password text) answer
+        → IsAnswer (upgrade_answer p had password salt) (upgrade_may_lack p had password salt) answer
+    upgrade_as_judged answer (inl h) = inl (h ∙ sym upgrade_is)
+    upgrade_as_judged answer (inr h) =
+        let judged = law.lack_judged password text h.1 in
+        inr (
+          h.0,
+          or_later (is_match (upgrade_answer p had password salt)) (is_ok (upgrade_answer p had password salt))
+              (check_may_lack p had password)
+              (ap is_ok upgrade_is ∙ checked_is_ok p (p.verdict password text) ∙ judged) (lack_is ∙ h.1),
+        )
 
--- where the answer is that it matches
-pub upgrade_matched : (had : Option (List ℕ)) (password salt : List ℕ)
-    → IsAnswer (upgrade_answer had password salt) (upgrade_may_lack had password salt) (Ok true)
-    → (upgrade_may_lack had password salt ≡ true) × (is_some had ≡ true) × (salt_fault salt ≡ None)
-upgrade_matched had password salt (inl h) =
-    let matched : is_match (upgrade_answer had password salt) ≡ true = ap is_match (sym h) in
-    let parts = upgraded_parts had password salt h in
-    (rw matched refl, parts.0, parts.1)
-upgrade_matched had password salt (inr h) = absurd (ok_is_no_error true refused.OutOfMemory h.0)
+    -- where the text matched, the answer is that it did, or want of memory
+    pub upgrade_done : (answer : Result Bool (FileError T V))
+        → IsAnswer (checked {T = T} (p.verdict password text)) (p.may_lack password text) (Ok true)
+        → (answer ≡ Ok true) ⊎ (answer ≡ Err refused.OutOfMemory)
+        → IsAnswer (upgrade_answer p had password salt) (upgrade_may_lack p had password salt) answer
+    upgrade_done answer (inl h) (inl done) = inl (done ∙ h ∙ sym upgrade_is)
+    upgrade_done answer (inl h) (inr want) =
+        let matched : is_match (upgrade_answer p had password salt) ≡ true = ap is_match (upgrade_is ∙ sym h) in
+        inr (want, rw matched refl)
+    upgrade_done answer (inr h) r = absurd (ok_is_no_error true refused.OutOfMemory h.0)
+
+  -- the refusals before the verdict
+  pub upgrade_closed : (had : Option (List ℕ)) (e : FileError T V) (password salt : List ℕ) → open_text p had ≡ Err e
+      → IsAnswer (upgrade_answer p had password salt) (upgrade_may_lack p had password salt) (Err e)
+  upgrade_closed had e password salt is = inl (rw is refl)
+
+  pub upgrade_salt : (had : Option (List ℕ)) (text password salt : List ℕ) (e : phc_error.Error)
+      → open_text p had ≡ Ok text → salt_fault salt ≡ Some e
+      → IsAnswer (upgrade_answer p had password salt) (upgrade_may_lack p had password salt) (Err (refused.BadSalt e))
+  upgrade_salt had text password salt e is bad = inl (rw (is, bad) refl)
+
+  -- an upgrade that matches: the user has a text, and the salt is one
+  upgraded_cases : (had : Option (List ℕ)) (password salt : List ℕ) (opened : Result (List ℕ) (FileError T V))
+      (fault : Option phc_error.Error) → open_text p had ≡ opened → salt_fault salt ≡ fault
+      → Ok true ≡ open_upgrade p opened password salt → (is_some had ≡ true) × (salt_fault salt ≡ None)
+  upgraded_cases had password salt (Err e) fault is salt_is h = absurd (error_is_no_value e true (sym h))
+  upgraded_cases had password salt (Ok text) None is salt_is h = (open_some p had text is, salt_is)
+  upgraded_cases had password salt (Ok text) (Some e) is salt_is h =
+      absurd (error_is_no_value {E = FileError T V} (refused.BadSalt e) true
+      (sym (h ∙ ap (λ (f : Option phc_error.Error). with_salt f (checked (p.verdict password text))) salt_is)))
+
+  -- where the answer is that it matches
+  pub upgrade_matched : (had : Option (List ℕ)) (password salt : List ℕ)
+      → IsAnswer (upgrade_answer p had password salt) (upgrade_may_lack p had password salt) (Ok true)
+      → (upgrade_may_lack p had password salt ≡ true) × (is_some had ≡ true) × (salt_fault salt ≡ None)
+  upgrade_matched had password salt (inl h) =
+      let matched : is_match (upgrade_answer p had password salt) ≡ true = ap is_match (sym h) in
+      let parts = upgraded_cases had password salt (open_text p had) (salt_fault salt) refl refl h in
+      (rw matched refl, parts.0, parts.1)
+  upgrade_matched had password salt (inr h) = absurd (ok_is_no_error true refused.OutOfMemory h.0)
 
 salt_cases : (t s : List ℕ) (fault : Option phc_error.Error) → Ok s ≡ value_or_fault t fault → (fault ≡ None) × (s ≡ t)
 salt_cases t s None h = (refl, cc)
@@ -284,26 +283,27 @@ fresh_text password salt salt_is bytes a b c d decodes key_is first second third
     key_is ∙ ap (λ (o : Option (List ℕ)). scrypt password (unwrap_or o []) (2 ^ 14) 8 1 32) (sym decodes) in
     whole ∙ grouped ∙ ap (λ (k : List ℕ). codes "$scrypt$ln=14,r=8,p=1$" ++ (salt ++ 36 ∷ encoding k)) bytes_are
 
-same_value : (a b : Bool) → ◌≡◌ {A = Result Bool FileError} (Ok a) (Ok b) → a ≡ b
+same_value : {E : Type 0} → (a b : Bool) → ◌≡◌ {A = Result Bool E} (Ok a) (Ok b) → a ≡ b
 same_value a b h = cc
 
-pub false_is_not_true : ◌≡◌ {A = Result Bool FileError} (Ok false) (Ok true) → ⊥
-false_is_not_true h = false≢true (same_value false true h)
+pub false_is_not_true : {E : Type 0} → ◌≡◌ {A = Result Bool E} (Ok false) (Ok true) → ⊥
+false_is_not_true {E = E} h = false≢true (same_value {E = E} false true h)
 
 -- the text that an upgrade makes is one that `set` takes
-pub fresh_taken : (had : Option (List ℕ)) (n : ℕ) (password salt new : List ℕ) → is_some had ≡ true
-    → salt_fault salt ≡ None → new ≡ upgraded_text password salt → set_answer had n new ≡ Ok tt
-fresh_taken None n password salt new some good is = absurd (false≢true some)
-fresh_taken (Some old) n password salt new some good is =
-    let most = fresh_short password salt good in
-    let short : nat_le (length (upgraded_text password salt)) 1024 ≡ true = grind (arith, nat_tests, most) in
-    rw (is, short, fresh_good password salt good) refl
+module _ {T V : Type 0} (p : TextPolicy T V) (law : IsLawful p) where
+  pub fresh_taken : (had : Option (List ℕ)) (n : ℕ) (password salt new : List ℕ) → is_some had ≡ true
+      → salt_fault salt ≡ None → new ≡ upgraded_text password salt → set_answer p had n new ≡ Ok tt
+  fresh_taken None n password salt new some good is = absurd (false≢true some)
+  fresh_taken (Some old) n password salt new some good is =
+      let most = fresh_short password salt good in
+      let short : nat_le (length (upgraded_text password salt)) 1024 ≡ true = grind (arith, nat_tests, most) in
+      rw (is, short, law.fresh_taken password salt good) refl
 
-pub fresh_all : {A : Type 0} (had : Option (List ℕ)) (n : ℕ) (password salt : List ℕ)
-    (answer : Result (Option (String A)) FileError) → is_some had ≡ true → salt_fault salt ≡ None
-    → IfOk answer (λ new. IfSome new (λ text. string_bytes text ≡ upgraded_text password salt))
-    → IfOk answer (λ new. IfSome new (λ text. set_answer had n (string_bytes text) ≡ Ok tt))
-fresh_all had n password salt (Ok (Some text)) some good is =
-    fresh_taken had n password salt (string_bytes text) some good is
-fresh_all had n password salt (Ok None) some good is = tt
-fresh_all had n password salt (Err e) some good is = tt
+  pub fresh_all : {A : Type 0} → (had : Option (List ℕ)) (n : ℕ) (password salt : List ℕ)
+      (answer : Result (Option (String A)) (FileError T V)) → is_some had ≡ true → salt_fault salt ≡ None
+      → IfOk answer (λ new. IfSome new (λ text. string_bytes text ≡ upgraded_text password salt))
+      → IfOk answer (λ new. IfSome new (λ text. set_answer p had n (string_bytes text) ≡ Ok tt))
+  fresh_all had n password salt (Ok (Some text)) some good is =
+      fresh_taken had n password salt (string_bytes text) some good is
+  fresh_all had n password salt (Ok None) some good is = tt
+  fresh_all had n password salt (Err e) some good is = tt

@@ -2,24 +2,25 @@
 use Rattle.std.specs.Prelude.{ℕ, Bool, true, false, List, [], ◌∷◌, ◌++◌, length, nat_lt, map, fold, codes, Option, None}
 use Rattle.std.specs.Prelude.{Some, unwrap_or, Result, Ok, Err, is_ok, if◌then◌else◌}
 use Rattle.std.specs.List.{flat_map}
-use Rattle.line_io.specs.Lines.{lines}
 use Rattle.pw_file.specs.Answers.{set_answer, check_answer, upgrade_answer, check_may_lack, upgrade_may_lack}
 use Rattle.pw_file.specs.Commands.{Command, command, set_line}
 use Rattle.pw_file.specs.Commands as of
 use Rattle.pw_file.specs.History.{History, Reply, Rows, text, users}
 use Rattle.pw_file.specs.History.{Says, Lists}
+use Rattle.pw_file.specs.Policy.{TextPolicy}
 use Rattle.pw_file.specs.declared.error.FileError.{FileError}
 use Rattle.pw_file.specs.declared.error.FileError.TheVariants as refused
 use Rattle.pw_file.specs.declared.reply.Word.{Word}
 use Rattle.pw_file.specs.declared.reply.Word.TheVariants.{TooLong, BadCommand, Done, TextLong, BadText, Full, NoUser}
-use Rattle.pw_file.specs.declared.reply.Word.TheVariants.{BadSalt, Invalid, Match, Mismatch, Upgraded}
+use Rattle.pw_file.specs.declared.reply.Word.TheVariants.{Locked, BadSalt, Invalid, Match, Mismatch, Upgraded, FileFull, DiskFault}
 use Rattle.line_io.specs.Limits.{line_max}
 
 -- ---- words
 
 -- the word of a refusal; want of memory has none of its own
-abbrev pub error_word : FileError → Word
+abbrev pub error_word : {T V : Type 0} → FileError T V → Word
 error_word refused.NoUser = NoUser
+error_word refused.Locked = Locked
 error_word refused.TextTooLong = TextLong
 error_word (refused.BadText fault) = BadText
 error_word refused.Full = Full
@@ -28,18 +29,18 @@ error_word (refused.Check fault) = Invalid
 error_word refused.OutOfMemory = Invalid
 
 -- the word of the answer of `set`
-abbrev pub set_word : Result (Unit {0}) FileError → Word
+abbrev pub set_word : {T V : Type 0} → Result (Unit {0}) (FileError T V) → Word
 set_word (Ok done) = Done
 set_word (Err e) = error_word e
 
 -- the word of the answer of `check`
-abbrev pub check_word : Result Bool FileError → Word
+abbrev pub check_word : {T V : Type 0} → Result Bool (FileError T V) → Word
 check_word (Ok true) = Match
 check_word (Ok false) = Mismatch
 check_word (Err e) = error_word e
 
 -- the word of the answer of `upgrade`
-abbrev pub upgrade_word : Result Bool FileError → Word
+abbrev pub upgrade_word : {T V : Type 0} → Result Bool (FileError T V) → Word
 upgrade_word (Ok true) = Upgraded
 upgrade_word (Ok false) = Mismatch
 upgrade_word (Err e) = error_word e
@@ -53,11 +54,14 @@ word_text TextLong = codes "text-long"
 word_text BadText = codes "bad-text"
 word_text Full = codes "full"
 word_text NoUser = codes "no-user"
+word_text Locked = codes "locked"
 word_text BadSalt = codes "bad-salt"
 word_text Invalid = codes "invalid"
 word_text Match = codes "match"
 word_text Mismatch = codes "mismatch"
 word_text Upgraded = codes "upgraded"
+word_text FileFull = codes "file-full"
+word_text DiskFault = codes "disk-fault"
 
 -- a user and its text, as the command that sets it, and a line feed
 abbrev pub row_line : List ℕ × List ℕ → List ℕ
@@ -71,37 +75,34 @@ reply_text (Lists rows) = flat_map row_line rows
 -- ---- replies
 
 -- each user with its text
-abbrev pub rows : History → Rows
-rows h = map (λ user. (user, unwrap_or (text h user) [])) (users h)
+abbrev pub rows : {T V : Type 0} → TextPolicy T V → History → Rows
+rows p h = map (λ user. (user, unwrap_or (text p h user) [])) (users p h)
 
 -- the reply to a command, by the text that each user has, by how many users have one, and by the rows of a listing
-abbrev pub reply_by : (List ℕ → Option (List ℕ)) → ℕ → Rows → Option Command → Reply
-reply_by text_of count listed None = Says BadCommand
-reply_by text_of count listed (Some (of.Set user new)) = Says (set_word (set_answer (text_of user) count new))
-reply_by text_of count listed (Some (of.Check user password)) = Says (check_word (check_answer (text_of user) password))
-reply_by text_of count listed (Some (of.Upgrade user salt password)) =
-    Says (upgrade_word (upgrade_answer (text_of user) password salt))
-reply_by text_of count listed (Some of.Listing) = Lists listed
+abbrev pub reply_by : {T V : Type 0} → TextPolicy T V → (List ℕ → Option (List ℕ)) → ℕ → Rows → Option Command → Reply
+reply_by p text_of count listed None = Says BadCommand
+reply_by p text_of count listed (Some (of.Set user new)) = Says (set_word (set_answer p (text_of user) count new))
+reply_by p text_of count listed (Some (of.Check user password)) =
+    Says (check_word (check_answer p (text_of user) password))
+reply_by p text_of count listed (Some (of.Upgrade user salt password)) =
+    Says (upgrade_word (upgrade_answer p (text_of user) password salt))
+reply_by p text_of count listed (Some of.Listing) = Lists listed
 
 -- the reply to a command, over the lines before it
-abbrev pub reply_to : History → Option Command → Reply
-reply_to h c = reply_by (text h) (length (users h)) (rows h) c
+abbrev pub reply_to : {T V : Type 0} → TextPolicy T V → History → Option Command → Reply
+reply_to p h c = reply_by p (text p h) (length (users p h)) (rows p h) c
 
 -- the reply to a line, over the lines before it
-unfoldable pub reply : History → List ℕ → Reply
-reply h line = if nat_lt line_max (length line) then Says TooLong else reply_to h (command line)
+unfoldable pub reply : {T V : Type 0} → TextPolicy T V → History → List ℕ → Reply
+reply p h line = if nat_lt line_max (length line) then Says TooLong else reply_to p h (command p line)
 
 -- one more line, with its reply
-abbrev pub answered : History → List ℕ → History
-answered h line = h ++ (line, reply h line) ∷ []
+abbrev pub answered : {T V : Type 0} → TextPolicy T V → History → List ℕ → History
+answered p h line = h ++ (line, reply p h line) ∷ []
 
 -- lines, each with its reply over those before it
-abbrev pub history : List (List ℕ) → History
-history lines = fold answered [] lines
-
--- the output of an input: the replies to its lines
-abbrev pub file_output : List ℕ → List ℕ
-file_output input = flat_map (λ pair. reply_text pair.1) (history (lines input))
+abbrev pub history : {T V : Type 0} → TextPolicy T V → List (List ℕ) → History
+history p lines = fold (answered p) [] lines
 
 -- the words that are good
 abbrev pub is_good_word : Word → Bool
@@ -118,17 +119,18 @@ is_good (Lists rows) = true
 -- ---- want of memory
 
 -- a text that is taken, a verdict that needs memory, or an upgrade of a text that matches or whose verdict needs memory
-abbrev pub is_costly_by : (List ℕ → Option (List ℕ)) → ℕ → Option Command → Bool
-is_costly_by text_of count None = false
-is_costly_by text_of count (Some (of.Set user new)) = is_ok (set_answer (text_of user) count new)
-is_costly_by text_of count (Some (of.Check user password)) = check_may_lack (text_of user) password
-is_costly_by text_of count (Some (of.Upgrade user salt password)) = upgrade_may_lack (text_of user) password salt
-is_costly_by text_of count (Some of.Listing) = false
+abbrev pub is_costly_by : {T V : Type 0} → TextPolicy T V → (List ℕ → Option (List ℕ)) → ℕ → Option Command → Bool
+is_costly_by p text_of count None = false
+is_costly_by p text_of count (Some (of.Set user new)) = is_ok (set_answer p (text_of user) count new)
+is_costly_by p text_of count (Some (of.Check user password)) = check_may_lack p (text_of user) password
+is_costly_by p text_of count (Some (of.Upgrade user salt password)) =
+    upgrade_may_lack p (text_of user) password salt
+is_costly_by p text_of count (Some of.Listing) = false
 
 -- memory may be wanting for a command
-abbrev pub command_is_costly : History → Option Command → Bool
-command_is_costly h c = is_costly_by (text h) (length (users h)) c
+abbrev pub command_is_costly : {T V : Type 0} → TextPolicy T V → History → Option Command → Bool
+command_is_costly p h c = is_costly_by p (text p h) (length (users p h)) c
 
 -- memory may be wanting for a line
-unfoldable pub is_costly : History → List ℕ → Bool
-is_costly h line = if nat_lt line_max (length line) then false else command_is_costly h (command line)
+unfoldable pub is_costly : {T V : Type 0} → TextPolicy T V → History → List ℕ → Bool
+is_costly p h line = if nat_lt line_max (length line) then false else command_is_costly p h (command p line)

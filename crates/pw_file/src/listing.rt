@@ -6,7 +6,7 @@ ghost use Rattle.line_io.specs.Output.{Puts};
 ghost use Rattle.pw_file.specs.Lines.{shown};
 ghost use Rattle.pw_file.specs.Replies.{reply_text, row_line, word_text};
 
-use crate::{LineReply, Table, Word};
+use crate::{LineReply, Policy, Table, Word};
 use line_io::{OutputBuffer, Sink};
 
 // Puts a word and a line feed. A reply that took long isn't kept waiting.
@@ -22,7 +22,7 @@ fn put_word<K: Sink>(word: Word, out: &mut OutputBuffer, sink: &mut K)
 }
 
 // Puts the line of each user.
-fn put_listing<K: Sink>(table: &Table, out: &mut OutputBuffer, sink: &mut K)
+fn put_listing<P: Policy, K: Sink>(table: &Table<P>, out: &mut OutputBuffer, sink: &mut K)
     ensures puts { Puts (K.written sink.old) (K.written sink.new) (K.faults sink.old) (K.faults sink.new) out.old out.new
         (flat_map row_line table.now) }
 {
@@ -35,7 +35,12 @@ fn put_listing<K: Sink>(table: &Table, out: &mut OutputBuffer, sink: &mut K)
 }
 
 /// Puts a reply, where a listing is that of the table.
-pub fn put_reply<K: Sink>(table: &Table, reply: LineReply, out: &mut OutputBuffer, sink: &mut K)
+pub fn put_reply<P: Policy, K: Sink>(
+    table: &Table<P>,
+    reply: LineReply,
+    out: &mut OutputBuffer,
+    sink: &mut K,
+)
     ensures puts { Puts (K.written sink.old) (K.written sink.new) (K.faults sink.old) (K.faults sink.new) out.old out.new
         (reply_text (shown table.now reply)) }
 {

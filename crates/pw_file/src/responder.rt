@@ -1,16 +1,16 @@
 //! The table as what answers the lines of a command file.
 
-use crate::Table;
 use crate::answer::answer_line;
 use crate::listing::put_reply;
+use crate::{Policy, Table};
 use line_io::{OutputBuffer, Sink};
 use line_program::Responder;
 use std::alloc::AllocError;
 
-impl Responder for Table {
+impl<P: Policy> Responder for Table<P> {
     ghost use Rattle.pw_file.specs.Rules.{table_rules};
 
-    ghost rules = { table_rules };
+    ghost rules = { table_rules P.policy };
 
     fn answer<K: Sink>(
         &mut self,

@@ -1,27 +1,22 @@
 //! The table.
 
-ghost use Rattle.std.specs.Prelude.{◌≡◌, ◌≢◌, ◌⊎◌, ◌≤◌, ◌∷◌, ◌++◌, ℕ, List, [], true, Err, None, Ok, is_ok, is_some, length, slice_get, string_bytes, IfOk, IfSome, OnErr, OnOk};
+ghost use Rattle.std.specs.Prelude.{◌≡◌, ◌≢◌, ◌⊎◌, ◌≤◌, ◌∷◌, ◌++◌, ℕ, List, [], true, Err, None, Ok, is_ok, is_some, length, slice_get, string_bytes, IfErr, IfOk, IfSome, OnErr, OnOk};
 ghost use Rattle.std.specs.Option.{option_copied, option_map};
-ghost use Rattle.phc.specs.Encoded.{encoding};
-ghost use Rattle.pw_file.specs.Answers.{IsAnswer, check_answer, check_may_lack, done_of, exchange_answer, has_room, has_text, set_answer, set_fault, upgrade_answer, upgrade_may_lack};
+ghost use Rattle.pw_file.specs.Answers.{IsAnswer, check_answer, check_may_lack, checked, done_of, exchange_answer, has_room, has_text, open_text, set_answer, set_fault, upgrade_answer, upgrade_may_lack};
 ghost use Rattle.pw_file.specs.Calls.{after_check, after_set, after_upgrade, rows_after_set, rows_after_upgrade, with_text};
 ghost use Rattle.pw_file.specs.History.{History, IsContentOf, text_in};
 ghost use Rattle.pw_file.specs.Replies.{row_line};
-ghost use Rattle.pw_file.specs.Verdicts.{upgraded_text};
+ghost use Rattle.pw_file.specs.Upgraded.{upgraded_text};
 ghost use Rattle.pw_file.specs.Limits.{text_max, users_max};
 ghost use Rattle.stored_check.specs.Limits.{password_max};
 
-use crate::FileError;
-use crate::faults::checked;
-use base64ct::{Base64Unpadded, Encoding};
+use crate::upgraded::upgraded_text;
+use crate::{FileError, Policy, UserName};
 use indexmap::IndexMap;
-use mcf::PasswordHashRef;
-use phc::{Ident, SaltString};
+use phc::SaltString;
 use pieces::short_bytes::ShortBytes;
-use scrypt_plain::ScryptKept;
 use std::alloc::{AllocError, Global};
 use std::marker::Model;
-use stored_check::{check_stored, mcf_name};
 
 /// The most bytes of a text.
 pub const TEXT_MAX: usize = 1_024;
@@ -29,21 +24,21 @@ pub const TEXT_MAX: usize = 1_024;
 /// The most users.
 pub const USERS_MAX: usize = 4_096;
 
-/// The most bytes of a line of a listing: `set`, a tab, a name of 32 bytes, a tab, a text, a line feed.
-pub const ROW_LINE_MAX: usize = 1_062;
+/// The most bytes of a line of a listing: `set`, a tab, a name of 64 bytes, a tab, a text, a line feed.
+pub const ROW_LINE_MAX: usize = 1_094;
 
 /// Users and their stored texts, in the order in which the users came. Contracts see the list of them.
 ///
-/// There are at most 4,096 users, each with one text of at most 1,024 bytes.
-/// The table of the largest scrypt record so far is kept, and given back when this is dropped.
+/// There are at most 4,096 users, each with one text of at most 1,024 bytes. What the policy keeps from verdict to verdict
+/// is given back when this is dropped.
 #[derive(Drop)]
-pub struct Table {
-    texts: IndexMap<Ident, String>,
-    kdf: ScryptKept,
+pub struct Table<P: Policy> {
+    texts: IndexMap<UserName<P>, String>,
+    kept: P::Kept,
     alloc: Global,
 }
 
-impl Model for Table {
+impl<P: Policy> Model for Table<P> {
     ghost use Rattle.std.specs.Prelude.{◌≡◌, ◌≤◌, ℕ, List, length, true};
     ghost use Rattle.pw_file.specs.Table.{are_short, rows_of};
     ghost use Rattle.pw_file.specs.Limits.{users_max};
@@ -57,12 +52,12 @@ impl Model for Table {
 
 /// A user, and the text that it had before an exchange, if it had one.
 #[derive(Drop)]
-pub struct Replaced {
-    user: Ident,
+pub struct Replaced<P: Policy> {
+    user: UserName<P>,
     text: Option<String>,
 }
 
-impl Model for Replaced {
+impl<P: Policy> Model for Replaced<P> {
     ghost use Rattle.std.specs.Prelude.{◌≤◌, ℕ, List, Option, IfSome, length, string_bytes};
     ghost use Rattle.std.specs.Option.{option_map};
     ghost use Rattle.pw_file.specs.Limits.{text_max};
@@ -75,80 +70,41 @@ impl Model for Replaced {
 }
 
 // An answer of `exchange`, without what it gives.
-fn done_of(answer: Result<Replaced, FileError>) -> Result<(), FileError>
+fn done_of<P: Policy>(
+    answer: Result<Replaced<P>, FileError<P::TextFault, P::VerdictFault>>,
+) -> Result<(), FileError<P::TextFault, P::VerdictFault>>
     ensures { result ≡ done_of answer }
 {
     match answer {
-        Ok(_) => Ok(()),
+        Ok(_replaced) => Ok(()),
         Err(e) => Err(e),
     }
 }
 
-// The encoding of a key of 32 bytes.
-fn encoded<'a>(key: &[u8], room: &'a mut [u8]) -> &'a str
-    requires key { length key.now ≡ 32 }
-    requires room { 43 ≤ length room.old }
-    ensures text { result.now ≡ encoding key.now }
-{
-    match Base64Unpadded::encode(key, room) {
-        Ok(text) => text,
-        Err(_) => "",
-    }
-}
-
-// The text that an upgrade makes.
-fn upgraded_text(
-    alloc: Global,
-    kdf: &ScryptKept,
-    password: &str,
-    salt: &SaltString,
-) -> Result<String, AllocError>
-    requires short { length password.now ≤ password_max }
-    ensures text { IfOk result (λ text. string_bytes text ≡ upgraded_text password.now salt.now) }
-    ensures length { IfOk result (λ text. length (string_bytes text) ≤ text_max) }
-{
-    let mut key = [0; 32];
-    kdf.scrypt_into(
-        alloc,
-        password.as_bytes(),
-        salt.to_salt().as_bytes(),
-        14,
-        8,
-        1,
-        &mut key,
-    )?;
-    let mut room = [0; 43];
-    let mut text = String::from_str(alloc, "$scrypt$ln=14,r=8,p=1$")?;
-    text.push_str(salt.as_str())?;
-    text.push_str("$")?;
-    text.push_str(encoded(&key, &mut room))?;
-    Ok(text)
-}
-
 /// The command that sets the text of the user, with its line feed.
-pub fn line_of_row(user: Ident, text: &str) -> ShortBytes<ROW_LINE_MAX>
+pub fn line_of_row<P: Policy>(user: &UserName<P>, text: &str) -> ShortBytes<ROW_LINE_MAX>
     requires short { length text.now ≤ text_max }
-    ensures line { result ≡ row_line (user, text.now) }
+    ensures line { result ≡ row_line (user.now, text.now) }
 {
-    let name = user.as_str();
+    let name = user.as_bytes();
     let mut line = ShortBytes::new();
     line.push_all(b"set\t");
-    line.push_all(name.as_bytes());
+    line.push_all(name);
     line.push_all(b"\t");
     line.push_all(text.as_bytes());
     line.push_all(b"\n");
     line
 }
 
-impl Table {
-    /// No users.
-    pub fn new(alloc: Global) -> Table
+impl<P: Policy> Table<P> {
+    /// No users. Verdicts use what is kept.
+    pub fn new(alloc: Global, kept: P::Kept) -> Table<P>
         ensures empty { result ≡ [] }
-        ensures content { IsContentOf [] result }
+        ensures content { IsContentOf P.policy [] result }
     {
         Table {
             texts: IndexMap::new(alloc),
-            kdf: ScryptKept::new(alloc),
+            kept,
             alloc,
         }
     }
@@ -162,32 +118,32 @@ impl Table {
     }
 
     /// The user at a place, by the order in which they came.
-    pub fn user(&self, i: usize) -> Option<Ident>
+    pub fn user(&self, i: usize) -> Option<UserName<P>>
         ensures user { result ≡ option_map (λ row. row.0) (slice_get self.now i) }
     {
         match self.texts.get_index(i) {
-            Some((user, _)) => Some(*user),
+            Some((user, _)) => Some(user.copied()),
             None => None,
         }
     }
 
     /// The user's text.
-    pub fn get(&self, user: Ident) -> Option<&str>
-        ensures text { option_copied result ≡ text_in self.now user }
+    pub fn get(&self, user: &UserName<P>) -> Option<&str>
+        ensures text { option_copied result ≡ text_in self.now user.now }
     {
-        match self.texts.get(&user) {
+        match self.texts.get(user) {
             Some(text) => Some(text.as_str()),
             None => None,
         }
     }
 
     /// The user at a place and its text, which has at most 1,024 bytes.
-    pub fn row(&self, i: usize) -> Option<(Ident, &str)>
+    pub fn row(&self, i: usize) -> Option<(UserName<P>, &str)>
         ensures row { option_map (λ row. (row.0, row.1.now)) result ≡ slice_get self.now i }
         ensures short { IfSome result (λ row. length row.1.now ≤ text_max) }
     {
         match self.texts.get_index(i) {
-            Some((user, text)) => Some((*user, text.as_str())),
+            Some((user, text)) => Some((user.copied(), text.as_str())),
             None => None,
         }
     }
@@ -197,42 +153,85 @@ impl Table {
         ensures line { result ≡ option_map row_line (slice_get self.now i) }
     {
         match self.row(i) {
-            Some((user, text)) => Some(line_of_row(user, text)),
+            Some((user, text)) => Some(line_of_row(&user, text)),
             None => None,
         }
     }
 
     // Whether the user has a text.
-    fn has(&self, user: Ident) -> bool
-        ensures has { result ≡ is_some (text_in self.now user) }
+    fn has(&self, user: &UserName<P>) -> bool
+        ensures has { result ≡ is_some (text_in self.now user.now) }
     {
-        self.texts.contains_key(&user)
+        self.texts.contains_key(user)
+    }
+
+    // The user's text, by which a password is judged; or there is none, or it is locked.
+    fn open_text(
+        &self,
+        user: &UserName<P>,
+    ) -> Result<&str, FileError<P::TextFault, P::VerdictFault>>
+        ensures text { IfOk result (λ text. open_text P.policy (text_in self.now user.now) ≡ Ok text.now) }
+        ensures refused { IfErr result (λ e. open_text P.policy (text_in self.now user.now) ≡ Err e) }
+    {
+        match self.get(user) {
+            Some(text) => {
+                if P::is_locked(text) {
+                    Err(FileError::Locked)
+                } else {
+                    Ok(text)
+                }
+            }
+            None => Err(FileError::NoUser),
+        }
+    }
+
+    // The verdict on a text.
+    fn judged(
+        &self,
+        password: &str,
+        text: &str,
+    ) -> Result<bool, FileError<P::TextFault, P::VerdictFault>>
+        ensures answer { IsAnswer
+            (checked (P.policy.verdict password.now text.now)) (P.policy.may_lack password.now text.now) result }
+    {
+        match P::verdict(self.alloc, &self.kept, password, text) {
+            Ok(Ok(matches)) => Ok(matches),
+            Ok(Err(e)) => Err(FileError::Check(e)),
+            Err(_) => Err(FileError::OutOfMemory),
+        }
     }
 
     // Makes this the user's text, and gives the one before. A new user goes last. Only a new user can want memory.
-    fn put(&mut self, user: Ident, text: String) -> Result<Replaced, AllocError>
-        requires room { has_room (text_in self.old user) (length self.old) ≡ true }
+    fn put(&mut self, user: &UserName<P>, text: String) -> Result<Replaced<P>, AllocError>
+        requires room { has_room (text_in self.old user.now) (length self.old) ≡ true }
         requires short { length (string_bytes text) ≤ text_max }
-        ensures put { OnOk result (self.new ≡ with_text self.old user (string_bytes text)) }
-        ensures replaced { IfOk result (λ replaced. replaced ≡ (user, text_in self.old user)) }
+        ensures put { OnOk result (self.new ≡ with_text self.old user.now (string_bytes text)) }
+        ensures replaced { IfOk result (λ replaced. replaced ≡ (user.now, text_in self.old user.now)) }
         ensures err { OnErr result (self.new ≡ self.old) }
-        ensures new { OnErr result (text_in self.old user ≡ None) }
+        ensures new { OnErr result (text_in self.old user.now ≡ None) }
     {
-        match self.texts.insert(user, text) {
-            Ok(text) => Ok(Replaced { user, text }),
+        match self.texts.insert(user.copied(), text) {
+            Ok(text) => Ok(Replaced {
+                user: user.copied(),
+                text,
+            }),
             Err(_) => Err(AllocError),
         }
     }
 
     // Why the text isn't taken for the user, if it isn't.
-    fn set_fault(&self, user: Ident, text: &str) -> Option<FileError>
-        ensures fault { result ≡ set_fault (text_in self.now user) (length self.now) text.now }
+    fn set_fault(
+        &self,
+        user: &UserName<P>,
+        text: &str,
+    ) -> Option<FileError<P::TextFault, P::VerdictFault>>
+        ensures fault { result ≡ set_fault P.policy (text_in self.now user.now) (length self.now) text.now }
     {
         if text.len() > TEXT_MAX {
             return Some(FileError::TextTooLong);
         }
-        if let Err(e) = PasswordHashRef::new(text) {
-            return Some(FileError::BadText(mcf_name(e)));
+        if let Some(e) = P::text_fault(text) {
+            return Some(FileError::BadText(e));
         }
         if !self.has(user) && self.len() >= USERS_MAX {
             return Some(FileError::Full);
@@ -241,11 +240,15 @@ impl Table {
     }
 
     // Makes a copy of this the user's text, and gives the one before.
-    fn put_copy(&mut self, user: Ident, text: &str) -> Result<Replaced, FileError>
-        requires room { has_room (text_in self.old user) (length self.old) ≡ true }
+    fn put_copy(
+        &mut self,
+        user: &UserName<P>,
+        text: &str,
+    ) -> Result<Replaced<P>, FileError<P::TextFault, P::VerdictFault>>
+        requires room { has_room (text_in self.old user.now) (length self.old) ≡ true }
         requires short { length text.now ≤ text_max }
-        ensures answer { (result ≡ Ok (user, text_in self.old user)) ⊎ (result ≡ Err FileError.OutOfMemory) }
-        ensures rows { self.new ≡ rows_after_set self.old user text.now (done_of result) }
+        ensures answer { (result ≡ Ok (user.now, text_in self.old user.now)) ⊎ (result ≡ Err FileError.OutOfMemory) }
+        ensures rows { self.new ≡ rows_after_set self.old user.now text.now (done_of result) }
     {
         let Ok(copy) = String::from_str(self.alloc, text) else {
             return Err(FileError::OutOfMemory);
@@ -257,19 +260,23 @@ impl Table {
     }
 
     /// Does what [`set`](Table::set) does, and gives what [`put_back`](Table::put_back) takes the change back by.
-    pub fn exchange(&mut self, user: Ident, text: &str) -> Result<Replaced, FileError>
+    pub fn exchange(
+        &mut self,
+        user: &UserName<P>,
+        text: &str,
+    ) -> Result<Replaced<P>, FileError<P::TextFault, P::VerdictFault>>
         ensures answer { IsAnswer
-            (exchange_answer user (text_in self.old user) (length self.old) text.now)
-            (is_ok (set_answer (text_in self.old user) (length self.old) text.now))
+            (exchange_answer P.policy user.now (text_in self.old user.now) (length self.old) text.now)
+            (is_ok (set_answer P.policy (text_in self.old user.now) (length self.old) text.now))
             result }
-        ensures rows { self.new ≡ rows_after_set self.old user text.now (done_of result) }
-        ensures content { (h : History) → IsContentOf h self.old
-            → IsContentOf (after_set h user text.now (done_of result)) self.new }
+        ensures rows { self.new ≡ rows_after_set self.old user.now text.now (done_of result) }
+        ensures content { (h : History) → IsContentOf P.policy h self.old
+            → IsContentOf P.policy (after_set h user.now text.now (done_of result)) self.new }
     {
         match self.set_fault(user, text) {
             Some(e) => Err(e),
             None => {
-                // That the name is UTF-8 bytes of a name, which the prover has from this call.
+                // That the name is one of the policy, which the prover has from this call.
                 let _name = user.as_str();
                 self.put_copy(user, text)
             }
@@ -280,21 +287,22 @@ impl Table {
     /// that was new is gone.
     ///
     /// Several are taken back from the last to the first.
-    pub fn put_back(&mut self, replaced: Replaced)
+    pub fn put_back(&mut self, replaced: Replaced<P>)
         ensures back { (rows : List (List ℕ × List ℕ)) (new : List ℕ) → self.old ≡ with_text rows replaced.0 new
             → replaced.1 ≡ text_in rows replaced.0 → self.new ≡ rows }
     {
         let Replaced { user, text } = replaced;
         match text {
-            Some(text) => self.put_again(user, text),
+            Some(text) => self.put_again(&user, text),
             None => self.drop_last(),
         }
     }
 
     // Makes this the text of the user, where it has one. No memory is taken.
-    fn put_again(&mut self, user: Ident, text: String)
+    fn put_again(&mut self, user: &UserName<P>, text: String)
         requires short { length (string_bytes text) ≤ text_max }
-        ensures put { is_some (text_in self.old user) ≡ true → self.new ≡ with_text self.old user (string_bytes text) }
+        ensures put { is_some (text_in self.old user.now) ≡ true
+            → self.new ≡ with_text self.old user.now (string_bytes text) }
     {
         if self.has(user) {
             let _ = self.put(user, text);
@@ -309,29 +317,39 @@ impl Table {
     }
 
     /// Makes this the user's text, in the place of the one before. A new user goes last.
-    pub fn set(&mut self, user: Ident, text: &str) -> Result<(), FileError>
+    pub fn set(
+        &mut self,
+        user: &UserName<P>,
+        text: &str,
+    ) -> Result<(), FileError<P::TextFault, P::VerdictFault>>
         ensures answer { IsAnswer
-            (set_answer (text_in self.old user) (length self.old) text.now)
-            (is_ok (set_answer (text_in self.old user) (length self.old) text.now))
+            (set_answer P.policy (text_in self.old user.now) (length self.old) text.now)
+            (is_ok (set_answer P.policy (text_in self.old user.now) (length self.old) text.now))
             result }
-        ensures rows { self.new ≡ rows_after_set self.old user text.now result }
-        ensures others { (other : List ℕ) → other ≢ user → text_in self.new other ≡ text_in self.old other }
-        ensures content { (h : History) → IsContentOf h self.old → IsContentOf (after_set h user text.now result) self.new }
+        ensures rows { self.new ≡ rows_after_set self.old user.now text.now result }
+        ensures others { (other : List ℕ) → other ≢ user.now → text_in self.new other ≡ text_in self.old other }
+        ensures content { (h : History) → IsContentOf P.policy h self.old
+            → IsContentOf P.policy (after_set h user.now text.now result) self.new }
     {
         done_of(self.exchange(user, text))
     }
 
     /// Whether the user's text matches the password.
-    pub fn check(&self, user: Ident, password: &str) -> Result<bool, FileError>
+    pub fn check(
+        &self,
+        user: &UserName<P>,
+        password: &str,
+    ) -> Result<bool, FileError<P::TextFault, P::VerdictFault>>
         ensures answer { IsAnswer
-            (check_answer (text_in self.now user) password.now)
-            (check_may_lack (text_in self.now user) password.now)
+            (check_answer P.policy (text_in self.now user.now) password.now)
+            (check_may_lack P.policy (text_in self.now user.now) password.now)
             result }
-        ensures content { (h : History) → IsContentOf h self.now → IsContentOf (after_check h user password.now result) self.now }
+        ensures content { (h : History) → IsContentOf P.policy h self.now
+            → IsContentOf P.policy (after_check h user.now password.now result) self.now }
     {
-        match self.get(user) {
-            Some(text) => checked(check_stored(self.alloc, &self.kdf, password, text)),
-            None => Err(FileError::NoUser),
+        match self.open_text(user) {
+            Ok(text) => self.judged(password, text),
+            Err(e) => Err(e),
         }
     }
 
@@ -339,26 +357,27 @@ impl Table {
     /// [`upgrade`](Table::upgrade) puts in its place, and changes nothing.
     pub fn renewed(
         &self,
-        user: Ident,
+        user: &UserName<P>,
         password: &str,
         salt: &str,
-    ) -> Result<Option<String>, FileError>
+    ) -> Result<Option<String>, FileError<P::TextFault, P::VerdictFault>>
         ensures answer { IsAnswer
-            (upgrade_answer (text_in self.now user) password.now salt.now)
-            (upgrade_may_lack (text_in self.now user) password.now salt.now)
+            (upgrade_answer P.policy (text_in self.now user.now) password.now salt.now)
+            (upgrade_may_lack P.policy (text_in self.now user.now) password.now salt.now)
             (has_text result) }
         ensures text { IfOk result (λ new. IfSome new (λ text. string_bytes text ≡ upgraded_text password.now salt.now)) }
         ensures taken { IfOk result (λ new. IfSome new (λ text.
-            set_answer (text_in self.now user) (length self.now) (string_bytes text) ≡ Ok tt)) }
+            set_answer P.policy (text_in self.now user.now) (length self.now) (string_bytes text) ≡ Ok tt)) }
     {
-        if !self.has(user) {
-            return Err(FileError::NoUser);
-        }
+        let text = match self.open_text(user) {
+            Ok(text) => text,
+            Err(e) => return Err(e),
+        };
         let salt = match SaltString::from_b64(salt) {
             Ok(salt) => salt,
             Err(e) => return Err(FileError::BadSalt(e)),
         };
-        match self.check(user, password) {
+        match self.judged(password, text) {
             Ok(true) => self.fresh(password, &salt),
             Ok(false) => Ok(None),
             Err(e) => Err(e),
@@ -366,12 +385,16 @@ impl Table {
     }
 
     // The text that an upgrade makes, or memory is wanting.
-    fn fresh(&self, password: &str, salt: &SaltString) -> Result<Option<String>, FileError>
+    fn fresh(
+        &self,
+        password: &str,
+        salt: &SaltString,
+    ) -> Result<Option<String>, FileError<P::TextFault, P::VerdictFault>>
         requires short { length password.now ≤ password_max }
         ensures answer { (has_text result ≡ Ok true) ⊎ (has_text result ≡ Err FileError.OutOfMemory) }
         ensures text { IfOk result (λ new. IfSome new (λ text. string_bytes text ≡ upgraded_text password.now salt.now)) }
     {
-        match upgraded_text(self.alloc, &self.kdf, password, salt) {
+        match upgraded_text(self.alloc, P::scrypt(&self.kept), password, salt) {
             Ok(text) => Ok(Some(text)),
             Err(_) => Err(FileError::OutOfMemory),
         }
@@ -379,19 +402,24 @@ impl Table {
 
     /// Checks as [`check`](Table::check). Where the text matches, the user's text is from then on a new one of
     /// scrypt for the password and the salt.
-    pub fn upgrade(&mut self, user: Ident, password: &str, salt: &str) -> Result<bool, FileError>
+    pub fn upgrade(
+        &mut self,
+        user: &UserName<P>,
+        password: &str,
+        salt: &str,
+    ) -> Result<bool, FileError<P::TextFault, P::VerdictFault>>
         ensures answer { IsAnswer
-            (upgrade_answer (text_in self.old user) password.now salt.now)
-            (upgrade_may_lack (text_in self.old user) password.now salt.now)
+            (upgrade_answer P.policy (text_in self.old user.now) password.now salt.now)
+            (upgrade_may_lack P.policy (text_in self.old user.now) password.now salt.now)
             result }
-        ensures rows { self.new ≡ rows_after_upgrade self.old user password.now salt.now result }
-        ensures others { (other : List ℕ) → other ≢ user → text_in self.new other ≡ text_in self.old other }
-        ensures content { (h : History) → IsContentOf h self.old
-            → IsContentOf (after_upgrade h user password.now salt.now result) self.new }
+        ensures rows { self.new ≡ rows_after_upgrade self.old user.now password.now salt.now result }
+        ensures others { (other : List ℕ) → other ≢ user.now → text_in self.new other ≡ text_in self.old other }
+        ensures content { (h : History) → IsContentOf P.policy h self.old
+            → IsContentOf P.policy (after_upgrade h user.now password.now salt.now result) self.new }
     {
         match self.renewed(user, password, salt) {
             Ok(Some(text)) => {
-                // That the name is UTF-8 bytes of a name, which the prover has from this call.
+                // That the name is one of the policy, which the prover has from this call.
                 let _name = user.as_str();
                 self.put_again(user, text);
                 Ok(true)

@@ -1,5 +1,4 @@
-use Rattle.pw_file.proofs.UpgradedTexts.{upgraded_matches}
 use Rattle.pw_file.proofs.laws.upgraded_matches.Goals as goal
 
 pub returns : goal.returns
-returns c = upgraded_matches
+returns g c = record { law = g.met.P.Policy.lawful.fresh_matches }

@@ -1,10 +1,13 @@
 use Rattle.std.proofs.Common.{◌<◌, ◌∙◌, sym, take, length}
 use Rattle.std.specs.List.{flat_map}
-use Rattle.line_io.proofs.Gathering.{puts_more}
+use Rattle.line_io.proofs.Gathering.{puts_more, puts_none}
 use Rattle.pw_file.specs.Replies.{row_line}
 use Rattle.pw_file.proofs.Output.{row_more, row_there}
 use Rattle.pw_file.proofs.listing.put_listing.Goals as goal
 use Rattle.pw_file.proofs.listing.put_listing.Goals.{in-Some, in-None}
+
+pub loop-i-init : goal.loop-i-init
+loop-i-init g c = puts_none (g.K.Sink.written c.args.sink.now) (g.K.Sink.faults c.args.sink.now) c.args.out.now
 
 pub loop-i-preserved : goal.loop-i-preserved
 loop-i-preserved g c =

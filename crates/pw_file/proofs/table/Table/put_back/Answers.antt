@@ -5,7 +5,7 @@ use Rattle.pw_file.proofs.Replacing.{text_is_back, user_is_gone}
 use Rattle.pw_file.proofs.table.Table.put_back.Goals as goal
 
 pub returns-in-Some : goal.returns-in-Some
-returns-in-Some c =
+returns-in-Some g c =
     let view = ap (λ (o : Option (String _)). (c.replaced.inside.user, option_map string_bytes o)) (sym c.in-Some.is)
     ∙ c.replaced.view_is in
     record {
@@ -14,7 +14,7 @@ returns-in-Some c =
     }
 
 pub returns-in-None : goal.returns-in-None
-returns-in-None c =
+returns-in-None g c =
     let view = ap (λ (o : Option (String _)). (c.replaced.inside.user, option_map string_bytes o)) (sym c.in-None.is)
     ∙ c.replaced.view_is in
     record {

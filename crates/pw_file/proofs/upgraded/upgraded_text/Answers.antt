@@ -3,7 +3,7 @@ use Rattle.std.specs.Prelude.{string_bytes}
 use Rattle.scrypt_plain.specs.Scrypt.{scrypt}
 use Rattle.pw_file.proofs.UpgradedTexts.{fresh_short}
 use Rattle.pw_file.proofs.TableAnswers.{fresh_text}
-use Rattle.pw_file.proofs.table.upgraded_text.Goals as goal
+use Rattle.pw_file.proofs.upgraded.upgraded_text.Goals as goal
 
 pub returns : goal.returns
 returns c =
