@@ -11,17 +11,17 @@ ghost use Rattle.pw_store.specs.Stored.{IsSound, device_of, is_disk_fault, rows_
 
 use crate::{Store, StoreError};
 use line_log::{Device, Failed};
-use pw_file::{FileError, Table, line_of_row};
+use pw_file::{FileError, Policy, Table, line_of_row};
 use std::alloc::{AllocError, Global};
 
 // Adds the line of the user at a place.
-fn push_row(table: &Table, i: usize, lines: &mut Vec<u8>) -> Result<(), AllocError>
+fn push_row<P: Policy>(table: &Table<P>, i: usize, lines: &mut Vec<u8>) -> Result<(), AllocError>
     ensures none { slice_get table.now i ≡ None → lines.new.items ≡ lines.old.items }
     ensures some { (row : List ℕ × List ℕ) → slice_get table.now i ≡ Some row → OnOk result (lines.new.items ≡ lines.old.items ++ row_line row) }
 {
     match table.row(i) {
         Some((user, text)) => {
-            let line = line_of_row(user, text);
+            let line = line_of_row(&user, text);
             lines.extend_from_slice(line.as_slice())?;
             Ok(())
         }
@@ -30,7 +30,7 @@ fn push_row(table: &Table, i: usize, lines: &mut Vec<u8>) -> Result<(), AllocErr
 }
 
 // The line of each user.
-fn all_lines(alloc: Global, table: &Table) -> Result<Vec<u8>, AllocError>
+fn all_lines<P: Policy>(alloc: Global, table: &Table<P>) -> Result<Vec<u8>, AllocError>
     ensures lines { IfOk result (λ lines. lines.items ≡ flat_map row_line table.now) }
     ensures few { OnOk result (length table.now ≤ users_max) }
 {
@@ -41,23 +41,23 @@ fn all_lines(alloc: Global, table: &Table) -> Result<Vec<u8>, AllocError>
     Ok(lines)
 }
 
-impl<D: Device> Store<D> {
+impl<D: Device, P: Policy> Store<D, P> {
     /// Writes a file of one line for each user in the place of the one that is there. The content is the same.
     ///
     /// After a fault of a write no further change is taken.
-    pub fn compact(&mut self) -> Result<(), StoreError>
-        requires sound { IsSound D.seen D.may_leave self.old }
+    pub fn compact(&mut self) -> Result<(), StoreError<P::TextFault, P::VerdictFault>>
+        requires sound { IsSound P.policy D.seen D.may_leave self.old }
         ensures answer { (result ≡ Ok tt) ⊎ ((result ≡ Err (StoreError.Table FileError.OutOfMemory))
             ⊎ ((result ≡ Err StoreError.DiskFault) × ((takes_changes self.old ≡ false)
             ⊎ HasRisen (D.faults (device_of self.old)) (D.faults (device_of self.new))))) }
         ensures open { result ≡ Ok tt → takes_changes self.old ≡ true }
         ensures rows { rows_of self.new ≡ rows_of self.old }
         ensures takes { takes_changes self.new ≡ takes_changes self.old && not (is_disk_fault result) }
-        ensures sound { IsSound D.seen D.may_leave self.new }
+        ensures sound { IsSound P.policy D.seen D.may_leave self.new }
 
         // A crash at any moment of the call leaves a file of the same content.
         ensures any_moment { takes_changes self.old ≡ true → LeavesOnly D.moment D.left_since (device_of self.old) (device_of self.new)
-            (StandsFor (rows_of self.old)) }
+            (StandsFor P.policy (rows_of self.old)) }
 
         // Where no change is taken the device isn't called.
         ensures closed { takes_changes self.old ≡ false → device_of self.new ≡ device_of self.old }

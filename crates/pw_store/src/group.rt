@@ -6,19 +6,19 @@ ghost use Rattle.pw_file.specs.History.{Rows};
 ghost use Rattle.pw_store.specs.Staged.{Undoes, lines_of, undo_of};
 
 use line_log::GROUP_MAX;
-use pw_file::{ROW_LINE_MAX, Replaced, Table};
+use pw_file::{Policy, ROW_LINE_MAX, Replaced, Table};
 use std::alloc::Global;
 
 /// Changes that are in the table and not yet in the file: their lines, and what takes them back.
 #[derive(Drop)]
-pub(crate) struct Group {
+pub(crate) struct Group<P: Policy> {
     pub lines: Vec<u8>,
-    pub undo: Vec<Replaced>,
+    pub undo: Vec<Replaced<P>>,
 }
 
-impl Group {
+impl<P: Policy> Group<P> {
     /// No changes.
-    pub fn new(alloc: Global) -> Group
+    pub fn new(alloc: Global) -> Group<P>
         ensures lines { lines_of result ≡ [] }
         ensures undo { undo_of result ≡ [] }
     {
@@ -43,7 +43,7 @@ impl Group {
     }
 
     /// Adds a change that is in the table. Where memory is wanting, what takes it back is given back.
-    pub fn push(&mut self, replaced: Replaced, line: &[u8]) -> Result<(), Replaced>
+    pub fn push(&mut self, replaced: Replaced<P>, line: &[u8]) -> Result<(), Replaced<P>>
         ensures lines { OnOk result (lines_of self.new ≡ lines_of self.old ++ line.now) }
         ensures undo { OnOk result (undo_of self.new ≡ undo_of self.old ++ replaced ∷ []) }
         ensures back { IfErr result (λ back. back ≡ replaced) }
@@ -74,7 +74,7 @@ impl Group {
     }
 
     /// Takes the changes back, the last one first.
-    pub fn take_back(&mut self, table: &mut Table)
+    pub fn take_back(&mut self, table: &mut Table<P>)
         ensures back { (rows : Rows) → Undoes rows (undo_of self.old) table.old → table.new ≡ rows }
         ensures lines { lines_of self.new ≡ [] }
         ensures undo { undo_of self.new ≡ [] }

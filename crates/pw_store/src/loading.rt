@@ -8,17 +8,17 @@ ghost use Rattle.pw_store.specs.Store.{is_taken};
 
 use line_io::LINE_MAX;
 use line_log::Taker;
-use pw_file::{Command, FileError, Table};
+use pw_file::{Command, FileError, Policy, Table};
 use std::alloc::AllocError;
 
 /// A table that takes the lines of a file. No key is derived for any of them.
 #[derive(Drop)]
-pub struct Loading {
-    pub table: Table,
+pub struct Loading<P: Policy> {
+    pub table: Table<P>,
 }
 
 // A line that is refused isn't taken, unless memory is wanting.
-fn refusal(e: FileError) -> Result<bool, AllocError>
+fn refusal<T: Copy, V: Copy>(e: FileError<T, V>) -> Result<bool, AllocError>
     ensures refused { IfOk result (λ taken. taken ≡ false) }
     ensures known { IfOk result (λ taken. is_want {A = Bool} (Err e) ≡ false) }
 {
@@ -29,13 +29,13 @@ fn refusal(e: FileError) -> Result<bool, AllocError>
 }
 
 // Takes a command that is a `set`.
-fn take_command(table: &mut Table, command: Command<'_>) -> Result<bool, AllocError>
-    ensures taken { (line : List ℕ) → Asks line (command_of command.entry) → IfOk result (λ taken. taken ≡ is_taken table.old line) }
-    ensures after { (line : List ℕ) → Asks line (command_of command.entry)
-        → IfOk result (λ taken. taken ≡ true → table.new ≡ table_after table.old line) }
+fn take_command<P: Policy>(table: &mut Table<P>, command: Command<'_, P>) -> Result<bool, AllocError>
+    ensures taken { (line : List ℕ) → Asks P.policy line (command_of command.entry) → IfOk result (λ taken. taken ≡ is_taken P.policy table.old line) }
+    ensures after { (line : List ℕ) → Asks P.policy line (command_of command.entry)
+        → IfOk result (λ taken. taken ≡ true → table.new ≡ table_after P.policy table.old line) }
 {
     match command {
-        Command::Set { user, text } => match table.set(user, text) {
+        Command::Set { user, text } => match table.set(&user, text) {
             Ok(()) => Ok(true),
             Err(e) => refusal(e),
         },
@@ -46,9 +46,9 @@ fn take_command(table: &mut Table, command: Command<'_>) -> Result<bool, AllocEr
 }
 
 // Takes a line that is a `set`.
-fn take_line(table: &mut Table, line: &[u8]) -> Result<bool, AllocError>
-    ensures taken { IfOk result (λ taken. taken ≡ is_taken table.old line.now) }
-    ensures after { IfOk result (λ taken. taken ≡ true → table.new ≡ table_after table.old line.now) }
+fn take_line<P: Policy>(table: &mut Table<P>, line: &[u8]) -> Result<bool, AllocError>
+    ensures taken { IfOk result (λ taken. taken ≡ is_taken P.policy table.old line.now) }
+    ensures after { IfOk result (λ taken. taken ≡ true → table.new ≡ table_after P.policy table.old line.now) }
 {
     if line.len() > LINE_MAX {
         return Ok(false);
@@ -59,10 +59,10 @@ fn take_line(table: &mut Table, line: &[u8]) -> Result<bool, AllocError>
     }
 }
 
-impl Taker for Loading {
-    ghost takes = { λ s line. is_taken s.table line };
+impl<P: Policy> Taker for Loading<P> {
+    ghost takes = { λ s line. is_taken P.policy s.table line };
 
-    ghost after = { λ s line. record { table = table_after s.table line } };
+    ghost after = { λ s line. record { table = table_after P.policy s.table line } };
 
     fn take(&mut self, line: &[u8]) -> Result<bool, AllocError> {
         take_line(&mut self.table, line)

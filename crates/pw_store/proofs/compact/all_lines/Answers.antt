@@ -6,7 +6,7 @@ use Rattle.pw_file.proofs.Output.{row_more, row_there}
 use Rattle.pw_store.proofs.compact.all_lines.Goals as goal
 
 pub loop-i-preserved : goal.loop-i-preserved
-loop-i-preserved c =
+loop-i-preserved g c =
     let within : c.loop-i.i < length c.args.table.now = rw (sym c.len-i-end.ensures.len) c.loop-i-test.true in
     by_row within (slice_get c.args.table.now c.loop-i.i) refl
   where

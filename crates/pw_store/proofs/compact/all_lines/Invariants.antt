@@ -4,4 +4,4 @@ use Rattle.pw_file.specs.Replies.{row_line}
 use Rattle.pw_store.proofs.compact.all_lines.Given as goal
 
 abbrev pub invariant-loop-i : goal.invariant-loop-i
-invariant-loop-i l = l.lines.items ≡ flat_map row_line (take l.i l.table)
+invariant-loop-i g l = l.lines.items ≡ flat_map row_line (take l.i l.table)

@@ -5,10 +5,10 @@ use Rattle.pw_store.proofs.Grouped.{undo_last}
 use Rattle.pw_store.proofs.group.Group.take_back.Goals as goal
 
 pub loop-replaced-init : goal.loop-replaced-init
-loop-replaced-init c = record { none = c.clear.ensures.items; back = λ rows held. held }
+loop-replaced-init g c = record { none = c.clear.ensures.items; back = λ rows held. held }
 
 pub loop-replaced-preserved : goal.loop-replaced-preserved
-loop-replaced-preserved c = record {
+loop-replaced-preserved g c = record {
   none = c.loop-replaced.invariant.none;
   back = λ rows held.
       let more : undo_of c.loop-replaced.self ≡ c.pop.new.self.items ++ c.in-Some.replaced ∷ [] = rw c.in-Some.is at c.pop.ensures.items in
@@ -18,9 +18,9 @@ loop-replaced-preserved c = record {
 }
 
 pub returns-clause-back : goal.returns-clause-back
-returns-clause-back c = λ rows held.
+returns-clause-back g c = λ rows held.
     let none : undo_of c.loop-replaced.self ≡ [] = search rules in
     subst (λ (us : List (List ℕ × Option (List ℕ))). Undoes rows us c.loop-replaced.table) none (c.loop-replaced.invariant.back rows held)
 
 pub returns-clause-lines : goal.returns-clause-lines
-returns-clause-lines c = c.loop-replaced.invariant.none
+returns-clause-lines g c = c.loop-replaced.invariant.none

@@ -11,10 +11,10 @@ pub returns-then-is_empty-clause-any_moment : goal.returns-then-is_empty-clause-
 returns-then-is_empty-clause-any_moment g c = λ is_open.
     let s = c.requires.staged is_open in
     let log = c.args.self.now.log in
-    let base = rows_in (g.D.Device.seen log.device) in
-    let P : List ℕ → Type 0 = λ f. StandsFor base f ⊎ StandsFor (rows_of c.args.self.now) f in
+    let base = rows_in g.P.Policy.policy (g.D.Device.seen log.device) in
+    let P : List ℕ → Type 0 = λ f. StandsFor g.P.Policy.policy base f ⊎ StandsFor g.P.Policy.policy (rows_of c.args.self.now) f in
     started g.D.Device.moment g.D.Device.left_since log.device P
-    (λ f left. inl (rest_left g.D.Device.seen g.D.Device.may_leave log base s.settled s.file f (g.met.D.Device.only_now log.device f left)))
+    (λ f left. inl (rest_left g.P.Policy.policy g.D.Device.seen g.D.Device.may_leave log base s.settled s.file f (g.met.D.Device.only_now log.device f left)))
 
 pub returns-in-Ok-clause-sound : goal.returns-in-Ok-clause-sound
 returns-in-Ok-clause-sound g c =
@@ -26,7 +26,7 @@ returns-in-Ok-clause-sound g c =
       settled = λ is_open. c.in-Ok.ensures.accepted;
       rows = λ is_open.
           let s = c.requires.staged is_open in
-          rows_of_lines _ (recovered file ++ open_lines lines) rows added (with_group file lines (rows_in file) rows s.file s.table);
+          rows_of_lines g.P.Policy.policy _ (recovered file ++ open_lines lines) rows added (with_group g.P.Policy.policy file lines (rows_in g.P.Policy.policy file) rows s.file s.table);
     }
 
 pub returns-in-Ok-clause-any_moment : goal.returns-in-Ok-clause-any_moment
@@ -36,10 +36,10 @@ returns-in-Ok-clause-any_moment g c = λ is_open.
     let file = g.D.Device.seen log.device in
     let lines = lines_of c.args.group.now in
     let rows = rows_of c.args.self.now in
-    let P : List ℕ → Type 0 = λ f. StandsFor (rows_in file) f ⊎ StandsFor rows f in
+    let P : List ℕ → Type 0 = λ f. StandsFor g.P.Policy.policy (rows_in g.P.Policy.policy file) f ⊎ StandsFor g.P.Policy.policy rows f in
     weaker g.D.Device.moment g.D.Device.left_since log.device c.put.new.self.device (IsBeforeOrAfter (recovered file) (open_lines lines)) P
     (rw c.as_slice.ensures.value at c.put.ensures.any_moment)
-    (either file lines (rows_in file) rows s.file s.table)
+    (either g.P.Policy.policy file lines (rows_in g.P.Policy.policy file) rows s.file s.table)
 
 pub returns-in-Err-clause-any_moment : goal.returns-in-Err-clause-any_moment
 returns-in-Err-clause-any_moment g c = λ is_open.
@@ -48,10 +48,10 @@ returns-in-Err-clause-any_moment g c = λ is_open.
     let file = g.D.Device.seen log.device in
     let lines = lines_of c.args.group.now in
     let rows = rows_of c.args.self.now in
-    let P : List ℕ → Type 0 = λ f. StandsFor (rows_in file) f ⊎ StandsFor rows f in
+    let P : List ℕ → Type 0 = λ f. StandsFor g.P.Policy.policy (rows_in g.P.Policy.policy file) f ⊎ StandsFor g.P.Policy.policy rows f in
     weaker g.D.Device.moment g.D.Device.left_since log.device c.put.new.self.device (IsBeforeOrAfter (recovered file) (open_lines lines)) P
     (rw c.as_slice.ensures.value at c.put.ensures.any_moment)
-    (either file lines (rows_in file) rows s.file s.table)
+    (either g.P.Policy.policy file lines (rows_in g.P.Policy.policy file) rows s.file s.table)
 
 pub returns-in-Ok-clause-size : goal.returns-in-Ok-clause-size
 returns-in-Ok-clause-size g c = λ is_open.
