@@ -11,6 +11,7 @@ use line_log::{Device, FILE_MAX, LineLog, MemoryDevice, OpenError};
 use pw_file::{FileError, StoredTexts, Table, UserName};
 use scrypt_plain::ScryptKept;
 use std::alloc::{AllocError, Global};
+use std::process::Abort;
 use std::test::Fail;
 use stored_check::McfFault;
 
@@ -34,7 +35,7 @@ const FILLERS: [Option<u8>; 3] = [None, Some(b's'), Some(b'#')];
 type Name = UserName<StoredTexts>;
 
 // The user of a name.
-fn user(rt: HostRuntime, name: &str) -> Name {
+fn user<R: Abort>(rt: &R, name: &str) -> Name {
     match UserName::new(name) {
         Some(user) => user,
         None => panic!(rt; "it is a name"),
@@ -119,8 +120,8 @@ fn is_row<D: Device>(store: &Store<D, StoredTexts>, i: usize, name: &str, text: 
 #[test]
 fn a_change_is_on_the_disk(rt: HostRuntime) -> Result<(), Fail> {
     let alloc = rt.alloc();
-    let ann = user(rt, "ann");
-    let bob = user(rt, "bob");
+    let ann = user(&rt, "ann");
+    let bob = user(&rt, "bob");
     let (device, bytes) = memory(alloc, ONE, u64::MAX - 1)?;
     let Ok(mut store) = opened(alloc, device, &bytes) else {
         panic!(rt; "it is opened")
@@ -144,7 +145,7 @@ fn a_change_is_on_the_disk(rt: HostRuntime) -> Result<(), Fail> {
 #[test]
 fn refusals_leave_the_file(rt: HostRuntime) -> Result<(), Fail> {
     let alloc = rt.alloc();
-    let bob = user(rt, "bob");
+    let bob = user(&rt, "bob");
     let (device, bytes) = memory(alloc, ONE, u64::MAX - 1)?;
     let Ok(mut store) = opened(alloc, device, &bytes) else {
         panic!(rt; "it is opened")
@@ -169,8 +170,8 @@ fn refusals_leave_the_file(rt: HostRuntime) -> Result<(), Fail> {
 #[test]
 fn a_fault_takes_the_change_back(rt: HostRuntime) -> Result<(), Fail> {
     let alloc = rt.alloc();
-    let ann = user(rt, "ann");
-    let bob = user(rt, "bob");
+    let ann = user(&rt, "ann");
+    let bob = user(&rt, "bob");
     let mut with: u64 = 0;
     let mut without: u64 = 0;
     for failing in 0..5 {
@@ -207,7 +208,7 @@ fn a_fault_takes_the_change_back(rt: HostRuntime) -> Result<(), Fail> {
 #[test]
 fn a_changed_text_is_put_back(rt: HostRuntime) -> Result<(), Fail> {
     let alloc = rt.alloc();
-    let ann = user(rt, "ann");
+    let ann = user(&rt, "ann");
     for failing in 0..5 {
         let (device, bytes) = memory(alloc, TWO, failing)?;
         let Ok(mut store) = opened(alloc, device, &bytes) else {
@@ -226,7 +227,7 @@ fn a_changed_text_is_put_back(rt: HostRuntime) -> Result<(), Fail> {
 #[test]
 fn checks_and_upgrades(rt: HostRuntime) -> Result<(), Fail> {
     let alloc = rt.alloc();
-    let ann = user(rt, "ann");
+    let ann = user(&rt, "ann");
     let (device, bytes) = memory(alloc, EMPTY, u64::MAX - 1)?;
     let Ok(mut store) = opened(alloc, device, &bytes) else {
         panic!(rt; "it is opened")
@@ -259,8 +260,8 @@ fn checks_and_upgrades(rt: HostRuntime) -> Result<(), Fail> {
 #[test]
 fn a_fault_takes_an_upgrade_back(rt: HostRuntime) -> Result<(), Fail> {
     let alloc = rt.alloc();
-    let ann = user(rt, "ann");
-    let bob = user(rt, "bob");
+    let ann = user(&rt, "ann");
+    let bob = user(&rt, "bob");
     let file = b"#pwstore 1\nset\tann\t$5$saltstring$5B8vYYiY.CVt1RlTTf8KbXBH3hsxY/GNooZaBBGWEc5\n#";
     let (device, bytes) = memory(alloc, file, 4)?;
     let Ok(mut store) = opened(alloc, device, &bytes) else {
@@ -310,7 +311,7 @@ fn a_group_is_there_whole(rt: HostRuntime) -> Result<(), Fail> {
     let Ok(mut store) = opened(alloc, device, &bytes) else {
         panic!(rt; "it is opened")
     };
-    assert_eq!(rt; set_group(&mut store, alloc, &user(rt, "ann"), &user(rt, "bob")), (true, true));
+    assert_eq!(rt; set_group(&mut store, alloc, &user(&rt, "ann"), &user(&rt, "bob")), (true, true));
     assert_eq!(rt; store.log.device.bytes(), GROUPED);
     // Two syncs for three changes.
     assert_eq!(rt; store.log.device.number(), 6);
@@ -328,7 +329,7 @@ fn a_group_is_taken_back_whole(rt: HostRuntime) -> Result<(), Fail> {
         let Ok(mut store) = opened(alloc, device, &bytes) else {
             panic!(rt; "it is opened")
         };
-        assert_eq!(rt; set_group(&mut store, alloc, &user(rt, "ann"), &user(rt, "bob")), (true, false), "at {failing}");
+        assert_eq!(rt; set_group(&mut store, alloc, &user(&rt, "ann"), &user(&rt, "bob")), (true, false), "at {failing}");
         assert!(rt; is_one(&store), "at {failing}");
         assert!(rt; !store.takes_changes());
         let (_, after, neither) = count_outcomes(alloc, &store.log.device, ONE, GROUPED)?;
@@ -341,8 +342,8 @@ fn a_group_is_taken_back_whole(rt: HostRuntime) -> Result<(), Fail> {
 #[test]
 fn a_file_that_is_full(rt: HostRuntime) -> Result<(), Fail> {
     let alloc = rt.alloc();
-    let ann = user(rt, "ann");
-    let bob = user(rt, "bob");
+    let ann = user(&rt, "ann");
+    let bob = user(&rt, "bob");
     let device = MemoryDevice::new(alloc, ONE.to_vec(alloc)?, u64::MAX)?;
     let mut table: Table<StoredTexts> = Table::new(alloc, ScryptKept::new(alloc));
     assert!(rt; table.set(&ann, "$5") == Ok(()));
@@ -375,7 +376,7 @@ fn a_file_that_is_full(rt: HostRuntime) -> Result<(), Fail> {
 #[test]
 fn compaction(rt: HostRuntime) -> Result<(), Fail> {
     let alloc = rt.alloc();
-    let ann = user(rt, "ann");
+    let ann = user(&rt, "ann");
     let (device, bytes) = memory(alloc, CHANGED, u64::MAX - 1)?;
     let Ok(mut store) = opened(alloc, device, &bytes) else {
         panic!(rt; "it is opened")
@@ -395,7 +396,7 @@ fn compaction(rt: HostRuntime) -> Result<(), Fail> {
 #[test]
 fn a_compaction_that_fails_changes_no_text(rt: HostRuntime) -> Result<(), Fail> {
     let alloc = rt.alloc();
-    let ann = user(rt, "ann");
+    let ann = user(&rt, "ann");
     let mut replaced: u64 = 0;
     for failing in 0..7 {
         let (device, bytes) = memory(alloc, CHANGED, failing)?;
@@ -492,7 +493,7 @@ fn a_long_line_is_refused(rt: HostRuntime) -> Result<(), Fail> {
 #[test]
 fn a_file_is_made(rt: HostRuntime) -> Result<(), Fail> {
     let alloc = rt.alloc();
-    let ann = user(rt, "ann");
+    let ann = user(&rt, "ann");
     let mut device = MemoryDevice::new(alloc, Vec::new(alloc), u64::MAX)?;
     let Ok((table, end)) = create(alloc, ScryptKept::new(alloc), &mut device) else {
         panic!(rt; "it is made")
