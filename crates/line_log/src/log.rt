@@ -52,6 +52,7 @@ impl<D: Device> LineLog<D> {
             (IsBeforeOrAfter (recovered (D.seen self.old.device)) (open_lines group.now)) }
 
         // It doesn't give up by itself.
+        ensures count { D.faults self.old.device ≤ D.faults self.new.device }
         ensures failed { OnErr result (HasRisen (D.faults self.old.device) (D.faults self.new.device)) }
     {
         stage(&mut self.device, self.end, group)?;

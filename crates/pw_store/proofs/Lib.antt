@@ -1,0 +1,7 @@
+mod Contents
+mod Judged
+mod Loaded
+mod Lines
+mod Grouped
+mod Changing
+mod Rewritten

@@ -1,0 +1,152 @@
+-- The line of a change that the table takes.
+use Rattle.std.proofs.Common.{◌≡◌, ℕ, ◌+◌, ◌<◌, ◌≤◌, suc, Bool, true, false, cond, List, [], ◌∷◌, ◌++◌, length, refl, sym, ap, ◌∙◌, arith, inl, Option, Some, None, Result, Ok, Err}
+use Rattle.std.specs.Prelude.{IfOk, is_ok, nat_le, nat_lt, codes}
+use Rattle.std.proofs.lemmas.Bool.Decides.{nat_tests}
+use Rattle.std.proofs.lemmas.List.{length-append}
+use Rattle.std.proofs.lemmas.List.Folds.{list_any-append}
+use Rattle.pieces.specs.Faults.{unless}
+use Rattle.pieces.proofs.FaultLaws.{first_none, unless_none, value_found}
+use Rattle.line_io.specs.Lines.{is_feed, NoFeed}
+use Rattle.line_log.specs.Log.{IsLine}
+use Rattle.pw_file.specs.Answers.{IsAnswer, bad_text, has_room, set_answer, set_fault}
+use Rattle.pw_file.specs.Calls.{is_want, rows_after_set, with_text}
+use Rattle.pw_file.specs.Commands.{Command, command, set_line}
+use Rattle.pw_file.specs.Commands as of
+use Rattle.pw_file.specs.History.{Rows, Reply, Says, is_done, text_in}
+use Rattle.pw_file.specs.Lines.{AnswersLineOver, Asks, line_reply}
+use Rattle.pw_file.specs.Replies.{check_word, error_word, reply_by, set_word, upgrade_word}
+use Rattle.pw_file.specs.Rules.{table_after, table_reply}
+use Rattle.pw_file.specs.declared.error.FileError.{FileError}
+use Rattle.pw_file.specs.declared.error.FileError.TheVariants as refused
+use Rattle.pw_file.specs.declared.reply.LineReply.TheVariants as replies
+use Rattle.pw_file.specs.declared.reply.Word.TheVariants.{Done, TooLong}
+use Rattle.pw_file.proofs.Calls.{no_change}
+use Rattle.pw_file.proofs.Cuts.{set_read}
+use Rattle.pw_file.proofs.LineAnswers.{long_reply, set_answered}
+use Rattle.pw_file.specs.Policy.{IsLawful, TextPolicy}
+use Rattle.pw_store.specs.Store.{is_taken, rows_after}
+
+-- ---- what `set` takes
+
+no_fault : {T V : Type 0} → (e : Option T) → bad_text {T = T} {V = V} e ≡ None → e ≡ None
+no_fault None h = refl
+no_fault (Some e) h = absurd (cc h)
+
+module _ {T V : Type 0} (p : TextPolicy T V) where
+  pub record IsGood (had : Option (List ℕ)) (n : ℕ) (new : List ℕ) : Type 0 where
+    pub short : length new ≤ 1024
+    pub good : p.text_fault new ≡ None
+    pub room : has_room had n ≡ true
+
+  pub good : (had : Option (List ℕ)) (n : ℕ) (new : List ℕ) → set_answer p had n new ≡ Ok tt → IsGood had n new
+  good had n new ok =
+      let none : set_fault p had n new ≡ None = (value_found tt tt (set_fault p had n new) ok).0 in
+      let a = first_none (unless (nat_le (length new) 1024) refused.TextTooLong) (bad_text (p.text_fault new) ∷ (unless (has_room had n) refused.Full ∷ [])) none in
+      let b = first_none (bad_text (p.text_fault new)) (unless (has_room had n) refused.Full ∷ []) a.1 in
+      let c = first_none (unless (has_room had n) refused.Full) [] b.1 in
+      let test : nat_le (length new) 1024 ≡ true = unless_none {E = FileError T V} (nat_le (length new) 1024) refused.TextTooLong a.0 in
+      record {
+        short = grind (arith, nat_tests, test);
+        good = no_fault {T = T} {V = V} (p.text_fault new) b.0;
+        room = unless_none {E = FileError T V} (has_room had n) refused.Full c.0;
+      }
+
+-- ---- its line
+
+module _ {T V : Type 0} (p : TextPolicy T V) (law : IsLawful p) where
+  pub is_line : (user text : List ℕ) → p.is_name user ≡ true → p.text_fault text ≡ None → IsLine (set_line user text)
+  is_line user text name is =
+      (refl, list_any-append is_feed user (9 ∷ text) ∙ rw (law.name_feedless user name) (law.text_feedless text is))
+
+  module _ (rows : Rows) (user text : List ℕ) (name : p.is_name user ≡ true) (ok : set_answer p (text_in rows user) (length rows) text ≡ Ok tt) where
+    pub line_is : IsLine (set_line user text)
+    line_is = is_line user text name (good p (text_in rows user) (length rows) text ok).good
+
+    line_short : length (set_line user text) ≤ 8192
+    line_short =
+        let most : length user ≤ 64 = law.name_short user name in
+        let is = good p (text_in rows user) (length rows) text ok in
+        let short = is.short in
+        let size : length (user ++ 9 ∷ text) ≡ length user + suc (length text) = length-append user (9 ∷ text) in
+        omega (arith, most, size, short)
+
+    over : AnswersLineOver p rows (set_line user text) (with_text rows user text) (Some (replies.Word Done))
+    over =
+        let is = good p (text_in rows user) (length rows) text ok in
+        set_answered p rows (set_line user text) user text (with_text rows user text) (Ok tt)
+        (line_short, set_read p law user name text (law.text_utf8 text is.good)) (inl (sym ok)) refl
+
+    pub line_taken : is_taken p rows (set_line user text) ≡ true
+    line_taken = ap is_done (sym over.0)
+
+    pub line_after : table_after p rows (set_line user text) ≡ with_text rows user text
+    line_after = sym over.1
+
+    pub line_rows : rows_after p rows (set_line user text ∷ []) ≡ Some (with_text rows user text)
+    line_rows =
+        ap (λ b. cond b (Some (table_after p rows (set_line user text))) None) line_taken ∙ ap (λ (r : Rows). Some r) line_after
+
+same_want : {T V : Type 0} → (e : FileError T V) → is_want {A = Unit {0}} (Err e) ≡ is_want {A = Bool} (Err e)
+same_want refused.NoUser = refl
+same_want refused.Locked = refl
+same_want refused.TextTooLong = refl
+same_want (refused.BadText fault) = refl
+same_want refused.Full = refl
+same_want (refused.BadSalt fault) = refl
+same_want (refused.Check fault) = refl
+same_want refused.OutOfMemory = refl
+
+-- ---- lines that are no `set`
+
+module _ {T V : Type 0} (p : TextPolicy T V) where
+  pub not_taken : (rows : Rows) (line : List ℕ) (c : Option Command) → command p line ≡ c → is_done (reply_by p (text_in rows) (length rows) rows c) ≡ false
+      → is_taken p rows line ≡ false
+  unfolding table_reply
+  not_taken rows line c is other = by_length (nat_lt 8192 (length line))
+    where
+      by_length : (t : Bool) → is_done (cond t (Says TooLong) (reply_by p (text_in rows) (length rows) rows (command p line))) ≡ false
+      by_length true = refl
+      by_length false = ap (λ (o : Option Command). is_done (reply_by p (text_in rows) (length rows) rows o)) is ∙ other
+
+  pub no_check : (a : Result Bool (FileError T V)) → is_done (Says (check_word a)) ≡ false
+  no_check (Ok true) = refl
+  no_check (Ok false) = refl
+  no_check (Err e) = (no_change e).0
+
+  pub no_upgrade : (a : Result Bool (FileError T V)) → is_done (Says (upgrade_word a)) ≡ false
+  no_upgrade (Ok true) = refl
+  no_upgrade (Ok false) = refl
+  no_upgrade (Err e) = (no_change e).0
+
+  pub long_not_taken : (rows : Rows) (line : List ℕ) → 8192 < length line → is_taken p rows line ≡ false
+  long_not_taken rows line long = ap is_done (long_reply p rows line long)
+
+  -- a line is taken where `set` is done
+  pub taken_done : (rows after : Rows) (line user text : List ℕ) → Asks p line (of.Set user text)
+      → IsAnswer (set_answer p (text_in rows user) (length rows) text) (is_ok (set_answer p (text_in rows user) (length rows) text)) (Ok tt)
+      → after ≡ rows_after_set {T = T} {V = V} rows user text (Ok tt)
+      → (is_taken p rows line ≡ true) × (after ≡ table_after p rows line)
+  taken_done rows after line user text asks is next =
+      let over = set_answered p rows line user text after (Ok tt) asks is next in
+      (ap is_done (sym over.0), over.1)
+
+  -- and not where it is refused
+  pub taken_refused : (rows : Rows) (line user text : List ℕ) (e : FileError T V) → Asks p line (of.Set user text)
+      → IsAnswer (set_answer p (text_in rows user) (length rows) text) (is_ok (set_answer p (text_in rows user) (length rows) text)) (Err e)
+      → is_want {A = Bool} {T = T} {V = V} (Err e) ≡ false → is_taken p rows line ≡ false
+  taken_refused rows line user text e asks is known = ap is_done (sym (word known over)) ∙ (no_change e).0
+    where
+      over : AnswersLineOver p rows line rows (line_reply {A = Unit {0}} {T = T} {V = V} (Err e) (error_word e))
+      over = set_answered p rows line user text rows (Err e) asks is refl
+
+      known_too : is_want {A = Bool} {T = T} {V = V} (Err e) ≡ false → is_want {A = Unit {0}} {T = T} {V = V} (Err e) ≡ false
+      known_too k = same_want e ∙ k
+
+      word : is_want {A = Bool} {T = T} {V = V} (Err e) ≡ false → AnswersLineOver p rows line rows (line_reply {A = Unit {0}} {T = T} {V = V} (Err e) (error_word e)) → Says (error_word e) ≡ table_reply p rows line
+      word k o = (rw (known_too k) at o).0
+
+  pub refused_taken : {E : Type 0} (rows : Rows) (line user text : List ℕ) (e : FileError T V) (r : Result Bool E) → Asks p line (of.Set user text)
+      → IsAnswer (set_answer p (text_in rows user) (length rows) text) (is_ok (set_answer p (text_in rows user) (length rows) text)) (Err e)
+      → IfOk r (λ t. t ≡ false) → IfOk r (λ t. is_want {A = Bool} {T = T} {V = V} (Err e) ≡ false) → IfOk r (λ t. t ≡ is_taken p rows line)
+  refused_taken rows line user text e (Ok t) asks is no_one known = no_one ∙ sym (taken_refused rows line user text e asks is known)
+  refused_taken rows line user text e (Err f) asks is no_one known = tt

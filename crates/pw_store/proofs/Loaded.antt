@@ -1,0 +1,60 @@
+-- A table that takes the lines of a file has the rows of that file.
+use Rattle.std.proofs.Common.{◌≡◌, ℕ, Bool, true, false, cond, List, [], ◌∷◌, refl, sym, ap, ◌∙◌, Option, Some, None, Err}
+use Rattle.std.specs.Prelude.{is_some}
+use Rattle.std.specs.Option.{option_map}
+use Rattle.line_log.specs.Log.{recovered}
+use Rattle.line_log.specs.Taker.{after_all}
+use Rattle.pw_file.specs.History.{Rows}
+use Rattle.pw_file.specs.Rules.{table_after}
+use Rattle.pw_file.specs.Policy.{TextPolicy}
+use Rattle.pw_store.specs.Store.{is_taken, rows_after, recovered_rows}
+use Rattle.pw_store.specs.declared.loading.Loading.{Loading}
+
+abbrev pub with_rows : {P A B C : Type 0} → Rows → Loading P A B C
+with_rows rows = record { table = rows }
+
+abbrev pub takes : {T V P A B C : Type 0} → TextPolicy T V → Loading P A B C → List ℕ → Bool
+takes p s line = is_taken p s.table line
+
+abbrev pub after : {T V P A B C : Type 0} → TextPolicy T V → Loading P A B C → List ℕ → Loading P A B C
+after p s line = with_rows (table_after p s.table line)
+
+module _ {T V P A B C : Type 0} (p : TextPolicy T V) where
+  pub loaded : (rows : Rows) (lines : List (List ℕ)) → after_all (takes {P = P} {A = A} {B = B} {C = C} p) (after {P = P} {A = A} {B = B} {C = C} p) (with_rows {P = P} {A = A} {B = B} {C = C} rows) lines ≡ option_map (with_rows {P = P} {A = A} {B = B} {C = C}) (rows_after p rows lines)
+  loaded rows [] = refl
+  loaded rows (line ∷ lines) = by_test (is_taken p rows line) refl (loaded (table_after p rows line) lines)
+    where
+      by_test : (t : Bool) → is_taken p rows line ≡ t → after_all (takes {P = P} {A = A} {B = B} {C = C} p) (after {P = P} {A = A} {B = B} {C = C} p) (with_rows {P = P} {A = A} {B = B} {C = C} (table_after p rows line)) lines ≡ option_map (with_rows {P = P} {A = A} {B = B} {C = C}) (rows_after p (table_after p rows line) lines)
+          → after_all (takes {P = P} {A = A} {B = B} {C = C} p) (after {P = P} {A = A} {B = B} {C = C} p) (with_rows {P = P} {A = A} {B = B} {C = C} rows) (line ∷ lines) ≡ option_map (with_rows {P = P} {A = A} {B = B} {C = C}) (rows_after p rows (line ∷ lines))
+      by_test true is more =
+          ap (λ b. cond b (after_all (takes {P = P} {A = A} {B = B} {C = C} p) (after {P = P} {A = A} {B = B} {C = C} p) (with_rows {P = P} {A = A} {B = B} {C = C} (table_after p rows line)) lines) None) is ∙ more
+          ∙ ap (option_map (with_rows {P = P} {A = A} {B = B} {C = C})) (sym (ap (λ b. cond b (rows_after p (table_after p rows line) lines) None) is))
+      by_test false is more =
+          ap (λ b. cond b (after_all (takes {P = P} {A = A} {B = B} {C = C} p) (after {P = P} {A = A} {B = B} {C = C} p) (with_rows {P = P} {A = A} {B = B} {C = C} (table_after p rows line)) lines) None) is
+          ∙ ap (option_map (with_rows {P = P} {A = A} {B = B} {C = C})) (sym (ap (λ b. cond b (rows_after p (table_after p rows line) lines) None) is))
+
+  back : (o : Option Rows) (s : Loading P A B C) → option_map (with_rows {P = P} {A = A} {B = B} {C = C}) o ≡ Some s → o ≡ Some s.table
+  back None s e = absurd (cc e)
+  back (Some rows) s e = some_table (some_same e)
+    where
+      some_same : Some (with_rows {P = P} {A = A} {B = B} {C = C} rows) ≡ Some s → with_rows {P = P} {A = A} {B = B} {C = C} rows ≡ s
+      some_same e = cc e
+
+      some_table : with_rows {P = P} {A = A} {B = B} {C = C} rows ≡ s → Some rows ≡ Some s.table
+      some_table same = ap (λ (x : Loading P A B C). Some x.table) same
+
+  pub rows_then : (file : List ℕ) (s : Loading P A B C) → after_all (takes {P = P} {A = A} {B = B} {C = C} p) (after {P = P} {A = A} {B = B} {C = C} p) (with_rows {P = P} {A = A} {B = B} {C = C} []) (recovered file) ≡ Some s → recovered_rows p file ≡ Some s.table
+  unfolding recovered_rows
+  rows_then file s all = back (rows_after p [] (recovered file)) s (sym (loaded [] (recovered file)) ∙ all)
+
+module _ {T V : Type 0} (P A B C : Type 0) (p : TextPolicy T V) where
+  pub some_then : (file : List ℕ) (rows : Rows) → recovered_rows p file ≡ Some rows → is_some (after_all (takes {P = P} {A = A} {B = B} {C = C} p) (after {P = P} {A = A} {B = B} {C = C} p) (with_rows {P = P} {A = A} {B = B} {C = C} []) (recovered file)) ≡ true
+  unfolding recovered_rows
+  some_then file rows is = ap is_some (loaded {P = P} {A = A} {B = B} {C = C} p [] (recovered file) ∙ ap (option_map (with_rows {P = P} {A = A} {B = B} {C = C})) is)
+
+module _ {T V P A B C : Type 0} (p : TextPolicy T V) where
+  pub some_from : (s : Loading P A B C) (file : List ℕ) (rows : Rows) → s.table ≡ [] → recovered_rows p file ≡ Some rows
+      → is_some (after_all (takes {P = P} {A = A} {B = B} {C = C} p) (after {P = P} {A = A} {B = B} {C = C} p) s (recovered file)) ≡ true
+  some_from s file rows empty is =
+      ap (λ (t : Rows). is_some (after_all (takes {P = P} {A = A} {B = B} {C = C} p) (after {P = P} {A = A} {B = B} {C = C} p) (with_rows {P = P} {A = A} {B = B} {C = C} t) (recovered file))) empty
+      ∙ some_then P A B C p file rows is

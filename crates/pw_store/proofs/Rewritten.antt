@@ -1,0 +1,195 @@
+-- The lines of the rows make the same rows again.
+use Rattle.std.proofs.Common.{◌≡◌, ℕ, ◌+◌, ◌*◌, ◌≤◌, suc, Bool, true, false, cond, List, [], ◌∷◌, ◌++◌, length, map, refl, sym, ap, ◌∙◌, subst, arith, append_assoc, Option, Some, None, Result, Ok, Err}
+use Rattle.std.specs.Prelude.{nat_le, nat_lt, if◌then◌else◌}
+use Rattle.std.specs.List.{flat_map, list_any}
+use Rattle.std.specs.Map.{keys_of}
+use Rattle.std.proofs.lemmas.Bool.Decides.{nat_tests}
+use Rattle.std.proofs.lemmas.List.{append-nil, length-append, map-append}
+use Rattle.indexmap.specs.IndexMap.{insert_entry}
+use Rattle.pw_file.specs.Policy.{IsLawful, TextPolicy}
+use Rattle.stored_check.specs.Verdict.{same_text}
+use Rattle.line_log.specs.Log.{AreWhole, joined, open_lines}
+use Rattle.line_log.proofs.LogLines.{AreLines, open_lines-joined}
+use Rattle.pw_file.specs.Answers.{check_answer, has_room, set_answer, upgrade_answer}
+use Rattle.pw_file.specs.Calls.{with_text}
+use Rattle.pw_file.specs.Commands.{Command, command, set_line}
+use Rattle.pw_file.specs.Commands as of
+use Rattle.pw_file.specs.History.{Reply, Rows, Says, change_of, is_done, text_in}
+use Rattle.pw_file.specs.Replies.{reply_by, row_line, set_word}
+use Rattle.pw_file.specs.Rules.{changed, table_after, table_reply}
+use Rattle.pw_file.specs.declared.error.FileError.{FileError}
+use Rattle.pw_file.specs.declared.reply.Word.TheVariants.{TooLong}
+use Rattle.pw_file.proofs.Calls.{no_change}
+use Rattle.pw_file.proofs.Distinct.{Distinct, content_distinct, distinct_middle, insert_absent}
+use Rattle.pw_file.proofs.Listed.{command_named}
+use Rattle.pw_store.specs.Store.{is_taken, recovered_rows, rows_after}
+use Rattle.pw_store.proofs.Contents.{of_file}
+use Rattle.pw_store.proofs.Grouped.{file_is}
+use Rattle.pw_store.proofs.Lines.{good, is_line, line_after, line_taken, no_check, no_upgrade}
+
+module _ {T V : Type 0} (p : TextPolicy T V) (law : IsLawful p) where
+  -- ---- what the rows of a file are
+
+  -- a name, and a text that `set` takes
+  pub record IsRow (row : List ℕ × List ℕ) : Type 0 where
+    pub name : p.is_name row.0 ≡ true
+    pub short : length row.1 ≤ 1024
+    pub good : p.text_fault row.1 ≡ None
+
+  abbrev pub AreRows : Rows → Type 0
+  AreRows [] = Unit {0}
+  AreRows (row ∷ rows) = IsRow row × AreRows rows
+
+  inserted : (rows : Rows) (user new : List ℕ) → AreRows rows → IsRow (user, new) → AreRows (insert_entry same_text rows user new)
+  inserted [] user new all one = (one, tt)
+  inserted (e ∷ es) user new all one = by_test (same_text user e.0) (inserted es user new all.1 one)
+    where
+      by_test : (t : Bool) → AreRows (insert_entry same_text es user new)
+          → AreRows (if t then (e.0, new) ∷ es else e ∷ insert_entry same_text es user new)
+      by_test true rest = (record { name = all.0.name; short = one.short; good = one.good }, all.1)
+      by_test false rest = (all.0, rest)
+
+  -- a line that is taken is a `set`
+  pub record IsSet (rows : Rows) (line : List ℕ) : Type 0 where
+    pub user : List ℕ
+    pub text : List ℕ
+    pub is : command p line ≡ Some (of.Set user text)
+    pub ok : set_answer p (text_in rows user) (length rows) text ≡ Ok tt
+    pub name : p.is_name user ≡ true
+
+  done_ok : (a : Result (Unit {0}) (FileError T V)) → is_done (Says (set_word a)) ≡ true → a ≡ Ok tt
+  done_ok (Ok done) h = refl
+  done_ok (Err e) h = absurd (cc (sym (no_change e).0 ∙ h))
+
+  named : (line user text : List ℕ) → command p line ≡ Some (of.Set user text) → p.is_name user ≡ true
+  named line user text is = rw is at (command_named p law line)
+
+  pub set_of : (rows : Rows) (line : List ℕ) → is_taken p rows line ≡ true → IsSet rows line
+  unfolding table_reply
+  set_of rows line taken = by_length (nat_lt 8192 (length line)) taken
+    where
+      by_command : (c : Option Command) → command p line ≡ c → is_done (reply_by p (text_in rows) (length rows) rows c) ≡ true → IsSet rows line
+      by_command None is h = absurd (cc h)
+      by_command (Some (of.Set user text)) is h =
+          record { user = user; text = text; is = is; ok = done_ok (set_answer p (text_in rows user) (length rows) text) h; name = named line user text is }
+      by_command (Some (of.Check user password)) is h = absurd (cc (sym (no_check p (check_answer p (text_in rows user) password)) ∙ h))
+      by_command (Some (of.Upgrade user salt password)) is h = absurd (cc (sym (no_upgrade p (upgrade_answer p (text_in rows user) password salt)) ∙ h))
+      by_command (Some of.Listing) is h = absurd (cc h)
+
+      by_length : (t : Bool) → is_done (cond t (Says TooLong) (reply_by p (text_in rows) (length rows) rows (command p line))) ≡ true → IsSet rows line
+      by_length true h = absurd (cc h)
+      by_length false h = by_command (command p line) refl h
+
+  pub set_after : (rows : Rows) (line : List ℕ) (taken : is_taken p rows line ≡ true) (s : IsSet rows line) → table_after p rows line ≡ with_text rows s.user s.text
+  set_after rows line taken s =
+      ap (changed rows) (ap (λ (c : Option Command). change_of c (table_reply p rows line)) s.is
+      ∙ ap (λ b. cond b (Some (s.user, s.text)) None) taken)
+
+  rows_good : (rows last : Rows) (ls : List (List ℕ)) → AreRows rows → rows_after p rows ls ≡ Some last → AreRows last
+  rows_good rows last [] are is = by_same (some_same is)
+    where
+      some_same : Some rows ≡ Some last → rows ≡ last
+      some_same e = cc e
+
+      by_same : rows ≡ last → AreRows last
+      by_same same = subst AreRows same are
+  rows_good rows last (l ∷ ls) are is = by_test (is_taken p rows l) refl (λ next. rows_good (table_after p rows l) last ls next)
+    where
+      by_test : (t : Bool) → is_taken p rows l ≡ t → (AreRows (table_after p rows l) → rows_after p (table_after p rows l) ls ≡ Some last → AreRows last) → AreRows last
+      by_test true t more =
+          let s = set_of rows l t in
+          let g = good p (text_in rows s.user) (length rows) s.text s.ok in
+          let next : AreRows (with_text rows s.user s.text) = inserted rows s.user s.text are (record { name = s.name; short = g.short; good = g.good }) in
+          more (subst AreRows (sym (set_after rows l t s)) next) (sym (ap (λ b. cond b (rows_after p (table_after p rows l) ls) None) t) ∙ is)
+      by_test false t more = absurd (cc (ap (λ b. cond b (rows_after p (table_after p rows l) ls) None) t, is))
+
+  -- ---- their lines
+
+  abbrev pub line_of : List ℕ × List ℕ → List ℕ
+  line_of row = set_line row.0 row.1
+
+  lines_are : (rows : Rows) → AreRows rows → AreLines (map line_of rows)
+  lines_are [] are = tt
+  lines_are (row ∷ rows) are = (is_line p law row.0 row.1 are.0.name are.0.good, lines_are rows are.1)
+
+  text_is : (rows : Rows) → flat_map row_line rows ≡ joined (map line_of rows)
+  text_is [] = refl
+  text_is (row ∷ rows) =
+      append_assoc (line_of row) (10 ∷ []) (flat_map row_line rows) ∙ ap (λ (t : List ℕ). line_of row ++ 10 ∷ t) (text_is rows)
+
+  pub text_lines : (rows : Rows) → AreRows rows → open_lines (flat_map row_line rows) ≡ map line_of rows
+  text_lines rows are =
+      ap open_lines (text_is rows ∙ sym (append-nil (joined (map line_of rows))))
+      ∙ open_lines-joined (map line_of rows) [] (lines_are rows are) ∙ append-nil (map line_of rows)
+
+  pub text_whole : (rows : Rows) → AreRows rows → AreWhole (flat_map row_line rows)
+  text_whole rows are = text_is rows ∙ sym (ap joined (text_lines rows are))
+
+  row_short : (row : List ℕ × List ℕ) → IsRow row → length (row_line row) ≤ 1094
+  row_short row is =
+      let name = is.name in
+      let most : length row.0 ≤ 64 = law.name_short row.0 name in
+      let short = is.short in
+      let size : length (row.0 ++ 9 ∷ row.1) ≡ length row.0 + suc (length row.1) = length-append row.0 (9 ∷ row.1) in
+      let all : length (row_line row) ≡ length (line_of row) + 1 = length-append (line_of row) (10 ∷ []) in
+      omega (arith, most, short, size, all)
+
+  text_short : (rows : Rows) → AreRows rows → length (flat_map row_line rows) ≤ 1094 * length rows
+  text_short [] are = omega arith
+  text_short (row ∷ rows) are =
+      let one = row_short row are.0 in
+      let more = text_short rows are.1 in
+      let all : length (flat_map row_line (row ∷ rows)) ≡ length (row_line row) + length (flat_map row_line rows) = length-append (row_line row) (flat_map row_line rows) in
+      omega (arith, one, more, all)
+
+  -- ---- taken again
+
+  relisted : (done rest all : Rows) → done ++ rest ≡ all → AreRows rest → Distinct (keys_of all) → length all ≤ 4096 → rows_after p done (map line_of rest) ≡ Some all
+  relisted done [] all is are d few = ap (λ (r : Rows). Some r) (sym (append-nil done) ∙ is)
+  relisted done (row ∷ rest) all is are d few =
+      let keys : keys_of all ≡ keys_of done ++ row.0 ∷ keys_of rest =
+      ap keys_of (sym is) ∙ map-append (λ (e : List ℕ × List ℕ). e.0) done (row ∷ rest) in
+      let new : list_any (same_text row.0) (keys_of done) ≡ false = distinct_middle (keys_of done) row.0 (keys_of rest) (rw keys at d) in
+      let size : length all ≡ length done + suc (length rest) = ap length (sym is) ∙ length-append done (row ∷ rest) in
+      let ok = set_ok done row are.0 (omega (arith, size, few)) in
+      let taken = line_taken p law done row.0 row.1 are.0.name ok in
+      let after = line_after p law done row.0 row.1 are.0.name ok ∙ insert_absent done row.0 row.1 new in
+      ap (λ b. cond b (rows_after p (table_after p done (line_of row)) (map line_of rest)) None) taken
+      ∙ ap (λ (r : Rows). rows_after p r (map line_of rest)) after
+      ∙ relisted (done ++ row ∷ []) rest all (append_assoc done (row ∷ []) rest ∙ is) are.1 d few
+    where
+      roomy : (had : Option (List ℕ)) (n : ℕ) → n + 1 ≤ 4096 → has_room had n ≡ true
+      roomy None n room = grind (arith, nat_tests, room)
+      roomy (Some old) n room = refl
+
+      set_ok : (rows : Rows) (row : List ℕ × List ℕ) → IsRow row → length rows + 1 ≤ 4096 → set_answer p (text_in rows row.0) (length rows) row.1 ≡ Ok tt
+      set_ok rows row is room =
+          let short : nat_le (length row.1) 1024 ≡ true = let s = is.short in grind (arith, nat_tests, s) in
+          rw (short, is.good, roomy (text_in rows row.0) (length rows) room) refl
+
+  pub record IsRewritten (rows : Rows) : Type 0 where
+    pub whole : AreWhole (flat_map row_line rows)
+    pub short : length (flat_map row_line rows) ≤ 268435456
+    pub again : rows_after p [] (open_lines (flat_map row_line rows)) ≡ Some rows
+
+  pub rewritten : (file : List ℕ) (rows : Rows) → recovered_rows p file ≡ Some rows → length rows ≤ 4096 → IsRewritten rows
+  rewritten file rows is few =
+      let are = rows_good [] rows _ tt (file_is p file rows is) in
+      let distinct = content_distinct p _ rows (of_file p file rows is) in
+      let short = text_short rows are in
+      record {
+        whole = text_whole rows are;
+        short = omega (arith, short, few);
+        again = ap (λ (ls : List (List ℕ)). rows_after p [] ls) (text_lines rows are) ∙ relisted [] rows rows refl are distinct few;
+      }
+
+  -- the same of bytes that are those
+  pub record AreAgain (bytes : List ℕ) (rows : Rows) : Type 0 where
+    pub whole : AreWhole bytes
+    pub short : length bytes ≤ 268435456
+    pub again : rows_after p [] (open_lines bytes) ≡ Some rows
+
+  pub rewritten_as : (file : List ℕ) (rows : Rows) (bytes : List ℕ) → recovered_rows p file ≡ Some rows → length rows ≤ 4096 → bytes ≡ flat_map row_line rows → AreAgain bytes rows
+  rewritten_as file rows bytes is few same =
+      let w = rewritten file rows is few in
+      subst (λ (t : List ℕ). AreAgain t rows) (sym same) (record { whole = w.whole; short = w.short; again = w.again })

@@ -1,0 +1,4 @@
+pub mod Laws
+pub mod Store
+pub mod Stored
+pub mod Staged

@@ -1,0 +1,20 @@
+//! A table of users and their stored texts in a file, through crashes.
+//!
+//! [`recover`] reads the table of a file that a crash may have left, and [`create`] makes a file with no users. A [`Store`]
+//! answers each change once it is on the disk.
+#![tactic(auto)]
+
+mod compact;
+mod error;
+mod group;
+pub mod laws;
+mod loading;
+mod recovery;
+mod store;
+#[cfg(test)]
+mod tests;
+
+pub use error::StoreError;
+pub use loading::Loading;
+pub use recovery::{create, recover};
+pub use store::Store;
