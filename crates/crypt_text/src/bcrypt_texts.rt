@@ -2,7 +2,7 @@
 
 ghost use Rattle.std.specs.Prelude.{◌≡◌, ◌≤◌, IfSome, MatchOption, drop, length, take};
 ghost use Rattle.bcrypt_plain.specs.Field.{field_bytes};
-ghost use Rattle.bcrypt_plain.specs.Text.{cost_of};
+ghost use Rattle.bcrypt_plain.specs.Text.{cost_of, is_digit};
 ghost use Rattle.crypt_text.specs.Settings.{bcrypt_setting, cleared, cleared_salt};
 ghost use Rattle.crypt_text.specs.Texts.{bcrypt_text, if_setting};
 ghost use Rattle.crypt_text.specs.Views.{as_bcrypt, bcrypt_view};
@@ -21,13 +21,13 @@ struct BcryptParts {
 }
 
 // The alphabet, each character at the place of its value.
-const CHARACTERS: &[u8; 64] = b"./ABCDEFGHIJKLMNOPQRSTUVWXYZabcdefghijklmnopqrstuvwxyz0123456789";
+const CHARACTERS: [u8; 64] = *b"./ABCDEFGHIJKLMNOPQRSTUVWXYZabcdefghijklmnopqrstuvwxyz0123456789";
 
 // The character of the same value without its four low bits.
 fn cleared(c: u8) -> u8
     ensures { result ≡ cleared c }
 {
-    match first_place(CHARACTERS, c) {
+    match first_place(&CHARACTERS, c) {
         Some(value) => CHARACTERS[16 * (value / 16)],
         None => 0,
     }
@@ -44,7 +44,10 @@ fn cleared_salt(characters: &[u8]) -> [u8; 22]
     salt
 }
 
-fn is_digit(c: u8) -> bool {
+// Whether a byte is a digit.
+fn is_digit(c: u8) -> bool
+    ensures { result ≡ is_digit c }
+{
     b'0' <= c && c <= b'9'
 }
 

@@ -1,0 +1,3 @@
+pub mod Dollars
+pub mod Rounds
+pub mod Cleared
