@@ -1,19 +1,18 @@
 -- A text of bcrypt, read as a setting; and what a setting that is read says.
-use Rattle.std.proofs.Common.{◌≡◌, ◌≢◌, ℕ, zero, suc, ◌+◌, ◌*◌, ◌-◌, ◌/◌, ◌%◌, ◌<◌, ◌≤◌, Bool, true, false, List, [], ◌∷◌, ◌++◌}
-use Rattle.std.proofs.Common.{length, map, take, drop, refl, sym, ap, subst, ◌∙◌, arith, get_or, slice_index}
+use Rattle.std.proofs.Common.{◌≡◌, ℕ, zero, suc, ◌+◌, ◌*◌, ◌/◌, ◌%◌, ◌<◌, ◌≤◌, Bool, true, false, List, [], ◌∷◌, ◌++◌}
+use Rattle.std.proofs.Common.{length, map, take, drop, refl, sym, ap, subst, ◌∙◌, arith, slice_index}
 use Rattle.std.specs.Prelude.{◌==◌, ◌&&◌, nat_le, Option, Some, None, if◌then◌else◌}
-use Rattle.std.specs.List.{position_or_len}
-use Rattle.std.proofs.lemmas.Bool.{and_parts, false≢true}
+use Rattle.std.proofs.lemmas.Bool.{and_parts}
 use Rattle.std.proofs.lemmas.Bool.Decides.{nat_tests}
 use Rattle.std.proofs.lemmas.List.{append-nil, get_or-map, length-append, take-append-drop, drop_all}
 use Rattle.std.proofs.lemmas.Option.{none-some}
-use Rattle.std.proofs.Math.Seq.{drop-append_seam, drop-cons, take-append_seam}
+use Rattle.std.proofs.Math.Seq.{drop-cons, take-append_seam}
 use Rattle.base64ct.specs.Alphabets.{base64_bcrypt}
 use Rattle.base64ct.specs.Decoding.{decoding}
 use Rattle.base64ct.specs.Encoding.{EachBelow, character, encoding, groups}
 use Rattle.base64ct.proofs.DecodingLaws.{decoding-Some, decoding-encoding, length-decodable}
-use Rattle.base64ct.proofs.Encodings.{groups-below, length-groups}
-use Rattle.base64ct.proofs.Sextets.{four, groups-one, groups-three}
+use Rattle.base64ct.proofs.Encodings.{length-groups}
+use Rattle.base64ct.proofs.Sextets.{groups-one, groups-three}
 use Rattle.base64ct.proofs.Values.{value-character}
 use Rattle.bcrypt_plain.specs.Field.{bcrypt_field, field_bytes}
 use Rattle.bcrypt_plain.specs.Made.{two_digits}

@@ -1,18 +1,16 @@
 -- The last character of bcrypt's salt, with its low bits cleared.
-use Rattle.std.proofs.Common.{◌≡◌, ◌≢◌, ℕ, ◌+◌, ◌*◌, ◌/◌, ◌<◌, ◌≤◌, Bool, true, false, List, [], ◌∷◌, ◌++◌, length, take, drop}
-use Rattle.std.proofs.Common.{refl, sym, ap, ◌∙◌, arith, get_or, set, slice_index}
-use Rattle.std.specs.Prelude.{◌==◌, codes, Option, Some, None, MatchOption}
+use Rattle.std.proofs.Common.{◌≡◌, ℕ, ◌<◌, true, List, [], ◌∷◌, ◌++◌, length, take}
+use Rattle.std.proofs.Common.{refl, sym, ap, ◌∙◌, arith, set, slice_index}
+use Rattle.std.specs.Prelude.{◌==◌, Option, Some, None, MatchOption}
 use Rattle.std.specs.List.{position_or_len}
 use Rattle.std.proofs.lemmas.Bool.Decides.{nat_tests}
 use Rattle.std.proofs.lemmas.List.{drop_all, set_split}
 use Rattle.std.proofs.lemmas.List.Sums.{position_or_len_is}
 use Rattle.base64ct.specs.Alphabets.{base64_bcrypt}
-use Rattle.base64ct.specs.Encoding.{EachBelow}
 use Rattle.base64ct.specs.Decoding.{decoding}
 use Rattle.base64ct.proofs.DecodingLaws.{decoding-Some, decoding_is, length-decodable}
 use Rattle.pieces.specs.Places.{LacksBelow}
-use Rattle.bcrypt_plain.specs.Field.{IsBcryptFieldOf, bcrypt_field, field_bytes}
-use Rattle.crypt_text.specs.Settings.{cleared}
+use Rattle.bcrypt_plain.specs.Field.{IsBcryptFieldOf, field_bytes}
 
 pub value_is : (c at : ℕ) → at < 64 → LacksBelow c base64_bcrypt.characters at
     → slice_index base64_bcrypt.characters at ≡ c → position_or_len (λ x. x == c) base64_bcrypt.characters ≡ at

@@ -1,16 +1,16 @@
 -- The fields of a text of SHA-crypt, read as a setting.
-use Rattle.std.proofs.Common.{◌≡◌, ◌≢◌, ℕ, zero, suc, ◌+◌, ◌^◌, ◌<◌, ◌≤◌, Bool, true, false, List, [], ◌∷◌, ◌++◌, length, take, drop}
+use Rattle.std.proofs.Common.{◌≡◌, ℕ, ◌≤◌, Bool, true, false, List, [], ◌∷◌, ◌++◌, length, take, drop}
 use Rattle.std.proofs.Common.{refl, sym, ap, subst, ◌∙◌, arith, Ok}
-use Rattle.std.specs.Prelude.{⊤, ◌==◌, ◌&&◌, nat_eq, nat_le, not, Option, Some, None, if◌then◌else◌, codes}
+use Rattle.std.specs.Prelude.{⊤, ◌==◌, ◌&&◌, nat_eq, not, Option, Some, None, if◌then◌else◌, codes}
 use Rattle.std.specs.Fmt.{decimal}
 use Rattle.std.specs.List.{join_with_byte, list_all, starts_with}
-use Rattle.std.proofs.lemmas.Bool.{and_parts, false≢true, true≢false}
+use Rattle.std.proofs.lemmas.Bool.{and_parts, true≢false}
 use Rattle.std.proofs.lemmas.Bool.Decides.{nat_tests}
 use Rattle.std.proofs.lemmas.List.{take_all}
 use Rattle.pieces.specs.Pieces.{EachLacks, LacksByte, behind, pieces_at}
 use Rattle.pieces.proofs.Cuts.{join_pieces, pieces_lack}
 use Rattle.sha_crypt.specs.Families.{Scheme, scheme_fields}
-use Rattle.sha_crypt.specs.Fields.{ShaFields, old_number, plain_number}
+use Rattle.sha_crypt.specs.Fields.{ShaFields, old_number}
 use Rattle.sha_crypt.specs.Records.{field_pieces, rounds_pieces}
 use Rattle.sha_crypt.proofs.Decimals.{decimal_lacks, plain_number-decimal}
 use Rattle.sha_crypt.proofs.Shapes.{Stands}

@@ -1,5 +1,5 @@
 -- The settings that crypt_gensalt(3) makes, as libxcrypt 4.4.33 does.
-use Rattle.std.specs.Prelude.{ℕ, ◌+◌, ◌-◌, ◌*◌, ◌/◌, ◌==◌, ◌&&◌, ◌||◌, not, Bool, List, [], ◌∷◌, ◌++◌, length, max, min, take, nat_le, nat_lt}
+use Rattle.std.specs.Prelude.{ℕ, ◌+◌, ◌-◌, ◌*◌, ◌/◌, ◌==◌, ◌&&◌, not, Bool, true, false, List, ◌++◌, length, max, min, take, nat_le, nat_lt}
 use Rattle.std.specs.Prelude.{Option, Some, None, if◌then◌else◌, codes}
 use Rattle.bcrypt_plain.specs.Field.{bcrypt_field}
 use Rattle.bcrypt_plain.specs.Made.{two_digits}

@@ -1,6 +1,6 @@
 -- The settings of crypt(3) (crypt(5)), as libxcrypt 4.4.33 reads them: the bytes that none has, the method by the prefix,
 -- and for each method what is read behind it. A whole stored text is a setting: what follows the salt is ignored.
-use Rattle.std.specs.Prelude.{ℕ, ◌+◌, ◌*◌, ◌/◌, ◌==◌, ◌&&◌, ◌||◌, not, Bool, true, false, List, [], ◌∷◌, ◌++◌, length, take, drop, nat_eq, nat_le}
+use Rattle.std.specs.Prelude.{ℕ, ◌*◌, ◌/◌, ◌==◌, ◌&&◌, ◌||◌, not, Bool, true, false, List, [], ◌∷◌, ◌++◌, length, take, drop, nat_eq, nat_le}
 use Rattle.std.specs.Prelude.{Option, Some, None, Result, Ok, Err, if◌then◌else◌, codes, slice_index}
 use Rattle.std.specs.List.{after_first, before_first, list_any, position_or_len, starts_with}
 use Rattle.base64ct.specs.Alphabets.{base64_bcrypt, base64_sha_crypt}

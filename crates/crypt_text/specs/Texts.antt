@@ -1,6 +1,6 @@
 -- The text that crypt(3) gives for a phrase and a setting, as libxcrypt 4.4.33 does, or the cause that there is none. Each hash
 -- is that of the scheme's own definition.
-use Rattle.std.specs.Prelude.{◌≡◌, ◌⊎◌, ℕ, ◌^◌, ◌&&◌, Bool, true, false, List, [], ◌∷◌, ◌++◌, length, take, drop, nat_lt}
+use Rattle.std.specs.Prelude.{◌≡◌, ◌⊎◌, ℕ, ◌^◌, ◌&&◌, Bool, true, false, List, ◌++◌, length, take, drop, nat_lt}
 use Rattle.std.specs.Prelude.{Option, Some, None, Result, Ok, Err, is_ok, if◌then◌else◌, codes}
 use Rattle.bcrypt_plain.specs.Bcrypt.{bcrypt}
 use Rattle.bcrypt_plain.specs.Made.{text_of}

@@ -1,5 +1,5 @@
 -- What the parts of a setting show.
-use Rattle.std.specs.Prelude.{ℕ, List, Option, Some, None}
+use Rattle.std.specs.Prelude.{Option, Some, None}
 use Rattle.crypt_text.specs.Settings.{BcryptSetting, ScryptSetting, ShaSetting, YescryptSetting}
 use Rattle.crypt_text.specs.declared.bcrypt_texts.BcryptParts.{BcryptParts}
 use Rattle.crypt_text.specs.declared.scrypt_texts.ScryptParts.{ScryptParts}

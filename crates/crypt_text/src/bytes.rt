@@ -1,6 +1,6 @@
 //! The bytes of settings, and settings cut at a `$`.
 
-ghost use Rattle.std.specs.Prelude.{◌≡◌, ◌≤◌, ◌+◌, MatchOption, length, true, false};
+ghost use Rattle.std.specs.Prelude.{◌≡◌, ◌≤◌, ◌+◌, MatchOption, length, take, true, false};
 ghost use Rattle.crypt_text.specs.Settings.{after_dollar, before_dollar, before_last_dollar, has_dollar, has_refused, is_refused};
 
 use pieces::places::{first_place, last_place};
@@ -17,6 +17,18 @@ pub(crate) fn has_refused(setting: &[u8]) -> bool
     ensures { result ≡ has_refused setting.now }
 {
     setting.iter().any(|b| is_refused(*b))
+}
+
+/// The first bytes of a text, at most so many.
+pub(crate) fn front(bytes: &[u8], most: usize) -> &[u8]
+    ensures value { result.now ≡ take most bytes.now }
+    ensures short { length result.now ≤ most }
+{
+    if bytes.len() > most {
+        &bytes[..most]
+    } else {
+        bytes
+    }
 }
 
 /// What stands before the first `$`; all, where there is none.

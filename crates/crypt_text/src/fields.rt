@@ -1,6 +1,6 @@
 //! Pieces of texts that are put together.
 
-ghost use Rattle.std.specs.Prelude.{◌≡◌, ◌≤◌, ◌<◌, ◌+◌, ◌^◌, ◌++◌, length};
+ghost use Rattle.std.specs.Prelude.{◌≡◌, ◌≤◌, ◌<◌, ◌+◌, ◌*◌, ◌/◌, ◌++◌, length};
 ghost use Rattle.bcrypt_plain.specs.Made.{two_digits};
 ghost use Rattle.sha_crypt.specs.Records.{rounds_part};
 ghost use Rattle.yescrypt_plain.specs.Field.{crypt_field};
@@ -12,6 +12,7 @@ use pieces::short_bytes::ShortBytes;
 pub(crate) fn crypt_field(bytes: &[u8]) -> ShortBytes<86>
     requires most { length bytes.now ≤ 64 }
     ensures field { result ≡ crypt_field bytes.now }
+    ensures len { length result ≡ (4 * length bytes.now + 2) / 3 }
 {
     let mut field = [0u8; 86];
     match Base64ShaCrypt::encode(bytes, &mut field) {

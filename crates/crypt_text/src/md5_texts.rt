@@ -6,7 +6,7 @@ ghost use Rattle.crypt_text.specs.Settings.{md5_salt};
 ghost use Rattle.crypt_text.specs.Texts.{md5_text};
 
 use crate::TEXT_MAX;
-use crate::bytes::before_dollar;
+use crate::bytes::{before_dollar, front};
 use md5_crypt::{Magic, encode_md5, md5_crypt};
 use pieces::short_bytes::ShortBytes;
 
@@ -15,8 +15,7 @@ fn md5_salt(rest: &[u8]) -> &[u8]
     ensures salt { result.now ≡ md5_salt rest.now }
     ensures short { length result.now ≤ 8 }
 {
-    let salt = before_dollar(rest);
-    if salt.len() > 8 { &salt[..8] } else { salt }
+    front(before_dollar(rest), 8)
 }
 
 /// The text for a phrase, and what stands behind the prefix of a setting.

@@ -1,9 +1,10 @@
 //! New settings.
 
-ghost use Rattle.std.specs.Prelude.{◌≡◌, ◌≤◌, ◌<◌, length};
+ghost use Rattle.std.specs.Prelude.{◌≡◌, ◌≤◌, length};
 ghost use Rattle.crypt_text.specs.NewSettings.{bcrypt_new, group_salt, long_salt, md5_new, method_new, new_rounds, new_setting, or_default, random_len, scrypt_new, sha_new, yescrypt_count_params, yescrypt_new};
 ghost use Rattle.crypt_text.specs.Settings.{method_of};
 
+use crate::bytes::front;
 use crate::fields::{crypt_field, push_rounds, two_digits};
 use crate::{Method, method_of};
 use bcrypt_plain::encode_salt;
@@ -101,11 +102,7 @@ fn bcrypt_new(prefix: &[u8], count: u64, bytes: &[u8]) -> Option<ShortBytes<SETT
 fn long_salt(bytes: &[u8]) -> ShortBytes<86>
     ensures { result ≡ long_salt bytes.now }
 {
-    if bytes.len() > 64 {
-        crypt_field(&bytes[..64])
-    } else {
-        crypt_field(bytes)
-    }
+    crypt_field(front(bytes, 64))
 }
 
 // `$7$parameters-and-salt`.

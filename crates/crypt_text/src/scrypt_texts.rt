@@ -1,10 +1,11 @@
 //! Texts `$7$`.
 
-ghost use Rattle.std.specs.Prelude.{◌≡◌, ◌≤◌, ◌+◌, IfSome, drop, is_ok, length, take, true};
+ghost use Rattle.std.specs.Prelude.{◌≡◌, ◌≤◌, ◌+◌, ◌++◌, ◌||◌, IfSome, codes, drop, false, is_ok, length, take, true};
+ghost use Rattle.yescrypt_plain.specs.Field.{crypt_field};
 ghost use Rattle.yescrypt_plain.specs.Params.{scrypt_in_bounds};
 ghost use Rattle.yescrypt_plain.specs.Text.{is_character};
 ghost use Rattle.crypt_text.specs.Limits.{phrase_max, setting_max};
-ghost use Rattle.crypt_text.specs.Settings.{are_salt_bytes, scrypt_setting};
+ghost use Rattle.crypt_text.specs.Settings.{are_salt_bytes, is_dollar, scrypt_setting};
 ghost use Rattle.crypt_text.specs.Texts.{IsAnswer, if_setting, if_short, scrypt_text};
 ghost use Rattle.crypt_text.specs.Views.{as_scrypt, scrypt_view};
 
@@ -30,13 +31,20 @@ fn is_character(c: u8) -> bool
     46 <= c && c <= 57 || 65 <= c && c <= 90 || 97 <= c && c <= 122
 }
 
+// Whether a byte is a character or `$`.
+fn is_salt_byte(b: u8) -> bool
+    ensures { result ≡ (is_character b || is_dollar b) }
+{
+    is_character(b) || b == b'$'
+}
+
 // Whether the first byte that is neither a character nor `$` stands right behind a `$`.
 fn are_salt_bytes(text: &[u8]) -> bool
     ensures { result ≡ are_salt_bytes false text.now }
 {
     let mut behind_dollar = false;
     'bytes: for b in text {
-        if !is_character(*b) && *b != b'$' {
+        if !is_salt_byte(*b) {
             return behind_dollar;
         }
         behind_dollar = *b == b'$';

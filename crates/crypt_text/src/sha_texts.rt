@@ -13,7 +13,7 @@ ghost use Rattle.crypt_text.specs.Settings.{are_rounds, sha_by_number, sha_salt,
 ghost use Rattle.crypt_text.specs.Texts.{if_setting, sha_field, sha_text};
 ghost use Rattle.crypt_text.specs.Views.{as_sha, sha_view};
 
-use crate::bytes::{before_dollar, cut_at_dollar};
+use crate::bytes::{before_dollar, cut_at_dollar, front};
 use crate::fields::push_rounds;
 use crate::methods::begins;
 use crate::{CryptError, TEXT_MAX};
@@ -37,12 +37,7 @@ fn sha_salt(rest: &[u8]) -> &[u8]
     ensures salt { result.now ≡ sha_salt rest.now }
     ensures short { length result.now ≤ salt_max_len }
 {
-    let salt = before_dollar(rest);
-    if salt.len() > SALT_MAX_LEN {
-        &salt[..SALT_MAX_LEN]
-    } else {
-        salt
-    }
+    front(before_dollar(rest), SALT_MAX_LEN)
 }
 
 // What stands behind `rounds=`, where a text begins with it.
@@ -145,10 +140,7 @@ fn joined(id: &[u8], parts: ShaParts<'_>, hash: &[u8]) -> ShortBytes<TEXT_MAX>
 
 // The text of SHA-256-crypt.
 #[tactic(auto, unfolding(sha_crypt::specs::Records::record_text))]
-fn sha256_text(
-    phrase: &[u8],
-    parts: ShaParts<'_>,
-) -> Result<ShortBytes<TEXT_MAX>, CryptError>
+fn sha256_text(phrase: &[u8], parts: ShaParts<'_>) -> Result<ShortBytes<TEXT_MAX>, CryptError>
     requires phrase { length phrase.now ≤ phrase_max }
     requires salt { length parts.salt.now ≤ salt_max_len }
     requires least { rounds_min ≤ parts.rounds }
@@ -166,10 +158,7 @@ fn sha256_text(
 
 // The text of SHA-512-crypt.
 #[tactic(auto, unfolding(sha_crypt::specs::Records::record_text))]
-fn sha512_text(
-    phrase: &[u8],
-    parts: ShaParts<'_>,
-) -> Result<ShortBytes<TEXT_MAX>, CryptError>
+fn sha512_text(phrase: &[u8], parts: ShaParts<'_>) -> Result<ShortBytes<TEXT_MAX>, CryptError>
     requires phrase { length phrase.now ≤ phrase_max }
     requires salt { length parts.salt.now ≤ salt_max_len }
     requires least { rounds_min ≤ parts.rounds }

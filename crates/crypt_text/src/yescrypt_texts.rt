@@ -91,13 +91,13 @@ fn joined(params: &[u8], salt: &[u8], key: &[u8; 32]) -> ShortBytes<TEXT_MAX>
 fn yescrypt_text(
     alloc: Global,
     phrase: &[u8],
-    parts: YescryptParts<'_>,
+    parts: &YescryptParts<'_>,
 ) -> Result<ShortBytes<TEXT_MAX>, CryptError>
     requires phrase { length phrase.now ≤ phrase_max }
-    requires bounds { in_bounds parts.params ≡ true }
-    requires salt { length parts.salt ≤ 64 }
-    requires room { length parts.params_text.now + length parts.salt_text.now + 4 ≤ setting_max }
-    ensures { IsAnswer (Ok (yescrypt_text phrase.now (yescrypt_view parts.entry))) true result }
+    requires bounds { in_bounds parts.now.params ≡ true }
+    requires salt { length parts.now.salt ≤ 64 }
+    requires room { length parts.now.params_text.now + length parts.now.salt_text.now + 4 ≤ setting_max }
+    ensures { IsAnswer (Ok (yescrypt_text phrase.now (yescrypt_view parts.now))) true result }
 {
     match yescrypt(alloc, phrase, parts.salt.as_slice(), parts.params) {
         Err(AllocError) => Err(CryptError::OutOfMemory),
@@ -122,6 +122,6 @@ pub(crate) fn yescrypt_answer(
     }
     match yescrypt_setting(&setting[3..]) {
         None => Err(CryptError::Setting),
-        Some(parts) => yescrypt_text(alloc, phrase, parts),
+        Some(parts) => yescrypt_text(alloc, phrase, &parts),
     }
 }

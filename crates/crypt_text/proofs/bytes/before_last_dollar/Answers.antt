@@ -1,4 +1,4 @@
-use Rattle.std.proofs.Common.{◌≡◌, arith}
+use Rattle.std.proofs.Common.{arith}
 use Rattle.std.proofs.lemmas.Grind.{common_steps}
 use Rattle.crypt_text.proofs.Dollars.{last_is, no_last}
 use Rattle.crypt_text.proofs.bytes.before_last_dollar.Goals as goal

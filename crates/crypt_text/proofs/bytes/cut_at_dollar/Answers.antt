@@ -1,4 +1,4 @@
-use Rattle.std.proofs.Common.{◌≡◌, arith}
+use Rattle.std.proofs.Common.{arith}
 use Rattle.std.proofs.lemmas.Grind.{common_steps}
 use Rattle.crypt_text.proofs.Dollars.{first_is, has_at, has_none}
 use Rattle.crypt_text.proofs.bytes.cut_at_dollar.Goals as goal
