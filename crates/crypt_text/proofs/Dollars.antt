@@ -1,21 +1,17 @@
 -- Where a `$` stands.
-use Rattle.std.proofs.Common.{◌≡◌, ◌≢◌, ℕ, zero, suc, ◌+◌, ◌<◌, Bool, true, false, List, [], ◌∷◌, ◌++◌, length, take}
-use Rattle.std.proofs.Common.{refl, sym, ap, ◌∙◌, arith, get_or, slice_index}
+use Rattle.std.proofs.Common.{◌≡◌, ◌≢◌, ℕ, zero, suc, ◌+◌, ◌<◌, Bool, true, false, List, [], ◌∷◌, length, take}
+use Rattle.std.proofs.Common.{refl, ap, ◌∙◌, arith, get_or, slice_index}
 use Rattle.std.specs.Prelude.{◌&&◌, ◌||◌, not, if◌then◌else◌}
 use Rattle.std.specs.List.{position_or_len}
 use Rattle.std.proofs.lemmas.Bool.Decides.{nat_tests}
-use Rattle.std.proofs.lemmas.List.{length-append}
 use Rattle.std.proofs.lemmas.List.Sums.{position_or_len_is}
-use Rattle.std.proofs.Math.ListN.{get_or-append}
-use Rattle.std.proofs.Math.Seq.{drop-append-add, get_or-append_seam, take-append_seam}
-use Rattle.pieces.specs.Pieces.{LacksByte}
 use Rattle.pieces.specs.Places.{LacksBelow, LacksBetween}
-use Rattle.crypt_text.specs.Settings.{after_dollar, before_dollar, before_last_dollar, has_dollar, is_dollar}
+use Rattle.crypt_text.specs.Settings.{before_last_dollar, has_dollar, is_dollar}
 
-other : (b : ℕ) → b ≢ 36 → is_dollar b ≡ false
+pub other : (b : ℕ) → b ≢ 36 → is_dollar b ≡ false
 other b h = grind (arith, nat_tests, h)
 
-same : (b : ℕ) → b ≡ 36 → is_dollar b ≡ true
+pub same : (b : ℕ) → b ≡ 36 → is_dollar b ≡ true
 same b e = grind (arith, nat_tests, e)
 
 -- the first place
@@ -31,7 +27,7 @@ none_is text lacks =
     position_or_len_is is_dollar text (length text) 0 (omega arith)
     (λ k below. other (get_or text k 0) (lacks k below)) (λ inside. absurd (omega (arith, inside)))
 
-or_true : (t : Bool) → (t || true) ≡ true
+pub or_true : (t : Bool) → (t || true) ≡ true
 or_true true = refl
 or_true false = refl
 
@@ -45,7 +41,7 @@ has_none [] lacks = refl
 has_none (b ∷ text) lacks =
     rw (other b (lacks 0 (omega arith))) (has_none text (λ k below. lacks (suc k) (omega (arith, below))))
 
-not_here : (t : Bool) (b : ℕ) (rest : List ℕ) → (if t && not true then [] else b ∷ rest) ≡ b ∷ rest
+pub not_here : (t : Bool) (b : ℕ) (rest : List ℕ) → (if t && not true then [] else b ∷ rest) ≡ b ∷ rest
 not_here true b rest = refl
 not_here false b rest = refl
 
@@ -68,33 +64,3 @@ no_last [] lacks = refl
 no_last (b ∷ text) lacks =
     let rest = no_last text (λ k below. lacks (suc k) (omega (arith, below))) in
     rw (other b (lacks 0 (omega arith))) (ap (λ (xs : List ℕ). b ∷ xs) rest)
-
--- ---- a text that lacks `$`, and one behind it
-
-cut_place : (xs ys : List ℕ) → LacksByte 36 xs → position_or_len is_dollar (xs ++ 36 ∷ ys) ≡ length xs
-cut_place xs ys lacks =
-    position_or_len_is is_dollar (xs ++ 36 ∷ ys) (length xs) 0 (omega (arith, length-append xs (36 ∷ ys)))
-    (λ k below. other (get_or (xs ++ 36 ∷ ys) k 0) (λ e. lacks k below (sym (get_or-append xs (36 ∷ ys) 0 k below) ∙ e)))
-    (λ inside. same (get_or (xs ++ 36 ∷ ys) (length xs) 0) (get_or-append_seam xs 36 ys 0))
-
-pub before_cut : (xs ys : List ℕ) → LacksByte 36 xs → before_dollar (xs ++ 36 ∷ ys) ≡ xs
-before_cut xs ys lacks = rw (cut_place xs ys lacks) (take-append_seam xs (36 ∷ ys))
-
-pub after_cut : (xs ys : List ℕ) → LacksByte 36 xs → after_dollar (xs ++ 36 ∷ ys) ≡ ys
-after_cut xs ys lacks =
-    rw (cut_place xs ys lacks) (drop-append-add xs (36 ∷ ys) 1)
-
-pub has_cut : (xs ys : List ℕ) → has_dollar (xs ++ 36 ∷ ys) ≡ true
-has_cut [] ys = refl
-has_cut (x ∷ xs) ys = rw (has_cut xs ys) (or_true (is_dollar x))
-
-lacks_none : (xs : List ℕ) → LacksByte 36 xs → has_dollar xs ≡ false
-lacks_none xs lacks = has_none xs lacks
-
--- the last `$` is the first one, where none stands behind it
-pub before_last_cut : (xs ys : List ℕ) → LacksByte 36 ys → before_last_dollar (xs ++ 36 ∷ ys) ≡ xs
-unfolding before_last_dollar
-before_last_cut [] ys lacks = rw (has_none ys lacks) refl
-before_last_cut (x ∷ xs) ys lacks =
-    rw (has_cut xs ys) (not_here (is_dollar x) x (before_last_dollar (xs ++ 36 ∷ ys)))
-    ∙ ap (λ (t : List ℕ). x ∷ t) (before_last_cut xs ys lacks)

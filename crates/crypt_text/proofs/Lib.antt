@@ -1,8 +1,5 @@
 pub mod Dollars
-pub mod Rounds
-pub mod Cleared
-pub mod Clean
-pub mod Counts
-pub mod SaltBytes
-pub mod ShaReadings
-pub mod BcryptReadings
+mod Rounds
+mod Cleared
+mod Counts
+mod SaltBytes

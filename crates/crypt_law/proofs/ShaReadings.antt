@@ -16,7 +16,7 @@ use Rattle.sha_crypt.proofs.Decimals.{decimal_lacks, plain_number-decimal}
 use Rattle.sha_crypt.proofs.Shapes.{Stands}
 use Rattle.sha_crypt.proofs.Spellings.{old_form, today}
 use Rattle.crypt_text.specs.Settings.{ShaSetting, are_rounds, before_dollar, sha_by_rounds, sha_setting}
-use Rattle.crypt_text.proofs.Dollars.{after_cut, before_cut, has_cut}
+use Rattle.crypt_law.proofs.Cuts.{after_cut, before_cut, has_cut}
 
 -- ---- a front without `$`
 

@@ -1,0 +1,4 @@
+mod Cuts
+mod Clean
+mod ShaReadings
+mod BcryptReadings
