@@ -1,13 +1,14 @@
 -- Texts without a byte that no setting has.
 use Rattle.std.proofs.Common.{◌≡◌, ℕ, Bool, true, false, List, [], ◌∷◌, refl, subst, arith}
-use Rattle.std.specs.Prelude.{◌&&◌, not, None}
+use Rattle.std.specs.Prelude.{◌&&◌, not, None, Some, Err}
 use Rattle.std.proofs.lemmas.Bool.{false≢true}
 use Rattle.std.specs.List.{list_all}
 use Rattle.std.proofs.lemmas.Bool.Decides.{nat_tests}
 use Rattle.pieces.specs.Characters.{is_name_byte}
 use Rattle.pieces.proofs.ByteTests.{all_append, all_weaker}
 use Rattle.pieces.proofs.FaultLaws.{or_none}
-use Rattle.mcf.specs.Grammar.{fault, field_fault, first_field_fault, fields_text, is_field_byte, parts, parts_text}
+use Rattle.mcf.specs.Grammar.{fault, field_fault, first_field_fault, fields_text, is_field_byte, mcf, parts, parts_text}
+use Rattle.mcf.specs.declared.error.Error as mcf_error
 use Rattle.mcf.proofs.Ascii.{text_of_valid}
 use Rattle.mcf.proofs.Built.{field_bytes, identifier_bytes}
 use Rattle.mcf.proofs.ValidTexts.{valid_of}
@@ -55,3 +56,7 @@ valid_clean s valid =
     subst (λ (t : List ℕ). has_refused t ≡ false) (text_of_valid s valid)
     (none_refused (parts_text (parts s))
     (all_append is_clean (parts s).id (fields_text (parts s).fields) name behind))
+
+pub mcf_of_fault : (s : List ℕ) (e : mcf_error.Error) → fault s ≡ Some e → mcf s ≡ Err e
+unfolding mcf
+mcf_of_fault s e is = rw is refl

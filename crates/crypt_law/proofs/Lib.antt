@@ -1,4 +1,9 @@
 mod Cuts
 mod Clean
+mod Answers
+mod Prefixes
 mod ShaReadings
 mod BcryptReadings
+mod ShaLaw
+mod Md5Law
+mod BcryptLaw
