@@ -1,5 +1,5 @@
 -- What an answer of a row says of the answer of the scheme.
-use Rattle.std.proofs.Common.{◌≡◌, ℕ, Bool, true, false, List, refl, Result, Ok, Err}
+use Rattle.std.proofs.Common.{◌≡◌, Bool, Result, Ok, Err}
 use Rattle.stored_check.specs.declared.error.StoredError.{StoredError}
 use Rattle.md5_crypt.specs.declared.error.LegacyError.{LegacyError}
 use Rattle.md5_crypt.specs.declared.error.LegacyError.TheVariants as of_md5

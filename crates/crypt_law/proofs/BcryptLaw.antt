@@ -1,12 +1,10 @@
 -- The law for texts of bcrypt.
-use Rattle.std.proofs.Common.{◌≡◌, ℕ, suc, ◌+◌, ◌/◌, ◌%◌, ◌≤◌, Bool, true, false, List, [], ◌∷◌, ◌++◌, length, map, take, drop, refl, sym, subst, ap, ◌∙◌, arith}
-use Rattle.std.proofs.Common.{append_assoc, inl, inr, Option, Some, None, Result, Ok, Err}
-use Rattle.std.specs.Prelude.{◌↔◌, ◌⊎◌, ◌||◌, codes, nat_eq, not, if◌then◌else◌}
+use Rattle.std.proofs.Common.{◌≡◌, ℕ, suc, ◌+◌, ◌/◌, ◌%◌, ◌≤◌, Bool, true, false, List, [], ◌∷◌, ◌++◌, length, map, refl, sym, ap, ◌∙◌, arith}
+use Rattle.std.proofs.Common.{inl, inr, Option, Some, None, Result, Ok, Err}
+use Rattle.std.specs.Prelude.{◌↔◌, ◌⊎◌, ◌||◌, codes, nat_eq}
 use Rattle.std.specs.Cmp.Lexicographic.{pointwise}
-use Rattle.std.specs.List.{list_all}
 use Rattle.std.proofs.lemmas.Bool.{false≢true}
 use Rattle.std.proofs.lemmas.Bool.Decides.{nat_tests}
-use Rattle.std.proofs.lemmas.Option.{none-some}
 use Rattle.base64ct.specs.Alphabets.{base64_bcrypt}
 use Rattle.base64ct.specs.Encoding.{EachBelow, character, encoding, groups}
 use Rattle.base64ct.proofs.DecodingLaws.{same_true}
@@ -15,7 +13,7 @@ use Rattle.phc.specs.declared.password_hash.PasswordHash.{PasswordHash}
 use Rattle.pieces.specs.Pieces.{pieces_at}
 use Rattle.pieces.proofs.ByteTests.{all_append, passes_at}
 use Rattle.bcrypt_plain.specs.Bcrypt.{bcrypt}
-use Rattle.bcrypt_plain.specs.Check.{bcrypt_answer, has_zero, hash_matches, parts_answer}
+use Rattle.bcrypt_plain.specs.Check.{bcrypt_answer, has_zero, parts_answer}
 use Rattle.bcrypt_plain.specs.Field.{bcrypt_field}
 use Rattle.bcrypt_plain.specs.Laws.{MatchesExactly}
 use Rattle.bcrypt_plain.specs.Made.{IsHashText, text_of, two_digits}
@@ -26,8 +24,8 @@ use Rattle.bcrypt_plain.specs.declared.error.BcryptFault.{BcryptFault}
 use Rattle.bcrypt_plain.proofs.MadeTexts.{hash_below}
 use Rattle.any_check.specs.Table.{any_verdict, of_bcrypt_check, text_scheme}
 use Rattle.any_check.specs.declared.scheme.AnyScheme.TheVariants.{Bcrypt}
-use Rattle.crypt_text.specs.Settings.{BcryptSetting, bcrypt_setting, has_refused, method_of}
-use Rattle.crypt_text.specs.Texts.{Answer, bcrypt_text, crypt_text, if_setting, method_text}
+use Rattle.crypt_text.specs.Settings.{BcryptSetting, bcrypt_setting, method_of}
+use Rattle.crypt_text.specs.Texts.{bcrypt_text, crypt_text, if_setting, method_text}
 use Rattle.crypt_law.proofs.Answers.{as_any}
 use Rattle.crypt_law.proofs.BcryptReadings.{bcrypt_read, setting_facts}
 use Rattle.crypt_law.proofs.Clean.{are_clean, is_clean, none_refused}
@@ -231,7 +229,7 @@ module _ (exact : MatchesExactly) (accepted : PasswordHash → List ℕ → ℕ 
         | inl passes ↦ ((λ same. passes.1), (λ matches. from_match l phrase rest short passes.0))
         | inr fails ↦ (
           (λ same. absurd (other_answers (bcrypt_answer phrase text)
-          (to_match l phrase rest short (no_zero phrase text (inr fails.0)) same) fails.0)),
+              (to_match l phrase rest short (no_zero phrase text (inr fails.0)) same) fails.0)),
           (λ matches. absurd (false≢true (sym fails.1 ∙ matches))),
         )
       ]

@@ -1,5 +1,6 @@
 mod Cuts
 mod Clean
+mod Characters
 mod Answers
 mod Prefixes
 mod ShaReadings
@@ -7,3 +8,6 @@ mod BcryptReadings
 mod ShaLaw
 mod Md5Law
 mod BcryptLaw
+mod YescryptLaw
+mod ScryptLaw
+mod Law

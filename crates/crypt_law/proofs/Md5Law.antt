@@ -1,7 +1,7 @@
 -- The law for texts of md5-crypt.
-use Rattle.std.proofs.Common.{◌≡◌, ℕ, ◌≤◌, Bool, true, false, List, [], ◌∷◌, ◌++◌, length, take, drop, refl, sym, subst, ap, ◌∙◌, arith}
+use Rattle.std.proofs.Common.{◌≡◌, ℕ, ◌≤◌, Bool, true, false, List, [], ◌∷◌, ◌++◌, length, take, refl, sym, subst, ap, ◌∙◌, arith}
 use Rattle.std.proofs.Common.{append_assoc, Option, Some, None, Result, Ok, Err}
-use Rattle.std.specs.Prelude.{◌↔◌, codes, nat_eq, nat_lt, if◌then◌else◌}
+use Rattle.std.specs.Prelude.{◌↔◌, codes, nat_eq, nat_lt}
 use Rattle.std.specs.Cmp.Lexicographic.{pointwise}
 use Rattle.std.specs.List.{join_with_byte}
 use Rattle.std.proofs.lemmas.Bool.Decides.{nat_tests}
@@ -18,7 +18,6 @@ use Rattle.pieces.proofs.ListLaws.{nil_of_empty}
 use Rattle.md5_crypt.specs.Digest.{md5_crypt_digest}
 use Rattle.md5_crypt.specs.Field.{md5_field}
 use Rattle.md5_crypt.specs.Verdict.{Md5Fields, checked_fields, legacy_text_answer, legacy_verdict, md5_answer, md5_fields, split_fields}
-use Rattle.md5_crypt.specs.declared.error.LegacyError.{LegacyError}
 use Rattle.md5_crypt.specs.declared.error.Md5Fault.{Md5Fault}
 use Rattle.md5_crypt.specs.declared.magic.Magic.TheVariants.{Md5}
 use Rattle.sha_crypt.specs.HashField.{is_hash_field}
@@ -169,15 +168,14 @@ module _ (accepted : PasswordHash → List ℕ → ℕ → Bool) (tag : List ℕ
       crypt_is phrase (whole rest) short (valid_clean (whole rest) told.valid) ∙ method_is phrase rest
       ∙ ap (λ (s : List ℕ). Ok (front s ++ key phrase s)) salt.salt in
       let stands : front f.salt ++ f.hash ≡ whole rest =
-      append_assoc (codes "$1$" ++ f.salt) (codes "$") f.hash ∙ ap whole (sym salt.is) in
-      (
+      append_assoc (codes "$1$" ++ f.salt) (codes "$") f.hash ∙ ap whole (sym salt.is) in (
         (λ (same : crypt_text phrase (whole rest) ≡ Ok (whole rest)).
-        let hash : key phrase f.salt ≡ f.hash =
-        append_cancel_left (front f.salt) (key phrase f.salt) f.hash
-        (ok_text (front f.salt ++ key phrase f.salt) (whole rest) (sym made ∙ same) ∙ sym stands) in
-        sym told.told ∙ subst (λ (t : List ℕ). pointwise nat_eq (key phrase f.salt) t ≡ true) hash
-        (true_same (key phrase f.salt))),
-        (λ (yes : b ≡ true).
-        let hash : key phrase f.salt ≡ f.hash = same_true (key phrase f.salt) f.hash (told.told ∙ yes) in
-        made ∙ ap (λ (t : List ℕ). Ok (front f.salt ++ t)) hash ∙ ap Ok stands),
+            let hash : key phrase f.salt ≡ f.hash =
+            append_cancel_left (front f.salt) (key phrase f.salt) f.hash
+            (ok_text (front f.salt ++ key phrase f.salt) (whole rest) (sym made ∙ same) ∙ sym stands) in
+            sym told.told ∙ subst (λ (t : List ℕ). pointwise nat_eq (key phrase f.salt) t ≡ true) hash
+            (true_same (key phrase f.salt))),
+        (λ (passes : b ≡ true).
+            let hash : key phrase f.salt ≡ f.hash = same_true (key phrase f.salt) f.hash (told.told ∙ passes) in
+            made ∙ ap (λ (t : List ℕ). Ok (front f.salt ++ t)) hash ∙ ap Ok stands),
       )

@@ -1,18 +1,15 @@
 -- The pieces of a text by its prefix, and the answers behind it.
-use Rattle.std.proofs.Common.{◌≡◌, ℕ, ◌≤◌, ◌<◌, Bool, true, false, List, [], ◌∷◌, ◌++◌, length, take, drop, refl, sym, ap, ◌∙◌, arith}
-use Rattle.std.proofs.Common.{Option, Some, None, Result, Ok, Err}
-use Rattle.std.specs.Prelude.{codes, nat_lt}
+use Rattle.std.proofs.Common.{◌≡◌, ℕ, ◌≤◌, Bool, true, false, List, ◌++◌, length, take, drop, refl, sym, ap, ◌∙◌, arith}
+use Rattle.std.proofs.Common.{Some, Ok}
+use Rattle.std.specs.Prelude.{nat_lt}
 use Rattle.std.proofs.lemmas.Bool.Decides.{nat_tests}
 use Rattle.std.proofs.lemmas.List.{take-append-drop}
 use Rattle.base64ct.proofs.DecodingLaws.{same_true}
 use Rattle.phc.specs.declared.password_hash.PasswordHash.{PasswordHash}
-use Rattle.pieces.specs.Pieces.{pieces_at}
 use Rattle.any_check.specs.Table.{any_verdict, row, text_scheme}
-use Rattle.any_check.specs.declared.error.AnyError.{AnyError}
 use Rattle.any_check.specs.declared.scheme.AnyScheme.{AnyScheme}
 use Rattle.crypt_text.specs.Settings.{begins, has_refused, method_of}
 use Rattle.crypt_text.specs.Texts.{Answer, crypt_text, method_text}
-use Rattle.crypt_text.specs.declared.error.CryptError.{CryptError}
 
 -- a text that begins with a front is the front, and what stands behind it
 pub front_is : (text front : List ℕ) → begins text front ≡ true → text ≡ front ++ drop (length front) text

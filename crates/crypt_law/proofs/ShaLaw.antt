@@ -1,12 +1,12 @@
 -- The law for texts of SHA-crypt.
-use Rattle.std.proofs.Common.{◌≡◌, ℕ, ◌≤◌, Bool, true, false, List, [], ◌∷◌, ◌++◌, length, drop, refl, sym, subst, ap, ◌∙◌, arith}
+use Rattle.std.proofs.Common.{◌≡◌, ℕ, ◌≤◌, Bool, true, false, List, ◌∷◌, ◌++◌, length, refl, sym, subst, ap, ◌∙◌, arith}
 use Rattle.std.proofs.Common.{Option, Some, None, Result, Ok, Err}
 use Rattle.std.specs.Prelude.{◌↔◌, codes, nat_eq, nat_lt}
 use Rattle.std.specs.Cmp.Lexicographic.{pointwise}
 use Rattle.std.proofs.lemmas.Bool.Decides.{nat_tests}
 use Rattle.std.proofs.lemmas.List.{append_cancel_left}
 use Rattle.base64ct.proofs.DecodingLaws.{same_true, true_same}
-use Rattle.mcf.specs.Grammar.{Parts, fault, mcf, parts}
+use Rattle.mcf.specs.Grammar.{fault, mcf, parts}
 use Rattle.mcf.specs.declared.error.Error as mcf_error
 use Rattle.mcf.proofs.Ascii.{mcf_of_valid}
 use Rattle.phc.specs.declared.password_hash.PasswordHash.{PasswordHash}
@@ -22,15 +22,14 @@ use Rattle.sha_crypt.specs.declared.errors.Family.{Family}
 use Rattle.sha_crypt.specs.declared.errors.Family.TheVariants.{Sha256, Sha512}
 use Rattle.sha_crypt.proofs.Spellings.{prints_back}
 use Rattle.stored_check.specs.Verdict.{sha_answer, text_answer, verdict}
-use Rattle.stored_check.specs.declared.error.StoredError.{StoredError}
-use Rattle.any_check.specs.Table.{any_verdict, row, text_scheme}
+use Rattle.any_check.specs.Table.{any_verdict, text_scheme}
 use Rattle.any_check.specs.declared.scheme.AnyScheme.TheVariants.{ShaCrypt}
-use Rattle.crypt_text.specs.Settings.{has_refused, method_of, sha_setting}
-use Rattle.crypt_text.specs.Texts.{crypt_text, if_setting, method_text, sha_field, sha_text}
+use Rattle.crypt_text.specs.Settings.{method_of, sha_setting}
+use Rattle.crypt_text.specs.Texts.{crypt_text, if_setting, method_text, sha_text}
 use Rattle.crypt_law.proofs.Answers.{as_any, as_stored, stored_ok}
 use Rattle.crypt_law.proofs.Clean.{mcf_of_fault, valid_clean}
 use Rattle.crypt_law.proofs.Prefixes.{crypt_is, ok_text, row_is}
-use Rattle.crypt_law.proofs.ShaReadings.{setting_of, sha_read}
+use Rattle.crypt_law.proofs.ShaReadings.{sha_read}
 
 -- `$5$` or `$6$`, and the rest
 abbrev pub whole : Family → List ℕ → List ℕ
@@ -154,15 +153,14 @@ module _ (accepted : PasswordHash → List ℕ → ℕ → Bool) (tag : List ℕ
       let found = fields_of family phrase rest b short h in
       let f = found.fields in
       let made = crypt_by family phrase rest f short found.valid found.are in
-      let stands = whole_by family rest f found.are in
-      (
+      let stands = whole_by family rest f found.are in (
         (λ (same : crypt_text phrase (whole family rest) ≡ Ok (whole family rest)).
-        let hash : key family phrase f ≡ f.hash =
-        append_cancel_left (front family f) (key family phrase f) f.hash
-        (ok_text (front family f ++ key family phrase f) (whole family rest) (sym made ∙ same) ∙ sym stands) in
-        sym found.told ∙ subst (λ (t : List ℕ). pointwise nat_eq (key family phrase f) t ≡ true) hash
-        (true_same (key family phrase f))),
-        (λ (yes : b ≡ true).
-        let hash : key family phrase f ≡ f.hash = same_true (key family phrase f) f.hash (found.told ∙ yes) in
-        made ∙ ap (λ (t : List ℕ). Ok (front family f ++ t)) hash ∙ ap Ok stands),
+            let hash : key family phrase f ≡ f.hash =
+            append_cancel_left (front family f) (key family phrase f) f.hash
+            (ok_text (front family f ++ key family phrase f) (whole family rest) (sym made ∙ same) ∙ sym stands) in
+            sym found.told ∙ subst (λ (t : List ℕ). pointwise nat_eq (key family phrase f) t ≡ true) hash
+            (true_same (key family phrase f))),
+        (λ (passes : b ≡ true).
+            let hash : key family phrase f ≡ f.hash = same_true (key family phrase f) f.hash (found.told ∙ passes) in
+            made ∙ ap (λ (t : List ℕ). Ok (front family f ++ t)) hash ∙ ap Ok stands),
       )
