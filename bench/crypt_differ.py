@@ -57,16 +57,21 @@ class Trial:
     def gensalt(self, *arguments):
         self.tried += 1
         ours, theirs = self.ours.gensalt(*arguments), self.theirs.gensalt(*arguments)
-        if ours != theirs:
-            prefix, _, _, length, size = (*arguments, 192)[:5]
-            if length < 0 and ours == (errno.EINVAL, b"*0"):
-                self.listed["a negative number of random bytes"] += 1
-            elif prefix is not None and prefix[:3] in (b"$1$", b"$5$", b"$6$") and size < 45 and ours[0] == errno.ERANGE:
-                self.listed["a salt cut to the room"] += 1
-            elif prefix is None or given.method_of(prefix) is None:
-                self.listed["another method"] += 1
-            else:
-                self.say("gensalt", arguments, ours, theirs)
+        if ours == theirs:
+            return
+        prefix, count, data, length, size = (*arguments, 192)[:5]
+        whole = given.new_setting(prefix, count, data[:max(length, 0)])
+        if length < 0 and ours == (errno.EINVAL, b"*0"):
+            self.listed["a negative number of random bytes"] += 1
+        elif given.method_of(prefix) is None and ours[0] == errno.EINVAL:
+            self.listed["another method"] += 1
+        elif whole and len(whole) < size < 192 and ours[0] == whole and (
+                theirs[0] == errno.ERANGE or whole.startswith(theirs[0])):
+            self.listed["room for the whole setting, and not for libxcrypt"] += 1
+        elif whole and size <= len(whole) and ours[0] == errno.ERANGE and whole.startswith(theirs[0]):
+            self.listed["no room for the whole setting, which libxcrypt cuts"] += 1
+        else:
+            self.say("gensalt", arguments, ours, theirs)
 
 
 def settings(trial, dice, count):

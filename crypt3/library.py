@@ -23,7 +23,7 @@ ARCHIVE = os.environ.get("LIBPWCRYPT_C", os.path.join(TOP, "crates", "pwcrypt_c"
 FLAGS = ["-std=c11", "-D_GNU_SOURCE", "-O2", "-g", "-Wall", "-Wextra", "-Werror", "-fPIC", "-fvisibility=default",
          "-fstack-protector-strong", "-fstack-clash-protection", "-fcf-protection", "-Wformat", "-Werror=format-security",
          "-D_FORTIFY_SOURCE=2"]
-LINK = ["-Wl,-z,relro", "-Wl,-z,now", "-Wl,-z,defs", "-Wl,-z,text", "-Wl,-z,noexecstack",
+LINK = ["-Wl,-z,relro", "-Wl,-z,now", "-Wl,-z,defs", "-Wl,-z,text", "-Wl,-z,noexecstack", "-Wl,-Bsymbolic",
         "-Wl,--version-script=" + os.path.join(HERE, "exports.map")]
 
 
