@@ -19,9 +19,11 @@ STYLE = (
 )
 # The layers of the first picture, from what people run down to what all stands on.
 LAYERS = [
-    ("programs and the C library", ["pwtool", "pwcheck", "pwfile", "pwkdf", "pwlegacy", "wrapstream", "pwcheck_c"]),
-    ("lines, users, tables", ["any_users", "any_survey", "user_lines", "pw_file", "line_state", "line_program", "wrap_stream"]),
-    ("verdicts", ["any_check", "stored_check"]),
+    ("programs, C libraries", ["pwtool", "pwcheck", "pwfile", "pwkdf", "pwlegacy", "wrapstream", "pwcheck_c", "pwcrypt_c"]),
+    ("lines of users", ["any_users", "any_survey", "user_lines"]),
+    ("tables of users", ["pw_store", "any_table", "pw_file"]),
+    ("loops over lines", ["line_state", "line_program", "wrap_stream"]),
+    ("verdicts, crypt(3)'s texts", ["any_check", "stored_check", "crypt_text", "crypt_law"]),
     ("schemes", ["sha_crypt", "yescrypt_plain", "bcrypt_plain", "argon2_plain", "scrypt_plain", "pbkdf2_plain", "md5_crypt"]),
     ("texts", ["phc", "mcf", "base64ct", "pieces"]),
     ("ground", ["subtle", "blake2b", "line_io", "line_log", "file_device"]),
@@ -55,7 +57,7 @@ def parts_picture():
             x = 180 + 118 * place
             drawn.append(f'<rect class="box" x="{x}" y="{y}" width="110" height="36" rx="5"/>')
             drawn.append(text(x + 55, y + 23, name, anchor="middle"))
-    return picture(1016, 20 + 62 * len(LAYERS), drawn)
+    return picture(1134, 20 + 62 * len(LAYERS), drawn)
 
 
 def speeds():

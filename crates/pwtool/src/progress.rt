@@ -43,9 +43,11 @@ impl<'a> Progress<'a> {
         let speed = lines.checked_div(seconds).unwrap_or(lines);
         let _ = match seconds_left(self.total, lines, speed) {
             Some(left) => {
-                eprintln!(self.rt; "pwtool: {lines} lines, {speed} a second, {left} seconds left")
+                eprintln!(self.rt;
+                    "pwtool: lines: {lines}, in a second: {speed}, seconds left: {left}"
+                )
             }
-            None => eprintln!(self.rt; "pwtool: {lines} lines, {speed} a second"),
+            None => eprintln!(self.rt; "pwtool: lines: {lines}, in a second: {speed}"),
         };
     }
 }

@@ -52,7 +52,7 @@ pub fn summarize(rt: &HostRuntime, reporting: Reporting, counts: &Counts) {
         let lines = counts.lines();
         let (matches, mismatches, others) = (counts.matches, counts.mismatches, counts.others);
         let _ = eprintln!(rt;
-            "pwtool: {lines} lines: {matches} match, {mismatches} mismatch, {others} other"
+            "pwtool: lines: {lines}; match: {matches}, mismatch: {mismatches}, other: {others}"
         );
     }
 }
