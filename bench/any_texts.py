@@ -224,7 +224,7 @@ def asked(makers, passwords):
 
 def answers(words, rows):
     lines = "".join(f"{password}\t{text}\n" for _, password, text, _ in rows).encode()
-    run = subprocess.run([PROGRAM, "check", *words], input=lines, capture_output=True, check=False)
+    run = subprocess.run([PROGRAM, "check", "--quiet", *words], input=lines, capture_output=True, check=False)
     found = run.stdout.decode().splitlines()
     need(len(found) == len(rows) and not run.stderr, f"{len(found)} answers to {len(rows)} lines: {run.stderr}")
     need(run.returncode == (0 if set(found) == {"match"} else 1), f"status {run.returncode}")
@@ -262,6 +262,45 @@ def is_above(text):
     return any(number > BOUNDS.get(option, number) for option, number in costs(text).items())
 
 
+def of_users(folder, rows):
+    """What `check --users` and `join` answer, the second with the smaller file of each kind, as words of the rows; and the
+    schemes that `survey` tells. Each row is a user's; behind each user's password stands an earlier one in the file."""
+    rows = [row for row in rows if ":" not in row[2] and "\n" not in row[1]]
+    texts, passwords, many = (os.path.join(folder, name) for name in ("texts", "passwords", "many"))
+    with open(texts, "w", encoding="utf-8") as file:
+        file.writelines(f"user{n}:{row[2]}:19700:0:99999:7:::\n" for n, row in enumerate(rows))
+    with open(passwords, "w", encoding="utf-8") as file:
+        file.writelines(f"user{n}:an earlier one\n" for n in range(3))
+        file.writelines(f"user{n}:{row[1]}\n" for n, row in enumerate(rows))
+    with open(passwords, encoding="utf-8") as file, open(many, "w", encoding="utf-8") as more:
+        more.write("".join(f"nobody{n}:{'x' * 4000}\n" for n in range(200)) + file.read())
+    need(os.path.getsize(passwords) < os.path.getsize(texts) < os.path.getsize(many), "the files have other sizes than are tried")
+    users = "".join(f"user{n}:{row[1]}\t{row[2]}\n" for n, row in enumerate(rows)).encode()
+    runs = [
+        subprocess.run([PROGRAM, "check", "--quiet", "--users"], input=users, capture_output=True, check=False),
+        subprocess.run([PROGRAM, "join", "--quiet", texts, passwords], capture_output=True, check=False),
+        subprocess.run([PROGRAM, "join", "--quiet", texts, many], capture_output=True, check=False),
+        subprocess.run([PROGRAM, "survey", "--quiet", texts], capture_output=True, check=False),
+    ]
+    found = []
+    for run in runs:
+        lines = run.stdout.decode().split("\n\n")[0].splitlines()
+        need(not run.stderr and len(lines) == len(rows), f"{len(lines)} answers to {len(rows)} users: {run.stderr}")
+        parts = [line.split("\t") for line in lines]
+        need(all(part[0] == f"user{n}" for n, part in enumerate(parts)), "a user isn't in the place of the line")
+        found.append([part[1] for part in parts])
+    left = subprocess.run([PROGRAM, "join", "--quiet", "--no-text", texts, many], capture_output=True, check=False).stdout.decode()
+    need(left == "".join(f"nobody{n}\tno-text\n" for n in range(200)), "users without a text")
+    return rows, found
+
+
+def join_word(row):
+    """The word of `join`: a text that is empty or begins with `*` or `!` is not judged."""
+    if not row[2]:
+        return "empty"
+    return "locked" if row[2][0] in "*!" else row[3]
+
+
 def compare(what, rows, found, wanted):
     wrong = [(row[0], row[1], row[2], want, got) for row, want, got in zip(rows, wanted, found) if want != got]
     need(not wrong, f"{what}: {len(wrong)} answers are wrong: {wrong[:5]}")
@@ -289,7 +328,18 @@ def main():
     compare("under a bound", rows, answers(words, rows), bounded)
     right = [row for row in rows if row[3] == "match"]
     compare("right ones alone", right, answers([], right), ["match"] * len(right))
+    with tempfile.TemporaryDirectory() as folder:
+        named, (by_lines, by_passwords, by_texts, schemes) = of_users(folder, rows)
+    wanted = [join_word(row) for row in named]
+    compare("with users", named, by_lines, [row[3] for row in named])
+    compare("joined, the passwords kept", named, by_passwords, wanted)
+    compare("joined, the needed passwords kept", named, by_texts, wanted)
+    told = {}
+    for row, scheme in zip(named, schemes):
+        told.setdefault((row[0], scheme), 0)
+        told[row[0], scheme] += 1
     table(rows, found)
+    print("survey: " + ", ".join(f"{maker}: {scheme} {count}" for (maker, scheme), count in sorted(told.items())))
     print(f"seed {seed}: {len(rows)} lines of {len({row[0] for row in rows})} makers, all answered right;"
           f" {bounded.count('too-costly')} too costly under the bound")
 

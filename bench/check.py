@@ -156,4 +156,5 @@ def main():
         scrypt_lines(folder, peak, max(1, runs // 2))
 
 
-main()
+if __name__ == "__main__":
+    main()
