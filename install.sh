@@ -1,5 +1,6 @@
 #!/usr/bin/env bash
-# Installs the programs, the C library, its header and pkg-config file, the manual pages and the licences under a prefix.
+# Installs the programs, the C library and libpwcrypt (crypt(3)), the header and pkg-config file, the manual pages and the licences
+# under a prefix.
 #
 #     ./install.sh [PREFIX]      (/usr/local if left out; DESTDIR is put before it; PREFIX may be relative)
 #
@@ -50,14 +51,26 @@ for program in $programs; do
   put 755 "$top/crates/$program/out/$program" bin
 done
 put 644 "$library/lib/libpwcheck.a" lib
-for shared in "$library"/lib/libpwcheck.so*; do
-  if [ -L "$shared" ]; then
-    cp -P "$shared" "$root/lib/"
-    echo "linked $root/lib/$(basename "$shared")"
-  else
-    put 644 "$shared" lib
-  fi
-done
+put_shared() { # NAME
+  local shared
+  for shared in "$library/lib/$1".so*; do
+    if [ -L "$shared" ]; then
+      cp -P "$shared" "$root/lib/"
+      echo "linked $root/lib/$(basename "$shared")"
+    else
+      put 644 "$shared" lib
+    fi
+  done
+}
+
+put_shared libpwcheck
+# crypt(3) under a name of its own, where libxcrypt's header is there to build its face.
+if [ -e /usr/include/crypt.h ]; then
+  python3 "$top/crypt3/library.py" "$library"
+  put_shared libpwcrypt
+else
+  echo "libpwcrypt: <crypt.h> isn't here, left out" >&2
+fi
 put 644 "$top/include/pwcheck.h" include
 put 644 "$library/lib/pkgconfig/pwcheck.pc" lib/pkgconfig
 for page in "$top"/man/*.[135]; do

@@ -102,7 +102,7 @@ def number(text, at, least):
 
 
 def yescrypt_params(text):
-    """flavor, ln, r, p, t, g and the ROM's size, or None."""
+    """flavor, ln, r, p, t, g, the ROM's size, and the number that says which of the last four follow; or None."""
     values, at = [], 0
     for least in (0, 1, 1):
         found = number(text, at, least)
@@ -113,7 +113,7 @@ def yescrypt_params(text):
     named = 0
     if at < len(text):
         found = number(text, at, 1)
-        if found is None or found[0] >= 16:
+        if found is None:
             return None
         named, at = found
     for bit, least, absent in ((1, 2, 1), (2, 1, 0), (4, 1, 0), (8, 1, 0)):
@@ -125,12 +125,12 @@ def yescrypt_params(text):
             at = found[1]
         else:
             values.append(absent)
-    return values if at == len(text) else None
+    return [*values, named] if at == len(text) else None
 
 
 def yescrypt_taken(params):
-    flavor, ln, r, p, t, g, rom = params
-    return (flavor, p, g, rom) == (47, 1, 0, 0) and 2 <= ln <= 24 and 1 <= r < 2 ** 19 and t <= 1024 \
+    flavor, ln, r, p, t, g, rom, named = params
+    return (flavor, p, g, rom) == (47, 1, 0, 0) and named < 16 and 2 <= ln <= 24 and 1 <= r < 2 ** 19 and t <= 1024 \
         and 128 * r * 2 ** ln <= 2 ** 30
 
 
@@ -232,7 +232,7 @@ def library_scrypt_costs(params):
 
 
 def library_yescrypt_costs(params):
-    flavor, ln, r, p, t, g, rom = params
+    flavor, ln, r, p, t, g, rom, _ = params
     if not 2 <= ln <= 63 or g or rom or r * p >= 2 ** 30:
         return False
     return (flavor == 0 and t == 0) or flavor == 1 or (flavor == 47 and 2 ** ln // p > 3)

@@ -11,7 +11,7 @@ import sys
 
 TOP = os.path.dirname(os.path.dirname(os.path.abspath(__file__)))
 PAGES = ["README.md", "CONTRIBUTING.md", "SECURITY.md", "CHANGELOG.md", "NOTICE"] + sorted(glob.glob("docs/*.md", root_dir=TOP)) + sorted(glob.glob("man/*", root_dir=TOP))
-ROOTS = ("crates", "docs", "bench", "examples", "bindings", "include", "man", "scale", "packaging", "checks")
+ROOTS = ("crates", "docs", "bench", "examples", "bindings", "include", "man", "scale", "packaging", "checks", "crypt3")
 
 
 def spread(path):

@@ -11,6 +11,7 @@ set -eu
 cd "$(dirname "$0")/.."
 export PYTHONDONTWRITEBYTECODE=1
 python3 bindings/numbers.py swaps
+python3 crypt3/numbers.py swaps
 python3 checks/pages.py
 python3 bench/pictures.py check
 [ "${1:-}" = quick ] && exit 0
@@ -22,6 +23,16 @@ python3 bindings/try.py "$work/try"
 gcc -std=c99 -g -O1 -Wall -Wextra -Werror -fsanitize=address,undefined -fno-sanitize-recover=all \
   -I "$work/lib/include" checks/c_calls.c "$work/lib/lib/libpwcheck.a" -o "$work/c_calls"
 "$work/c_calls"
+if [ -e /usr/include/crypt.h ]; then
+  python3 crypt3/library.py "$work/crypt"
+  # pwcrypt.c is compiled for the sanitizers with the program that calls it. Its null pointers are meant.
+  gcc -std=c11 -D_GNU_SOURCE -g -O1 -Wall -Wextra -Werror -fsanitize=address,undefined -fno-sanitize=nonnull-attribute \
+    -fno-sanitize-recover=all crypt3/try.c crypt3/pwcrypt.c ${LIBPWCRYPT_C:-crates/pwcrypt_c/out/libpwcrypt_c.a} \
+    "${KIT:-$(dirname "$(rt doc)")}/c/liblibc_c.a" -o "$work/crypt_try" -lpthread
+  "$work/crypt_try"
+  python3 bench/crypt_differ.py "$work/crypt/lib/libpwcrypt.so.1" 2000
+  python3 bench/crypt_clients.py "$work/crypt/lib/libpwcrypt.so.1"
+fi
 # The programs are built once; the prefixes take what is built.
 ./install.sh "$work/first" >&2
 PWCHECK_AS_BUILT=1 checks/prefixes.sh "$work/prefixes"

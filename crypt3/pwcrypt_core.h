@@ -5,7 +5,7 @@
 #include <stddef.h>
 #include <stdint.h>
 
-/* What pwcrypt_text and pwcrypt_setting answer. bench/crypt_numbers.py compares these with the definitions. */
+/* What pwcrypt_text and pwcrypt_setting answer. crypt3/numbers.py compares these with the definitions. */
 enum pwcrypt_status {
     PWCRYPT_DONE = 0,           /* the text stands in out, and *len is its length: no zero stands behind it */
     PWCRYPT_TOO_LONG = -1,      /* the phrase, or a setting of $7$ or $y$: ERANGE */
