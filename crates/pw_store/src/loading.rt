@@ -29,7 +29,10 @@ fn refusal<T: Copy, V: Copy>(e: FileError<T, V>) -> Result<bool, AllocError>
 }
 
 // Takes a command that is a `set`.
-fn take_command<P: Policy>(table: &mut Table<P>, command: Command<'_, P>) -> Result<bool, AllocError>
+fn take_command<P: Policy>(
+    table: &mut Table<P>,
+    command: Command<'_, P>,
+) -> Result<bool, AllocError>
     ensures taken { (line : List ℕ) → Asks P.policy line (command_of command.entry) → IfOk result (λ taken. taken ≡ is_taken P.policy table.old line) }
     ensures after { (line : List ℕ) → Asks P.policy line (command_of command.entry)
         → IfOk result (λ taken. taken ≡ true → table.new ≡ table_after P.policy table.old line) }

@@ -74,7 +74,11 @@ impl<D: Device, P: Policy> Store<D, P> {
     }
 
     /// Whether the user's text matches the password.
-    pub fn check(&self, user: &UserName<P>, password: &str) -> Result<bool, FileError<P::TextFault, P::VerdictFault>>
+    pub fn check(
+        &self,
+        user: &UserName<P>,
+        password: &str,
+    ) -> Result<bool, FileError<P::TextFault, P::VerdictFault>>
         ensures answer { IsAnswer
             (check_answer P.policy (text_in (rows_of self.now) user.now) password.now)
             (check_may_lack P.policy (text_in (rows_of self.now) user.now) password.now)
@@ -166,7 +170,11 @@ impl<D: Device, P: Policy> Store<D, P> {
     ///
     /// At `Ok` it is on the disk. After any refusal the content is as before; after a fault of a write no further change
     /// is taken.
-    pub fn set(&mut self, user: &UserName<P>, text: &str) -> Result<(), StoreError<P::TextFault, P::VerdictFault>>
+    pub fn set(
+        &mut self,
+        user: &UserName<P>,
+        text: &str,
+    ) -> Result<(), StoreError<P::TextFault, P::VerdictFault>>
         requires sound { IsSound P.policy D.seen D.may_leave self.old }
         ensures answer { IsStored
             (stored_set P.policy (takes_changes self.old) (rows_of self.old) (size_of self.old) user.now text.now)
@@ -202,7 +210,12 @@ impl<D: Device, P: Policy> Store<D, P> {
 
     /// Checks as [`check`](Store::check). Where the text matches, the user's text is from then on a new one of scrypt for
     /// the password and the salt.
-    pub fn upgrade(&mut self, user: &UserName<P>, password: &str, salt: &str) -> Result<bool, StoreError<P::TextFault, P::VerdictFault>>
+    pub fn upgrade(
+        &mut self,
+        user: &UserName<P>,
+        password: &str,
+        salt: &str,
+    ) -> Result<bool, StoreError<P::TextFault, P::VerdictFault>>
         requires sound { IsSound P.policy D.seen D.may_leave self.old }
         ensures answer { IsStored
             (stored_upgrade P.policy (takes_changes self.old) (rows_of self.old) (size_of self.old) user.now password.now salt.now)

@@ -59,11 +59,7 @@ fn opened<D: Device + Drop>(
 }
 
 // A file in memory, whose call of the number `failing` behind the one of recovery fails, and its bytes.
-fn memory(
-    alloc: Global,
-    file: &[u8],
-    failing: u64,
-) -> Result<(MemoryDevice, Vec<u8>), AllocError>
+fn memory(alloc: Global, file: &[u8], failing: u64) -> Result<(MemoryDevice, Vec<u8>), AllocError>
     ensures bytes { IfOk result (λ made. made.1.items ≡ device_bytes made.0) }
 {
     let device = MemoryDevice::new(alloc, file.to_vec(alloc)?, failing.saturating_add(1))?;
@@ -132,7 +128,10 @@ fn a_change_is_on_the_disk(rt: HostRuntime) -> Result<(), Fail> {
     assert_eq!(rt; store.log.device.bytes(), TWO);
     // Three writes and two syncs.
     assert_eq!(rt; store.log.device.number(), 6);
-    assert_eq!(rt; count_outcomes(alloc, &store.log.device, ONE, TWO)?, (0, 84, 0));
+    assert_eq!(rt;
+        count_outcomes(alloc, &store.log.device, ONE, TWO)?,
+        (0, 84, 0)
+    );
     assert!(rt; store.set(&ann, "$6") == Ok(()));
     assert_eq!(rt; store.log.device.bytes(), CHANGED);
     assert_eq!(rt; store.len(), 2);
@@ -156,9 +155,12 @@ fn refusals_leave_the_file(rt: HostRuntime) -> Result<(), Fail> {
     };
     assert!(rt; store.set(&bob, long) == Err(StoreError::Table(FileError::TextTooLong)));
     assert!(rt;
-        store.set(&bob, "$1$") == Err(StoreError::Table(FileError::BadText(McfFault::DelimiterInvalid)))
+        store.set(&bob, "$1$")
+            == Err(StoreError::Table(FileError::BadText(McfFault::DelimiterInvalid)))
     );
-    assert!(rt; store.upgrade(&bob, "x", "abcdabcdabc") == Err(StoreError::Table(FileError::NoUser)));
+    assert!(rt;
+        store.upgrade(&bob, "x", "abcdabcdabc") == Err(StoreError::Table(FileError::NoUser))
+    );
     assert!(rt; store.check(&bob, "x") == Err(FileError::NoUser));
     assert!(rt; is_one(&store));
     assert!(rt; store.takes_changes());
@@ -179,7 +181,10 @@ fn a_fault_takes_the_change_back(rt: HostRuntime) -> Result<(), Fail> {
         let Ok(mut store) = opened(alloc, device, &bytes) else {
             panic!(rt; "it is opened")
         };
-        assert!(rt; store.set(&bob, "$1$a$b") == Err(StoreError::DiskFault), "at {failing}");
+        assert!(rt;
+            store.set(&bob, "$1$a$b") == Err(StoreError::DiskFault),
+            "at {failing}"
+        );
         assert!(rt; is_one(&store), "at {failing}");
         assert!(rt; !store.takes_changes());
         // Each file that a crash may leave has the change or doesn't, and has none of it before the gate is opened.
@@ -214,7 +219,10 @@ fn a_changed_text_is_put_back(rt: HostRuntime) -> Result<(), Fail> {
         let Ok(mut store) = opened(alloc, device, &bytes) else {
             panic!(rt; "it is opened")
         };
-        assert!(rt; store.set(&ann, "$6") == Err(StoreError::DiskFault), "at {failing}");
+        assert!(rt;
+            store.set(&ann, "$6") == Err(StoreError::DiskFault),
+            "at {failing}"
+        );
         assert_eq!(rt; store.len(), 2);
         assert!(rt; is_row(&store, 0, "ann", "$5"));
         assert!(rt; is_row(&store, 1, "bob", "$1$a$b"));
@@ -262,7 +270,8 @@ fn a_fault_takes_an_upgrade_back(rt: HostRuntime) -> Result<(), Fail> {
     let alloc = rt.alloc();
     let ann = user(&rt, "ann");
     let bob = user(&rt, "bob");
-    let file = b"#pwstore 1\nset\tann\t$5$saltstring$5B8vYYiY.CVt1RlTTf8KbXBH3hsxY/GNooZaBBGWEc5\n#";
+    let file =
+        b"#pwstore 1\nset\tann\t$5$saltstring$5B8vYYiY.CVt1RlTTf8KbXBH3hsxY/GNooZaBBGWEc5\n#";
     let (device, bytes) = memory(alloc, file, 4)?;
     let Ok(mut store) = opened(alloc, device, &bytes) else {
         panic!(rt; "it is opened")
@@ -311,11 +320,17 @@ fn a_group_is_there_whole(rt: HostRuntime) -> Result<(), Fail> {
     let Ok(mut store) = opened(alloc, device, &bytes) else {
         panic!(rt; "it is opened")
     };
-    assert_eq!(rt; set_group(&mut store, alloc, &user(&rt, "ann"), &user(&rt, "bob")), (true, true));
+    assert_eq!(rt;
+        set_group(&mut store, alloc, &user(&rt, "ann"), &user(&rt, "bob")),
+        (true, true)
+    );
     assert_eq!(rt; store.log.device.bytes(), GROUPED);
     // Two syncs for three changes.
     assert_eq!(rt; store.log.device.number(), 6);
-    assert_eq!(rt; count_outcomes(alloc, &store.log.device, ONE, GROUPED)?, (0, 84, 0));
+    assert_eq!(rt;
+        count_outcomes(alloc, &store.log.device, ONE, GROUPED)?,
+        (0, 84, 0)
+    );
     assert!(rt; is_row(&store, 0, "ann", "$6"));
     assert!(rt; is_row(&store, 1, "bob", "$1$a$b"));
     Ok(())
@@ -329,7 +344,11 @@ fn a_group_is_taken_back_whole(rt: HostRuntime) -> Result<(), Fail> {
         let Ok(mut store) = opened(alloc, device, &bytes) else {
             panic!(rt; "it is opened")
         };
-        assert_eq!(rt; set_group(&mut store, alloc, &user(&rt, "ann"), &user(&rt, "bob")), (true, false), "at {failing}");
+        assert_eq!(rt;
+            set_group(&mut store, alloc, &user(&rt, "ann"), &user(&rt, "bob")),
+            (true, false),
+            "at {failing}"
+        );
         assert!(rt; is_one(&store), "at {failing}");
         assert!(rt; !store.takes_changes());
         let (_, after, neither) = count_outcomes(alloc, &store.log.device, ONE, GROUPED)?;
@@ -366,7 +385,9 @@ fn a_file_that_is_full(rt: HostRuntime) -> Result<(), Fail> {
     assert!(rt; store.stage(&mut group, &bob, "$1$a$b") == Ok(()));
     assert_eq!(rt; group.lines.as_slice(), b"set\tbob\t$1$a$b\n".as_slice());
     // With the lines of the group the file is full.
-    assert!(rt; group.has_room() && store.stage(&mut group, &ann, "$6") == Err(StoreError::FileFull));
+    assert!(rt;
+        group.has_room() && store.stage(&mut group, &ann, "$6") == Err(StoreError::FileFull)
+    );
     assert!(rt; is_row(&store, 0, "ann", "$5"));
     assert!(rt; is_row(&store, 1, "bob", "$1$a$b"));
     assert_eq!(rt; group.lines.len(), 15);
@@ -383,13 +404,19 @@ fn compaction(rt: HostRuntime) -> Result<(), Fail> {
     };
     assert!(rt; store.compact() == Ok(()));
     assert_eq!(rt; store.log.device.bytes(), COMPACT);
-    assert_eq!(rt; count_outcomes(alloc, &store.log.device, CHANGED, COMPACT)?, (0, 84, 0));
+    assert_eq!(rt;
+        count_outcomes(alloc, &store.log.device, CHANGED, COMPACT)?,
+        (0, 84, 0)
+    );
     assert_eq!(rt; store.len(), 2);
     assert!(rt; is_row(&store, 0, "ann", "$6"));
     assert!(rt; is_row(&store, 1, "bob", "$1$a$b"));
     // Changes go on behind the lines of the new file.
     assert!(rt; store.set(&ann, "$5") == Ok(()));
-    assert_eq!(rt; store.log.device.bytes(), b"#pwstore 1\nset\tann\t$6\nset\tbob\t$1$a$b\nset\tann\t$5\n#".as_slice());
+    assert_eq!(rt;
+        store.log.device.bytes(),
+        b"#pwstore 1\nset\tann\t$6\nset\tbob\t$1$a$b\nset\tann\t$5\n#".as_slice()
+    );
     Ok(())
 }
 
@@ -403,7 +430,10 @@ fn a_compaction_that_fails_changes_no_text(rt: HostRuntime) -> Result<(), Fail> 
         let Ok(mut store) = opened(alloc, device, &bytes) else {
             panic!(rt; "it is opened")
         };
-        assert!(rt; store.compact() == Err(StoreError::DiskFault), "at {failing}");
+        assert!(rt;
+            store.compact() == Err(StoreError::DiskFault),
+            "at {failing}"
+        );
         assert!(rt; !store.takes_changes());
         assert_eq!(rt; store.len(), 2);
         assert!(rt; is_row(&store, 0, "ann", "$6"));
@@ -443,7 +473,10 @@ fn recovery_through_crashes(rt: HostRuntime) -> Result<(), Fail> {
                 &mut device,
                 &bytes,
             );
-            assert!(rt; matches!(answer, Err(OpenError::Failed)), "of {i} at {failing}");
+            assert!(rt;
+                matches!(answer, Err(OpenError::Failed)),
+                "of {i} at {failing}"
+            );
             let (before, _, neither) = count_outcomes(alloc, &device, ONE, ONE)?;
             assert_eq!(rt; (before, neither), (84, 0), "of {i} at {failing}");
         }
@@ -457,11 +490,23 @@ const REFUSED: [(&[u8], OpenError); 9] = [
     (b"#pwstore 2\n#", OpenError::NoHeader),
     (b"#pwstore 1\nset\tann", OpenError::BadEnd(11)),
     (b"#pwstore 1\nset\tann\n#", OpenError::BadLine(11)),
-    (b"#pwstore 1\nset\tann\t$5\nset\tAnn\t$5\n#", OpenError::BadLine(22)),
-    (b"#pwstore 1\nset\tann\t$5\nset\tbob\t$\n#", OpenError::BadLine(22)),
-    (b"#pwstore 1\nset\tann\t$5\nset\tbob\t\xff\n#", OpenError::BadLine(22)),
+    (
+        b"#pwstore 1\nset\tann\t$5\nset\tAnn\t$5\n#",
+        OpenError::BadLine(22),
+    ),
+    (
+        b"#pwstore 1\nset\tann\t$5\nset\tbob\t$\n#",
+        OpenError::BadLine(22),
+    ),
+    (
+        b"#pwstore 1\nset\tann\t$5\nset\tbob\t\xff\n#",
+        OpenError::BadLine(22),
+    ),
     (b"#pwstore 1\nset\tann\t$5\ns\n#", OpenError::BadLine(22)),
-    (b"#pwstore 1\nset\tann\t$5\nset\tbob\t$5\nset", OpenError::BadEnd(33)),
+    (
+        b"#pwstore 1\nset\tann\t$5\nset\tbob\t$5\nset",
+        OpenError::BadEnd(33),
+    ),
 ];
 
 #[test]
@@ -470,7 +515,12 @@ fn files_are_refused_by_name(rt: HostRuntime) -> Result<(), Fail> {
     for (i, (file, error)) in REFUSED.iter().enumerate() {
         let mut device = MemoryDevice::new(alloc, file.to_vec(alloc)?, u64::MAX)?;
         let bytes = device.bytes().to_vec(alloc)?;
-        match recover::<MemoryDevice, StoredTexts>(alloc, ScryptKept::new(alloc), &mut device, &bytes) {
+        match recover::<MemoryDevice, StoredTexts>(
+            alloc,
+            ScryptKept::new(alloc),
+            &mut device,
+            &bytes,
+        ) {
             Ok(_) => panic!(rt; "{i} is refused"),
             Err(e) => assert_eq!(rt; e, *error, "of {i}"),
         }

@@ -7,9 +7,18 @@ use crate::texts::pwcrypt_text;
 // A setting, and what libxcrypt's crypt gives for it and the phrase `correct horse`.
 const TEXTS: [(&[u8], &[u8]); 4] = [
     (b"$1$salt", b"$1$salt$uXdHrfCd.CnHQasvSgrAO0"),
-    (b"$2y$04$abcdefghijklmnopqrstuv", b"$2y$04$abcdefghijklmnopqrstuujydOTSfIH/d5oUHpsygqV5X9xJLQc6e"),
-    (b"$7$0/..../....salt", b"$7$0/..../....salt$PmFE5E0VYJ1aCKpAOwYC.D0ereLuZm/dsVOFbb.rWRA"),
-    (b"$y$j/.$salt", b"$y$j/.$salt$0fGJAYkwV8Z5xHxVYcDoReSFBoJtjaSy3L07X3cuk/."),
+    (
+        b"$2y$04$abcdefghijklmnopqrstuv",
+        b"$2y$04$abcdefghijklmnopqrstuujydOTSfIH/d5oUHpsygqV5X9xJLQc6e",
+    ),
+    (
+        b"$7$0/..../....salt",
+        b"$7$0/..../....salt$PmFE5E0VYJ1aCKpAOwYC.D0ereLuZm/dsVOFbb.rWRA",
+    ),
+    (
+        b"$y$j/.$salt",
+        b"$y$j/.$salt$0fGJAYkwV8Z5xHxVYcDoReSFBoJtjaSy3L07X3cuk/.",
+    ),
 ];
 
 const LONG: [u8; 512] = [b'a'; 512];
