@@ -1,13 +1,16 @@
 -- A table that takes the lines of a file has the rows of that file.
-use Rattle.std.proofs.Common.{◌≡◌, ℕ, Bool, true, false, cond, List, [], ◌∷◌, refl, sym, ap, ◌∙◌, Option, Some, None, Err}
-use Rattle.std.specs.Prelude.{is_some}
+use Rattle.std.proofs.Common.{length, drop, ◌+◌, ◌≡◌, ℕ, Bool, true, false, cond, List, [], ◌∷◌, refl, sym, ap, ◌∙◌, Option, Some, None, Err}
+use Rattle.std.specs.Prelude.{eqb, is_some}
+use Rattle.std.specs.List.{starts_with}
 use Rattle.std.specs.Option.{option_map}
-use Rattle.line_log.specs.Log.{recovered}
-use Rattle.line_log.specs.Taker.{after_all}
+use Rattle.line_log.specs.Log.{header, joined, open_lines, recovered}
+use Rattle.line_log.specs.Taker.{after_all, file_fault, line_fault}
+use Rattle.line_log.specs.declared.reopen.OpenError.{OpenError}
+use Rattle.line_log.specs.declared.reopen.OpenError.TheVariants.{BadLine, NoHeader}
 use Rattle.pw_file.specs.History.{Rows}
 use Rattle.pw_file.specs.Rules.{table_after}
 use Rattle.pw_file.specs.Policy.{TextPolicy}
-use Rattle.pw_store.specs.Store.{is_taken, rows_after, recovered_rows}
+use Rattle.pw_store.specs.Store.{is_taken, rows_after, recovered_rows, store_fault}
 use Rattle.pw_store.specs.declared.loading.Loading.{Loading}
 
 abbrev pub with_rows : {P A B C : Type 0} → Rows → Loading P A B C
@@ -58,3 +61,23 @@ module _ {T V P A B C : Type 0} (p : TextPolicy T V) where
   some_from s file rows empty is =
       ap (λ (t : Rows). is_some (after_all (takes {P = P} {A = A} {B = B} {C = C} p) (after {P = P} {A = A} {B = B} {C = C} p) (with_rows {P = P} {A = A} {B = B} {C = C} t) (recovered file))) empty
       ∙ some_then P A B C p file rows is
+
+-- ---- the first fault
+
+module _ {T V : Type 0} (P A B C : Type 0) (p : TextPolicy T V) where
+  pub fault_loaded : (rows : Rows) (at : ℕ) (lines : List (List ℕ)) (end : List ℕ)
+      → line_fault (takes {P = P} {A = A} {B = B} {C = C} p) (after {P = P} {A = A} {B = B} {C = C} p) (with_rows {P = P} {A = A} {B = B} {C = C} rows) at lines end
+      ≡ line_fault (is_taken p) (table_after p) rows at lines end
+  fault_loaded rows at [] end = refl
+  fault_loaded rows at (line ∷ lines) end =
+      ap (λ (o : Option OpenError). cond (is_taken p rows line) o (Some (BadLine at))) (fault_loaded (table_after p rows line) (at + (length line + 1)) lines end)
+
+module _ {T V P A B C : Type 0} (p : TextPolicy T V) where
+  pub fault_from : (s : Loading P A B C) (file : List ℕ) → s.table ≡ []
+      → file_fault (takes {P = P} {A = A} {B = B} {C = C} p) (after {P = P} {A = A} {B = B} {C = C} p) s file ≡ store_fault p file
+  fault_from s file empty =
+      let text : List ℕ = drop 11 file in
+      let end : List ℕ = drop (length (joined (open_lines text))) text in
+      ap (λ (o : Option OpenError). cond (starts_with eqb file header) o (Some NoHeader))
+      (fault_loaded P A B C p s.table 11 (open_lines text) end
+      ∙ ap (λ (rows : Rows). line_fault (is_taken p) (table_after p) rows 11 (open_lines text) end) empty)

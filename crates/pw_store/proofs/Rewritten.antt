@@ -171,6 +171,7 @@ module _ {T V : Type 0} (p : TextPolicy T V) (law : IsLawful p) where
     pub whole : AreWhole (flat_map row_line rows)
     pub short : length (flat_map row_line rows) ≤ 268435456
     pub again : rows_after p [] (open_lines (flat_map row_line rows)) ≡ Some rows
+    pub lines : open_lines (flat_map row_line rows) ≡ map line_of rows
 
   pub rewritten : (file : List ℕ) (rows : Rows) → recovered_rows p file ≡ Some rows → length rows ≤ 4096 → IsRewritten rows
   rewritten file rows is few =
@@ -180,6 +181,7 @@ module _ {T V : Type 0} (p : TextPolicy T V) (law : IsLawful p) where
       record {
         whole = text_whole rows are;
         short = omega (arith, short, few);
+        lines = text_lines rows are;
         again = ap (λ (ls : List (List ℕ)). rows_after p [] ls) (text_lines rows are) ∙ relisted [] rows rows refl are distinct few;
       }
 
@@ -188,8 +190,9 @@ module _ {T V : Type 0} (p : TextPolicy T V) (law : IsLawful p) where
     pub whole : AreWhole bytes
     pub short : length bytes ≤ 268435456
     pub again : rows_after p [] (open_lines bytes) ≡ Some rows
+    pub lines : open_lines bytes ≡ map line_of rows
 
   pub rewritten_as : (file : List ℕ) (rows : Rows) (bytes : List ℕ) → recovered_rows p file ≡ Some rows → length rows ≤ 4096 → bytes ≡ flat_map row_line rows → AreAgain bytes rows
   rewritten_as file rows bytes is few same =
       let w = rewritten file rows is few in
-      subst (λ (t : List ℕ). AreAgain t rows) (sym same) (record { whole = w.whole; short = w.short; again = w.again })
+      subst (λ (t : List ℕ). AreAgain t rows) (sym same) (record { whole = w.whole; short = w.short; again = w.again; lines = w.lines })

@@ -1,10 +1,11 @@
 -- What a store holds, and what it answers to a change.
-use Rattle.std.specs.Prelude.{◌≡◌, ◌⊎◌, ℕ, ◌+◌, ◌&&◌, Bool, true, false, List, [], ◌∷◌, ◌++◌, length, nat_le, not, if◌then◌else◌}
+use Rattle.std.specs.Prelude.{◌≡◌, ◌⊎◌, ℕ, ◌+◌, ◌&&◌, Bool, true, false, List, [], ◌∷◌, ◌++◌, length, map, nat_le, not, if◌then◌else◌}
 use Rattle.std.specs.Prelude.{Option, Some, None, Result, Ok, Err, unwrap_or}
 use Rattle.pieces.specs.FaultCounts.{HasRisen}
 use Rattle.line_log.specs.Log.{IsSettled, file_max}
 use Rattle.pw_file.specs.Answers.{set_answer, upgrade_answer}
 use Rattle.pw_file.specs.Calls.{after_set, after_upgrade, with_text}
+use Rattle.pw_file.specs.Commands.{set_line}
 use Rattle.pw_file.specs.History.{History, Rows, text_in}
 use Rattle.pw_file.specs.Replies.{row_line}
 use Rattle.pw_file.specs.Policy.{TextPolicy}
@@ -37,6 +38,10 @@ size_of s = s.log.end
 pub record IsSound {D P A B C T V : Type 0} (p : TextPolicy T V) (seen : D → List ℕ) (may_leave : D → List ℕ → Type 0) (s : Store D P A B C) : Type 0 where
   pub settled : takes_changes s ≡ true → IsSettled seen may_leave s.log
   pub rows : takes_changes s ≡ true → recovered_rows p (seen (device_of s)) ≡ Some (rows_of s)
+
+-- a line for each user: what a file that was made anew has
+abbrev pub lines_of_rows : Rows → List (List ℕ)
+lines_of_rows rows = map (λ row. set_line row.0 row.1) rows
 
 -- ---- answers
 

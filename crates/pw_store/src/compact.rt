@@ -4,10 +4,11 @@ ghost use Rattle.std.specs.Prelude.{◌≡◌, ◌⊎◌, ◌&&◌, ◌≤◌, �
 ghost use Rattle.std.specs.List.{flat_map};
 ghost use Rattle.pieces.specs.FaultCounts.{HasRisen};
 ghost use Rattle.line_log.specs.Device.{LeavesOnly};
+ghost use Rattle.line_log.specs.Log.{recovered};
 ghost use Rattle.pw_file.specs.Limits.{users_max};
 ghost use Rattle.pw_file.specs.Replies.{row_line};
 ghost use Rattle.pw_store.specs.Store.{StandsFor};
-ghost use Rattle.pw_store.specs.Stored.{IsSound, device_of, is_disk_fault, rows_of, takes_changes};
+ghost use Rattle.pw_store.specs.Stored.{IsSound, device_of, is_disk_fault, lines_of_rows, rows_of, takes_changes};
 
 use crate::{Store, StoreError};
 use line_log::{Device, Failed};
@@ -51,6 +52,7 @@ impl<D: Device, P: Policy> Store<D, P> {
             ⊎ ((result ≡ Err StoreError.DiskFault) × ((takes_changes self.old ≡ false)
             ⊎ HasRisen (D.faults (device_of self.old)) (D.faults (device_of self.new))))) }
         ensures open { result ≡ Ok tt → takes_changes self.old ≡ true }
+        ensures lines { result ≡ Ok tt → recovered (D.seen (device_of self.new)) ≡ lines_of_rows (rows_of self.old) }
         ensures rows { rows_of self.new ≡ rows_of self.old }
         ensures takes { takes_changes self.new ≡ takes_changes self.old && not (is_disk_fault result) }
         ensures sound { IsSound P.policy D.seen D.may_leave self.new }

@@ -1,12 +1,12 @@
 //! The table of a file.
 
-ghost use Rattle.std.specs.Prelude.{◌≡◌, ◌⊎◌, List, ℕ, Some, true, false, [], IfErr, IfOk, IsErrOf, OnErr, OnOk};
+ghost use Rattle.std.specs.Prelude.{◌≡◌, ◌⊎◌, List, ℕ, None, Some, true, false, [], IfErr, IfOk, IsErrOf, OnErr, OnOk};
 ghost use Rattle.pieces.specs.FaultCounts.{HasRisen};
 ghost use Rattle.line_log.specs.Device.{LeavesOnly};
 ghost use Rattle.line_log.specs.Log.{IsSettled, Stands, recovered};
 ghost use Rattle.line_log.specs.Taker.{is_refusal};
 ghost use Rattle.pw_file.specs.History.{IsContentOf, Rows};
-ghost use Rattle.pw_store.specs.Store.{StandsFor, recovered_rows, taken};
+ghost use Rattle.pw_store.specs.Store.{StandsFor, recovered_rows, store_fault, taken};
 
 use crate::Loading;
 use line_log::{Device, Failed, OpenError};
@@ -39,7 +39,9 @@ pub fn recover<D: Device, P: Policy>(
     ensures any_moment { LeavesOnly D.moment D.left_since device.old device.new
         (λ c. D.may_leave device.old c ⊎ Stands (recovered (D.seen device.old)) c) }
 
-    // A file that is refused isn't changed.
+    // A file is refused exactly by its first fault, and isn't changed.
+    ensures ok { OnOk result (store_fault P.policy (D.seen device.old) ≡ None) }
+    ensures err { IfErr result (λ e. is_refusal e ≡ true → store_fault P.policy (D.seen device.old) ≡ Some e) }
     ensures refused { IfErr result (λ e. is_refusal e ≡ true → device.new ≡ device.old) }
     ensures failed { IsErrOf result OpenError.Failed → HasRisen (D.faults device.old) (D.faults device.new) }
 {

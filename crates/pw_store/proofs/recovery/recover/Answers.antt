@@ -3,7 +3,7 @@ use Rattle.line_log.specs.Log.{recovered}
 use Rattle.line_log.specs.Taker.{after_all}
 use Rattle.pw_file.specs.History.{Rows}
 use Rattle.pw_store.proofs.Contents.{of_file}
-use Rattle.pw_store.proofs.Loaded.{with_rows, takes, after, rows_then, some_from}
+use Rattle.pw_store.proofs.Loaded.{with_rows, takes, after, fault_from, rows_then, some_from}
 use Rattle.pw_store.proofs.Grouped.{file_is, rows_of_lines}
 use Rattle.pw_store.proofs.recovery.recover.Goals as goal
 
@@ -25,3 +25,11 @@ returns-in-Ok-clause-stands g c =
     let file = g.D.Device.seen c.args.device.now in
     rows_of_lines g.P.Policy.policy _ (recovered file) c.recover.new.state.table c.in-Ok.ensures.same
     (file_is g.P.Policy.policy file c.recover.new.state.table (returns-in-Ok-clause-rows g c))
+
+pub returns-in-Ok-clause-ok : goal.returns-in-Ok-clause-ok
+returns-in-Ok-clause-ok g c =
+    sym (fault_from g.P.Policy.policy _ (g.D.Device.seen c.args.device.now) c.new.ensures.empty) ∙ c.in-Ok.ensures.ok
+
+pub returns-in-Err-clause-err : goal.returns-in-Err-clause-err
+returns-in-Err-clause-err g c = λ refused.
+    sym (fault_from g.P.Policy.policy _ (g.D.Device.seen c.args.device.now) c.new.ensures.empty) ∙ c.in-Err.ensures.err refused

@@ -47,3 +47,9 @@ returns-clause-any_moment g c = λ is_open.
     let Q : List ℕ → Type 0 = λ f. Stands (recovered file) f ⊎ Stands (open_lines bytes) f in
     weaker g.D.Device.moment g.D.Device.left_since c.args.self.now.log.device c.rewrite.new.self.device Q (StandsFor g.P.Policy.policy rows) c.rewrite.ensures.any_moment
     (λ f has. ⊎_elim (λ was. stands_as g.P.Policy.policy (recovered file) rows f was (file_is g.P.Policy.policy file rows (c.requires.sound.rows is_open))) (λ new. stands_as g.P.Policy.policy (open_lines bytes) rows f new w.again) has)
+
+pub returns-in-Ok-rewrite-clause-lines : goal.returns-in-Ok-rewrite-clause-lines
+returns-in-Ok-rewrite-clause-lines g c = λ done.
+    let is_open : takes_changes c.args.self.now ≡ true = search rules in
+    let w = rewritten_as g.P.Policy.policy g.met.P.Policy.lawful (g.D.Device.seen c.args.self.now.log.device) (rows_of c.args.self.now) c.as_slice.result.now (c.requires.sound.rows is_open) c.in-Ok.ensures.few (c.as_slice.ensures.value ∙ c.in-Ok.ensures.lines) in
+    c.in-Ok-rewrite.ensures.lines ∙ w.lines
