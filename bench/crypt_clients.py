@@ -1,5 +1,6 @@
 #!/usr/bin/env python3
-"""Real programs with libpwcrypt preloaded: Perl, Python's crypt, mkpasswd, htpasswd, and pamtester over a real shadow entry.
+"""Real programs with libpwcrypt preloaded: Perl, Python's crypt, mkpasswd, htpasswd, a program that was linked long ago, and pamtester
+over a real shadow entry.
 
     bench/crypt_clients.py LIBRARY      (libpwcrypt.so.1)
 
@@ -112,6 +113,79 @@ def htpasswd():
     print(f"htpasswd -v: $1$, $5$, $6$, right and wrong; bound {bound}")
 
 
+# As a program that was linked against the GNU C library's own libcrypt: it asks for crypt@GLIBC_2.2.5 and crypt_r@GLIBC_2.2.5.
+OLD = r"""
+#include <crypt.h>
+#include <stdio.h>
+#include <string.h>
+char *old_crypt(const char *, const char *);
+char *old_crypt_r(const char *, const char *, struct crypt_data *);
+__asm__(".symver old_crypt, crypt@GLIBC_2.2.5");
+__asm__(".symver old_crypt_r, crypt_r@GLIBC_2.2.5");
+static struct crypt_data data;
+int main(int count, char **texts)
+{
+    for (int i = 1; i < count; i++)
+        printf("%d%d%d ", !strcmp(old_crypt("pw", texts[i]), texts[i]), !strcmp(old_crypt_r("pw", texts[i], &data), texts[i]),
+               !strcmp(old_crypt_r("pW", texts[i], &data), texts[i]));
+    return 0;
+}
+"""
+
+
+def old_program():
+    if not there("gcc") or not os.path.exists("/usr/include/crypt.h"):
+        print("an old program: no gcc or no <crypt.h>, left out")
+        return
+    with tempfile.TemporaryDirectory() as folder:
+        program = os.path.join(folder, "old")
+        made = subprocess.run(["gcc", "-x", "c", "-", "-o", program, "-lcrypt"], input=OLD, text=True, capture_output=True, check=False)
+        need(made.returncode == 0, f"an old program: {made.stderr}")
+        done, bound = preloaded(program, *TEXTS.values())
+    need(done.stdout == "110 " * len(TEXTS) and bound == ["crypt", "crypt_r"], f"an old program: {done.stdout} {done.stderr} {bound}")
+    print(f"a program with crypt@GLIBC_2.2.5: {len(TEXTS)} methods, right and wrong; bound {bound}")
+
+
+# A getrandom that fails with ENOSYS, or that gives the first so many bytes.
+NO_RANDOM = r"""
+#define _GNU_SOURCE
+#include <errno.h>
+#include <stdlib.h>
+#include <sys/syscall.h>
+#include <unistd.h>
+ssize_t getrandom(void *bytes, size_t count, unsigned flags)
+{
+    /* Python itself draws 24 bytes as it begins. */
+    if (count > 16)
+        return syscall(SYS_getrandom, bytes, count, flags);
+    const char *given = getenv("GIVEN");
+    if (given)
+        return (size_t)atoi(given) < count ? (ssize_t)atoi(given) : (ssize_t)count;
+    errno = ENOSYS;
+    return -1;
+}
+"""
+
+
+def no_random():
+    """Where the system refuses random bytes, or gives fewer, there is no setting."""
+    if not there("gcc"):
+        return
+    code = "import ctypes, sys\nlibrary = ctypes.CDLL(sys.argv[1], use_errno=True)\nlibrary.crypt_gensalt.restype = ctypes.c_char_p\n" \
+        "for prefix in (b'$1$', b'$5$', b'$6$', b'$2b$', b'$7$', b'$y$', None):\n" \
+        "    print(library.crypt_gensalt(prefix, 0, None, 0), ctypes.get_errno(), end=' ')"
+    with tempfile.TemporaryDirectory() as folder:
+        shim = os.path.join(folder, "shim.so")
+        made = subprocess.run(["gcc", "-x", "c", "-", "-shared", "-fPIC", "-o", shim], input=NO_RANDOM, text=True, capture_output=True,
+                              check=False)
+        need(made.returncode == 0, f"no random bytes: {made.stderr}")
+        for given, error in (({}, 38), ({"GIVEN": "0"}, 5), ({"GIVEN": "8"}, 5)):
+            done = subprocess.run([sys.executable, "-c", code, LIBRARY], env={**os.environ, "LD_PRELOAD": shim, **given},
+                                  capture_output=True, text=True, check=False, timeout=60)
+            need(done.stdout == f"None {error} " * 7, f"no random bytes {given}: {done.stdout} {done.stderr}")
+    print("no random bytes, or fewer: no setting, and errno says so")
+
+
 # In a mount namespace: users with the texts in shadow, then each line of standard input `user<blank>password<blank>wanted`.
 PAM = r"""
 set -e; T=$(mktemp -d); mount --make-rprivate /
@@ -161,7 +235,7 @@ def main():
     if len(sys.argv) != 2:
         sys.exit(__doc__)
     LIBRARY = os.path.realpath(sys.argv[1])
-    for client in (perl, python, mkpasswd, htpasswd, pam):
+    for client in (perl, python, mkpasswd, htpasswd, old_program, no_random, pam):
         client()
     return 1 if FAULTS else 0
 

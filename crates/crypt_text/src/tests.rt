@@ -5,10 +5,11 @@ ghost use Rattle.std.specs.Prelude.{◌≤◌, length};
 use crate::{
     CryptError, Method, SaltStatus, crypt_text, method_of, new_setting, random_len, salt_status,
 };
+use std::alloc::Global;
 use std::test::Fail;
 
-// A phrase, a setting, and the text that crypt(3) gives for them.
-const TEXTS: [(&[u8], &[u8], &[u8]); 39] = [
+// A phrase, a setting, and the text that crypt(3) gives for them, by methods.
+const MD5_TEXTS: [(&[u8], &[u8], &[u8]); 7] = [
     (b"correct horse", b"$1$", b"$1$$IfI/mw4YSCwcQoW.D.DSu1"),
     (b"correct horse", b"$1$$x", b"$1$$IfI/mw4YSCwcQoW.D.DSu1"),
     (
@@ -28,6 +29,9 @@ const TEXTS: [(&[u8], &[u8], &[u8]); 39] = [
     ),
     (&[b'a'; 511], b"$1$salt", b"$1$salt$dpArRkCZ1HjCW3ASuKw6k0"),
     (b"", b"$1$salt", b"$1$salt$UsdFqFVB.FsuinRDK5eE.."),
+];
+
+const SHA_TEXTS: [(&[u8], &[u8], &[u8]); 8] = [
     (
         b"correct horse",
         b"$5$rounds=1000$",
@@ -68,6 +72,9 @@ const TEXTS: [(&[u8], &[u8], &[u8]); 39] = [
         b"$6$rounds=1000$salt",
         b"$6$rounds=1000$salt$lZ.wFK7OAdCcgvqIPhZyOij9xOymdmsD2RSyI29dHomGqgMZ9GKPsU9sDQoDKrlHKdS4ij3VGXJFyNkz/Tn4M0",
     ),
+];
+
+const BCRYPT_TEXTS: [(&[u8], &[u8], &[u8]); 9] = [
     (
         b"correct horse",
         b"$2a$04$abcdefghijklmnopqrstuu",
@@ -113,6 +120,9 @@ const TEXTS: [(&[u8], &[u8], &[u8]); 39] = [
         b"$2b$04$abcdefghijklmnopqrstuu",
         b"$2b$04$abcdefghijklmnopqrstuuBzzIgyKkz7xMWYSzkIjUSnxEQFQ0WNe",
     ),
+];
+
+const SCRYPT_TEXTS: [(&[u8], &[u8], &[u8]); 8] = [
     (
         b"correct horse",
         b"$7$0/..../....",
@@ -153,6 +163,9 @@ const TEXTS: [(&[u8], &[u8], &[u8]); 39] = [
         b"$7$1/..../3...salt$x",
         b"$7$1/..../3...salt$2y/hfz0VLSFNfezwuZECrrndCnhP52egjIZ1QLVueHA",
     ),
+];
+
+const YESCRYPT_TEXTS: [(&[u8], &[u8], &[u8]); 7] = [
     (
         b"correct horse",
         b"$y$j/.$",
@@ -405,27 +418,56 @@ const CHECKED: [(&[u8], SaltStatus); 11] = [
     (b"!$6$salt", SaltStatus::Invalid),
 ];
 
+// Whether the phrase and the setting have this text, and the phrase and the text have it too, where it is no longer than a
+// setting of its method may be.
+fn is_text(alloc: Global, phrase: &[u8], setting: &[u8], wanted: &[u8]) -> bool {
+    let made = match crypt_text(alloc, phrase, setting) {
+        Ok(text) => text.as_slice() == wanted,
+        Err(_) => false,
+    };
+    let made_again = match crypt_text(alloc, phrase, wanted) {
+        Ok(text) => text.as_slice() == wanted,
+        Err(e) => e == CryptError::TooLong && wanted.len() >= 340,
+    };
+    made && made_again
+}
+
 #[test]
-fn texts(rt: HostRuntime) -> Result<(), Fail> {
-    for &(phrase, setting, wanted) in &TEXTS {
-        match crypt_text(rt.alloc(), phrase, setting) {
-            Ok(text) => assert!(rt; text.as_slice() == wanted, "{setting:?}"),
-            Err(e) => assert!(rt; false, "{setting:?} {e:?}"),
-        }
+fn md5_texts(rt: HostRuntime) -> Result<(), Fail> {
+    for &(phrase, setting, wanted) in &MD5_TEXTS {
+        assert!(rt; is_text(rt.alloc(), phrase, setting, wanted), "{setting:?}");
     }
     Ok(())
 }
 
-// A text is a setting of itself.
 #[test]
-fn texts_as_settings(rt: HostRuntime) -> Result<(), Fail> {
-    for &(phrase, _, stored) in &TEXTS {
-        if stored.len() < 340 {
-            match crypt_text(rt.alloc(), phrase, stored) {
-                Ok(text) => assert!(rt; text.as_slice() == stored, "{stored:?}"),
-                Err(e) => assert!(rt; false, "{stored:?} {e:?}"),
-            }
-        }
+fn sha_texts(rt: HostRuntime) -> Result<(), Fail> {
+    for &(phrase, setting, wanted) in &SHA_TEXTS {
+        assert!(rt; is_text(rt.alloc(), phrase, setting, wanted), "{setting:?}");
+    }
+    Ok(())
+}
+
+#[test]
+fn bcrypt_texts(rt: HostRuntime) -> Result<(), Fail> {
+    for &(phrase, setting, wanted) in &BCRYPT_TEXTS {
+        assert!(rt; is_text(rt.alloc(), phrase, setting, wanted), "{setting:?}");
+    }
+    Ok(())
+}
+
+#[test]
+fn scrypt_texts(rt: HostRuntime) -> Result<(), Fail> {
+    for &(phrase, setting, wanted) in &SCRYPT_TEXTS {
+        assert!(rt; is_text(rt.alloc(), phrase, setting, wanted), "{setting:?}");
+    }
+    Ok(())
+}
+
+#[test]
+fn yescrypt_texts(rt: HostRuntime) -> Result<(), Fail> {
+    for &(phrase, setting, wanted) in &YESCRYPT_TEXTS {
+        assert!(rt; is_text(rt.alloc(), phrase, setting, wanted), "{setting:?}");
     }
     Ok(())
 }
