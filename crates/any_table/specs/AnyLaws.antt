@@ -1,6 +1,6 @@
 -- The policy is lawful. The proofs stand here because its `impl` names the last of them.
 use Rattle.std.proofs.Common.{◌≡◌, ℕ, ◌<◌, ◌≤◌, Bool, true, false, List, [], ◌∷◌, length, refl, sym, ap, ◌∙◌, arith}
-use Rattle.std.specs.Prelude.{◌&&◌, ◌||◌, codes, is_ok, nat_le, nat_lt, Option, Some, None, Result, Ok, Err, if◌then◌else◌}
+use Rattle.std.specs.Prelude.{codes, is_ok, nat_lt, Option, Some, None, Result, Ok, Err, if◌then◌else◌}
 use Rattle.std.specs.List.{list_all, list_any}
 use Rattle.std.specs.Str.{IsAscii, IsUtf8, is_utf8}
 use Rattle.std.proofs.lemmas.Bool.{and_parts, or_parts, false≢true}
@@ -26,7 +26,6 @@ use Rattle.yescrypt_plain.specs.Check.{is_verdict, scrypt_answer, scrypt_matches
 use Rattle.yescrypt_plain.specs.Check.{yescrypt_matches, yescrypt_verdict}
 use Rattle.yescrypt_plain.specs.Check as crypt
 use Rattle.yescrypt_plain.specs.Text.{ScryptMeaning, YescryptMeaning, scrypt_text, yescrypt_text}
-use Rattle.yescrypt_plain.specs.declared.error.CheckError.{CheckError}
 use Rattle.yescrypt_plain.specs.declared.error.CheckError.TheVariants as of_crypt
 use Rattle.yescrypt_plain.specs.declared.error.TextFault.{TextFault}
 use Rattle.any_check.specs.Lines.{given_may_lack, given_verdict}
