@@ -55,7 +55,7 @@ name_feedless name h = without is_name_byte is_feed (λ b is. grind (arith, nat_
 -- ---- texts
 
 -- `$`, or a byte of an identifier or a field
-abbrev is_text_byte : ℕ → Bool
+abbrev pub is_text_byte : ℕ → Bool
 is_text_byte b = b == 36 || is_name_byte b || is_field_byte b
 
 of_identifier : (b : ℕ) → is_name_byte b ≡ true → is_text_byte b ≡ true
@@ -84,7 +84,8 @@ fields_bytes (field ∷ fields) h =
     all_append is_text_byte field (fields_text fields)
     (all_weaker is_field_byte is_text_byte of_field field (field_bytes field both.0)) (fields_bytes fields both.1)
 
-text_bytes : (s : List ℕ) → fault s ≡ None → list_all is_text_byte s ≡ true
+-- a text without a fault has no other bytes
+pub text_bytes : (s : List ℕ) → fault s ≡ None → list_all is_text_byte s ≡ true
 text_bytes s h =
     let valid = valid_of s h in
     let id = (parts s).id in
@@ -138,11 +139,24 @@ fault_of : (s : List ℕ) (q : Parts) → mcf s ≡ Ok q → fault s ≡ None
 unfolding mcf
 fault_of s q h = (value_found (parts s) q (fault s) h).0
 
-fresh_good : (password salt : List ℕ) → salt_fault salt ≡ None → fault (upgraded_text password salt) ≡ None
+pub fresh_good : (password salt : List ℕ) → salt_fault salt ≡ None → fault (upgraded_text password salt) ≡ None
 fresh_good password salt good =
     let s = salt_bytes salt good in
     let read = made_read (codes "14") (codes "8") (codes "1") 14 8 1 written password s.bytes s.small s.least s.most in
     fault_of (upgraded_text password salt) _ (ap mcf (is_made password salt s.bytes s.text s.decoded) ∙ read)
+
+-- a modular crypt text with the identifier `scrypt`
+abbrev pub IsScryptText : List ℕ → Type 0
+IsScryptText text = (q : Parts) × ((mcf text ≡ Ok q) × (q.id ≡ codes "scrypt"))
+
+is_scrypt_text : (text : List ℕ) (q : Parts) → mcf text ≡ Ok q → q.id ≡ codes "scrypt" → IsScryptText text
+is_scrypt_text text q read named = (q, (read, named))
+
+pub fresh_read : (password salt : List ℕ) → salt_fault salt ≡ None → IsScryptText (upgraded_text password salt)
+fresh_read password salt good =
+    let s = salt_bytes salt good in
+    let read = made_read (codes "14") (codes "8") (codes "1") 14 8 1 written password s.bytes s.small s.least s.most in
+    is_scrypt_text (upgraded_text password salt) _ (ap mcf (is_made password salt s.bytes s.text s.decoded) ∙ read) refl
 
 upgraded_matches : (password salt : List ℕ) → length password ≤ 4096 → salt_fault salt ≡ None
     → verdict_on password (upgraded_text password salt) ≡ Ok true

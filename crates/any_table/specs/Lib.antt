@@ -1,0 +1,4 @@
+pub mod Fields
+pub mod AnyTexts
+pub mod AnyLaws
+pub mod Words
