@@ -1,5 +1,5 @@
 #!/usr/bin/env bash
-# Installs the programs, the C library, its header and pkg-config file, and the manual pages under a prefix.
+# Installs the programs, the C library, its header and pkg-config file, the manual pages and the licences under a prefix.
 #
 #     ./install.sh [PREFIX]      (/usr/local if left out; DESTDIR is put before it; PREFIX may be relative)
 #
@@ -62,4 +62,7 @@ put 644 "$top/include/pwcheck.h" include
 put 644 "$library/lib/pkgconfig/pwcheck.pc" lib/pkgconfig
 for page in "$top"/man/*.[135]; do
   put 644 "$page" "share/man/man${page##*.}"
+done
+for text in LICENSE-MIT LICENSE-APACHE NOTICE; do
+  put 644 "$top/$text" share/doc/pwcheck
 done

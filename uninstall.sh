@@ -18,6 +18,9 @@ for file in bin/pwcheck bin/pwtool bin/wrapstream bin/pwkdf bin/pwlegacy bin/pwf
   lib/pkgconfig/pwcheck.pc lib/libpwcheck.a lib/libpwcheck.so "lib/libpwcheck.so.${version%%.*}" "lib/libpwcheck.so.$version"; do
   take "$file"
 done
+for text in LICENSE-MIT LICENSE-APACHE NOTICE; do
+  take "share/doc/pwcheck/$text"
+done
 for page in "$top"/man/*.[135]; do
   take "share/man/man${page##*.}/$(basename "$page")"
 done

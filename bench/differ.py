@@ -1,10 +1,10 @@
 #!/usr/bin/env python3
-"""Compares the built program with a reading of the README's tables in Python.
+"""Compares the built program with a reading of docs/WORDS.md in Python.
 
     bench/differ.py [SEED [LINES]]
 
 makes lines from a seed (texts of both SHA-crypt families and of scrypt, near misses, damaged texts, noise, bytes that
-are no UTF-8), computes for each the word that the README's tables want, runs `pwcheck check` and `check --count` on all
+are no UTF-8), computes for each the word that its tables want, runs `pwcheck check` and `check --count` on all
 of them, and prints each difference. It ends with 0 where there is none. It needs Python 3 with OpenSSL's scrypt, and
 the program at crates/pwcheck/out/pwcheck (`cd crates/pwcheck && rt run -- check < /dev/null`).
 """

@@ -10,7 +10,7 @@ import re
 import sys
 
 TOP = os.path.dirname(os.path.dirname(os.path.abspath(__file__)))
-PAGES = ["README.md"] + sorted(glob.glob("docs/*.md", root_dir=TOP)) + sorted(glob.glob("man/*", root_dir=TOP))
+PAGES = ["README.md", "CONTRIBUTING.md", "SECURITY.md", "CHANGELOG.md", "NOTICE"] + sorted(glob.glob("docs/*.md", root_dir=TOP)) + sorted(glob.glob("man/*", root_dir=TOP))
 ROOTS = ("crates", "docs", "bench", "examples", "bindings", "include", "man", "scale", "packaging", "checks")
 
 

@@ -1,7 +1,7 @@
 #!/usr/bin/env bash
 # The repository's own checks, behind the prover's. Each ends with a status that isn't 0 where it finds a fault.
 #
-#     checks/run.sh quick    the numbers of the header and of the bindings, and what the pages name, in a second, without
+#     checks/run.sh quick    the numbers of the header and of the bindings, and what the pages name, and the pictures, in a second, without
 #                            any build: for each push
 #     checks/run.sh          that, and the C library, its callers, a run under sanitizers, the installation
 #
@@ -12,6 +12,7 @@ cd "$(dirname "$0")/.."
 export PYTHONDONTWRITEBYTECODE=1
 python3 bindings/numbers.py swaps
 python3 checks/pages.py
+python3 bench/pictures.py check
 [ "${1:-}" = quick ] && exit 0
 work=$(mktemp -d)
 trap 'rm -rf "$work"' EXIT

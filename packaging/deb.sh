@@ -15,6 +15,8 @@ trap 'rm -rf "$tree"' EXIT
 chmod 755 "$tree"
 DESTDIR=$tree "$top/install.sh" /usr >&2
 gzip -9 -n "$tree"/usr/share/man/man*/*
+python3 "$top/packaging/copyright.py" > "$tree/usr/share/doc/pwcheck/copyright"
+rm "$tree"/usr/share/doc/pwcheck/LICENSE-* "$tree/usr/share/doc/pwcheck/NOTICE"
 install -d "$tree/DEBIAN"
 cat > "$tree/DEBIAN/control" <<CONTROL
 Package: pwcheck
@@ -26,8 +28,9 @@ Section: admin
 Priority: optional
 Installed-Size: $(du -sk "$tree/usr" | cut -f1)
 Description: verification of stored passwords, proved
- Programs that answer each line of a password file with one word (SHA-crypt, yescrypt, bcrypt, scrypt, PBKDF2, Argon2,
- md5-crypt for migration), a table of users, wrapped Base64, and a C library of the same verdicts. Written in Rattle; each function is proved to
- meet its contract.
+ Programs that answer each line of a password file with one word (SHA-crypt,
+ yescrypt, bcrypt, scrypt, PBKDF2, Argon2, md5-crypt for migration), a table of
+ users, wrapped Base64, and a C library of the same verdicts. Written in Rattle;
+ each function is proved to meet its contract.
 CONTROL
 dpkg-deb --root-owner-group --build "$tree" "$folder/pwcheck_${version:-0}_amd64.deb"

@@ -1,3 +1,6 @@
 mod OfUsers
 mod OfJoins
 mod TwoFiles
+mod Runs
+mod OfNoTexts
+mod Alike

@@ -1,5 +1,5 @@
 -- What is owed for a line of texts, by its length, by whether there is a user, and by what the user's text is.
-use Rattle.std.proofs.Common.{◌≡◌, ◌≢◌, ℕ, Bool, true, false, List, [], ◌∷◌, ◌++◌, length, refl, ap, Option, Result, Err}
+use Rattle.std.proofs.Common.{◌≡◌, ◌≢◌, ℕ, Bool, true, false, List, [], ◌∷◌, ◌++◌, length, refl, Option, Result, Err}
 use Rattle.std.specs.Prelude.{nat_lt, codes}
 use Rattle.stored_check.specs.declared.error.StoredError.TheVariants.{OutOfMemory}
 use Rattle.user_lines.specs.Fields.{has_user, text_of_line, user_of}

@@ -1,6 +1,6 @@
 -- The lines of a shadow or htpasswd file, each answered by its user's password in another file.
 use Rattle.std.specs.Prelude.{ℕ, Bool, true, false, ◌==◌, List, [], ◌∷◌, ◌++◌, length, nat_lt, codes, Option}
-use Rattle.std.specs.Prelude.{Some, None, Result, Ok, Err, if◌then◌else◌}
+use Rattle.std.specs.Prelude.{Some, None, Ok, Err, if◌then◌else◌}
 use Rattle.std.specs.Str.{is_utf8}
 use Rattle.line_program.specs.Rules.{LineRules, each_line}
 use Rattle.line_io.specs.Limits.{line_max}

@@ -14,9 +14,10 @@ status_of (Passwords status) = status
 status_of (Texts status) = status
 
 -- The file of passwords held `given`, that of texts `held`, of which `taken` was taken; `added` was written.
--- Where the passwords weren't read to their end, nothing was taken of the texts, and nothing written. Else each line of the
--- texts is answered by the password that the last line of its user gives.
+-- Where the passwords weren't read to their end, nothing was taken of the texts, and nothing written; 6 comes only where they
+-- have more than `max` bytes. Else each line of the texts is answered by the password that the last line of its user gives.
 abbrev pub JoinOutcome : Option CostLimits → JoinEnd → ℕ → List ℕ → List ℕ → List ℕ → List ℕ → Type 0
-JoinOutcome limits (Passwords status) max given held taken added = (1 < status) × (taken ≡ []) × (added ≡ [])
+JoinOutcome limits (Passwords status) max given held taken added =
+    (1 < status) × (status ≡ 6 → max < length given) × (taken ≡ []) × (added ≡ [])
 JoinOutcome limits (Texts status) max given held taken added =
     (length given ≤ max) × Outcome (joined_rules limits (password_of (lines given))) status max held taken added

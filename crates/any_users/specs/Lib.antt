@@ -3,3 +3,7 @@ pub mod UserRules
 pub mod Join
 pub mod JoinRules
 pub mod JoinOutcome
+pub mod NoText
+pub mod NoTextRules
+pub mod FewerOutcome
+pub mod Laws

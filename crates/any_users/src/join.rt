@@ -17,17 +17,17 @@ use std::alloc::Global;
 use std::hash::RandomState;
 use user_lines::{Loading, Passwords, load_passwords};
 
-/// Where a run over two files ended, and its status.
+/// At which of its files a run ended, and its status.
 #[derive(Clone, Copy, Debug, PartialEq, Eq)]
 pub enum JoinEnd {
-    /// The passwords weren't read to their end.
+    /// At the passwords.
     Passwords(u8),
-    /// They were; this is the status of the texts.
+    /// At the texts.
     Texts(u8),
 }
 
 // Answers the lines of texts by a table of passwords.
-fn join_texts<T: Source, K: Sink>(
+pub(crate) fn join_texts<T: Source, K: Sink>(
     alloc: Global,
     limits: Option<CostLimits>,
     passwords: Passwords,
@@ -49,8 +49,8 @@ fn join_texts<T: Source, K: Sink>(
     run_lines(&mut joined, texts, sink, max)
 }
 
-/// Answers each line of `texts` by the user's password in `passwords`, and tells where it ended. Each source has at most
-/// `max` bytes.
+/// Answers each line of `texts` by the user's password in `passwords`, and tells where it ended: at the passwords, which are
+/// read first, where they weren't read to their end, or at the texts. Each source has at most `max` bytes.
 ///
 /// A line of texts is a user, a colon and a stored text, which ends at the next colon or with the line. The answer is the
 /// user, a tab and a word: `empty`, `locked` for a text that begins with `*` or `!`, `no-password` for a user without one,

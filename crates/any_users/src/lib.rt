@@ -1,19 +1,27 @@
 //! Lines of users, answered by `any_check`'s verdicts.
 //!
 //! [`run_users`] answers lines of a user, a password and a stored text; [`run_join`] answers the users of a shadow or
-//! htpasswd file by the passwords of another file.
+//! htpasswd file by the passwords of another file, and [`run_join_fewer`] the same with the passwords of those users alone in
+//! memory; [`run_no_text`] tells the users of a file of passwords who have no line in a shadow or htpasswd file.
 #![tactic(auto)]
 
 mod answer;
+mod fewer;
 mod join;
 #[cfg(test)]
 mod join_tests;
 mod joined;
+pub mod laws;
+mod no_text;
 #[cfg(test)]
 mod tests;
+#[cfg(test)]
+mod two_file_tests;
 mod users;
 
 pub use answer::JoinAnswer;
+pub use fewer::run_join_fewer;
 pub use join::{JoinEnd, run_join};
 pub use joined::JoinedLines;
+pub use no_text::{NoTextLines, run_no_text};
 pub use users::{UserLines, run_users};

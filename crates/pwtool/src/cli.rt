@@ -33,9 +33,11 @@ A line of TEXTS is a user, a colon and a stored text, which ends at the next col
 shadow or htpasswd file as it is. A line of PASSWORDS is a user, a colon and a password; of lines
 of one user the last counts. Each line of TEXTS is answered, in order, by its user, a tab and a
 word: match, mismatch, empty, locked (the text begins with * or !), no-password (PASSWORDS has no
-line of the user), or a word of 'pwtool check'. One of the two files may be -, standard input.
-All of PASSWORDS is kept in memory. Status 0 is for matches alone, 1 for some other word;
-pwtool --help has the rest.";
+line of the user), or a word of 'pwtool check'. With --no-text no password is checked: each line
+of PASSWORDS whose user has no line in TEXTS is answered by its user, a tab and no-text. One of
+the two files may be -, standard input. The smaller of two regular files is kept in memory, else
+PASSWORDS, with --no-text TEXTS. Status 0 is for matches alone (--no-text: no answer), 1 for some
+other word; pwtool --help has the rest.";
 
 /// What stands behind the options in the help of `survey`.
 const TEXTS: &str = "\
@@ -157,6 +159,21 @@ fn with_costs<'a>(alloc: Global, command: Command<'a>) -> Result<Command<'a>, Al
     Ok(command)
 }
 
+// A form with the options that say what is told on standard error.
+fn with_telling<'a>(alloc: Global, command: Command<'a>) -> Result<Command<'a>, AllocError> {
+    let progress = Arg::new(alloc, "progress")
+        .long("progress")
+        .action(ArgAction::SetTrue)
+        .help(
+            "Tell once a second on standard error how far the run is (a terminal is told anyway)",
+        );
+    let quiet = Arg::new(alloc, "quiet")
+        .long("quiet")
+        .action(ArgAction::SetTrue)
+        .help("Tell nothing but errors on standard error, and the progress if it is asked for");
+    command.arg(progress)?.arg(quiet)
+}
+
 // The form `check`.
 fn check<'a>(alloc: Global) -> Result<Command<'a>, AllocError> {
     let file = Arg::new(alloc, "FILE").help("The file; standard input where it is left out or -");
@@ -169,7 +186,7 @@ fn check<'a>(alloc: Global) -> Result<Command<'a>, AllocError> {
         .after_help(LINES)
         .arg(file)?
         .arg(users)?;
-    with_costs(alloc, command)
+    with_costs(alloc, with_telling(alloc, command)?)
 }
 
 // The form `join`.
@@ -180,12 +197,17 @@ fn join<'a>(alloc: Global) -> Result<Command<'a>, AllocError> {
     let passwords = Arg::new(alloc, "PASSWORDS")
         .required(true)
         .help("A user, a colon and a password a line");
+    let no_text = Arg::new(alloc, "no-text")
+        .long("no-text")
+        .action(ArgAction::SetTrue)
+        .help("Answer the users of PASSWORDS who have no line in TEXTS, and check no password");
     let command = Command::new(alloc, "join")
         .about("Answer each user of a shadow or htpasswd file by the password in another file")
         .after_help(USERS)
         .arg(texts)?
-        .arg(passwords)?;
-    with_costs(alloc, command)
+        .arg(passwords)?
+        .arg(no_text)?;
+    with_costs(alloc, with_telling(alloc, command)?)
 }
 
 // The form `survey`.
@@ -205,7 +227,7 @@ fn survey<'a>(alloc: Global) -> Result<Command<'a>, AllocError> {
         .arg(file)?
         .arg(csv)?
         .arg(json)?;
-    with_least_costs(alloc, command)
+    with_least_costs(alloc, with_telling(alloc, command)?)
 }
 
 /// The program's command line.

@@ -4,7 +4,8 @@
 //! `pwtool survey [FILE]`: tells the scheme and the cost of each user's stored text, and whether it is weak.
 //!
 //! A file is standard input where it is `-`, and each answer goes to standard output with a line feed. Errors are one line on
-//! standard error. The status says how the run ended.
+//! standard error, where the progress of a run and how many answers there were are told, too. The status says how the run
+//! ended.
 #![tactic(auto)]
 
 mod bounds;
@@ -13,17 +14,22 @@ mod cli;
 mod fault;
 mod form;
 mod join;
+mod pair;
+mod progress;
+mod reports;
 mod status;
 mod survey;
+mod tally;
 
 use crate::cli::command;
 use crate::fault::{say, say_refused};
-use crate::form::{run_check, run_join, run_survey};
+use crate::form::{run_check, run_survey};
+use crate::pair::run_join;
 use crate::status::BAD_WORDS;
 pub use check::{check_lines, check_users};
 use clap::ArgMatches;
 use clap::error::ErrorKind;
-pub use join::join_files;
+pub use join::{join_fewer, join_files, tell_no_text};
 use line_program::status::{ALL_GOOD, NO_MEMORY, NO_WORDS, WRITE_FAULT};
 use std::process::ExitCode;
 use std::{env, io};

@@ -1,3 +1,4 @@
 pub mod Cuts
 mod Tables
 pub mod Loaded
+pub mod LoadedWanted

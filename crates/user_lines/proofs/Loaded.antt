@@ -42,7 +42,7 @@ rows_after : (s : Loading) (ls : List (List ℕ))
 rows_after s [] = refl
 rows_after s (l ∷ ls) = rows_after (loading_rules.after s l) ls
 
-none_before : (part : List ℕ) → IsPrefix part [] → part ≡ []
+pub none_before : (part : List ℕ) → IsPrefix part [] → part ≡ []
 none_before [] p = refl
 none_before (b ∷ part) p = absurd (let e = ap length p.1 in omega arith)
 

@@ -2,7 +2,8 @@
 //!
 //! [`cut_user`] takes the user off a line, [`cut_field`] the text of a shadow line, which [`is_locked`] looks at, and
 //! [`put_user`] writes a user before a word. [`Passwords`] is a table of users and
-//! their passwords, which [`load_passwords`] fills from the lines of a source.
+//! their passwords, which [`load_passwords`] fills from the lines of a source, and [`load_wanted`] with those of the users
+//! of another table alone.
 #![tactic(auto)]
 
 mod cut;
@@ -10,7 +11,9 @@ mod load;
 mod passwords;
 #[cfg(test)]
 mod tests;
+mod wanted;
 
 pub use cut::{cut_field, cut_user, is_locked, put_user};
 pub use load::{Loading, load_passwords};
 pub use passwords::Passwords;
+pub use wanted::{LoadingWanted, load_wanted};

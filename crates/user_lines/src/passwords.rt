@@ -3,6 +3,7 @@
 ghost use Rattle.std.specs.Prelude.{◌≡◌, [], length, OnErr, OnOk};
 ghost use Rattle.std.specs.Option.{option_copied};
 ghost use Rattle.user_lines.specs.Passwords.{password_in, with_password};
+ghost use Rattle.user_lines.specs.Wanted.{is_in};
 
 use indexmap::IndexMap;
 use std::alloc::{AllocError, Global};
@@ -51,6 +52,13 @@ impl Passwords {
             Some(password) => Some(password.as_slice()),
             None => None,
         }
+    }
+
+    /// Whether the user is in the table.
+    pub fn has(&self, user: &[u8]) -> bool
+        ensures has { result ≡ is_in self.now user.now }
+    {
+        self.get(user).is_some()
     }
 
     // Makes this the user's password. A new user goes last.

@@ -1,6 +1,9 @@
 //! Cut lines, and tables of passwords.
 
-use crate::{Loading, Passwords, cut_field, cut_user, is_locked, load_passwords, put_user};
+use crate::{
+    Loading, LoadingWanted, Passwords, cut_field, cut_user, is_locked, load_passwords, load_wanted,
+    put_user,
+};
 use line_io::{MemorySink, MemorySource, OutputBuffer};
 use std::hash::RandomState;
 use std::test::Fail;
@@ -92,6 +95,61 @@ fn statuses(rt: HostRuntime) -> Result<(), Fail> {
             passwords: Passwords::new(rt.alloc(), RandomState::new(&rt)?),
         };
         let got = load_passwords(&mut loading, &mut source, &mut sink, max);
+        assert_eq!(rt; got, status, "{input:?}");
+    }
+    Ok(())
+}
+
+#[test]
+fn wanted_users_alone(rt: HostRuntime) -> Result<(), Fail> {
+    let mut users = Passwords::new(rt.alloc(), RandomState::new(&rt)?);
+    users.put(b"ann", b"")?;
+    users.put(b"eve", b"x")?;
+    assert!(rt; users.has(b"ann"));
+    assert!(rt; !users.has(b"bob"));
+    let mut loading = LoadingWanted {
+        passwords: Passwords::new(rt.alloc(), RandomState::new(&rt)?),
+        users,
+    };
+    let input = b"ann:one\nbob:two\nann:three:four\nnobody\n:five\nbob:".as_slice();
+    let mut room = [0; 1];
+    let mut sink = MemorySink::new(&mut room, 1, &[0]);
+    let mut source = MemorySource::new(input, 5, &[]);
+    assert_eq!(rt; load_wanted(&mut loading, &mut source, &mut sink, 100), 1);
+    let rows: [(&[u8], Option<&[u8]>); 5] = [
+        (b"ann", Some(b"three:four")),
+        (b"bob", None),
+        (b"eve", None),
+        (b"", None),
+        (b"nobody", None),
+    ];
+    for (user, password) in rows {
+        assert_eq!(rt; loading.passwords.get(user), password, "{user:?}");
+    }
+    assert_eq!(rt; loading.passwords.len(), 1);
+    Ok(())
+}
+
+#[test]
+fn statuses_of_wanted_users(rt: HostRuntime) -> Result<(), Fail> {
+    let rows: [(&[u8], &[u64], u64, u8); 5] = [
+        (b"", &[], 10, 0),
+        (b"a:b\nc:d\n", &[], 10, 0),
+        (b"a:b\nc\n", &[], 10, 1),
+        (b"a:b\nc:d\n", &[1], 10, 3),
+        (b"a:b\nc:d\n", &[], 7, 6),
+    ];
+    for (input, failing, max, status) in rows {
+        let mut users = Passwords::new(rt.alloc(), RandomState::new(&rt)?);
+        users.put(b"a", b"")?;
+        let mut loading = LoadingWanted {
+            passwords: Passwords::new(rt.alloc(), RandomState::new(&rt)?),
+            users,
+        };
+        let mut room = [0; 1];
+        let mut sink = MemorySink::new(&mut room, 1, &[]);
+        let mut source = MemorySource::new(input, 3, failing);
+        let got = load_wanted(&mut loading, &mut source, &mut sink, max);
         assert_eq!(rt; got, status, "{input:?}");
     }
     Ok(())

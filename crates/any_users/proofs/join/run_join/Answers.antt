@@ -1,5 +1,5 @@
 use Rattle.pieces.proofs.RisenCounts.{risen_since}
-use Rattle.any_users.proofs.TwoFiles.{passwords_end, texts_end}
+use Rattle.any_users.proofs.Runs.{passwords_end, texts_end}
 use Rattle.any_users.proofs.join.run_join.Goals as goal
 
 pub returns-then-status-gt-SOME_OTHER-clause-outcome : goal.returns-then-status-gt-SOME_OTHER-clause-outcome

@@ -1,4 +1,4 @@
-use Rattle.std.proofs.Common.{refl, sym}
+use Rattle.std.proofs.Common.{refl}
 use Rattle.line_program.specs.Rules.{from_state}
 use Rattle.line_program.proofs.RuleLaws.{each_by_itself}
 use Rattle.line_program.proofs.Told.{outcome_as}

@@ -1,0 +1,13 @@
+mod Cuts
+mod Clean
+mod Characters
+mod Answers
+mod Prefixes
+mod ShaReadings
+mod BcryptReadings
+mod ShaLaw
+mod Md5Law
+mod BcryptLaw
+mod YescryptLaw
+mod ScryptLaw
+mod Law

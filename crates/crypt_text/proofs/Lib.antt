@@ -1,0 +1,5 @@
+pub mod Dollars
+mod Rounds
+mod Cleared
+mod Counts
+mod SaltBytes

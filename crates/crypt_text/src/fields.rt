@@ -1,0 +1,43 @@
+//! Pieces of texts that are put together.
+
+ghost use Rattle.std.specs.Prelude.{◌≡◌, ◌≤◌, ◌<◌, ◌+◌, ◌*◌, ◌/◌, ◌++◌, length};
+ghost use Rattle.bcrypt_plain.specs.Made.{two_digits};
+ghost use Rattle.sha_crypt.specs.Records.{rounds_part};
+ghost use Rattle.yescrypt_plain.specs.Field.{crypt_field};
+
+use base64ct::{Base64ShaCrypt, Encoding};
+use pieces::short_bytes::ShortBytes;
+
+/// The characters of at most 64 bytes, the low bits first.
+pub(crate) fn crypt_field(bytes: &[u8]) -> ShortBytes<86>
+    requires most { length bytes.now ≤ 64 }
+    ensures field { result ≡ crypt_field bytes.now }
+    ensures len { length result ≡ (4 * length bytes.now + 2) / 3 }
+{
+    let mut field = [0u8; 86];
+    match Base64ShaCrypt::encode(bytes, &mut field) {
+        Ok(characters) => ShortBytes::from_slice(characters.as_bytes()),
+        Err(_) => ShortBytes::new(),
+    }
+}
+
+/// The two digits of a number.
+pub(crate) fn two_digits(n: u32) -> [u8; 2]
+    requires { n ≤ 99 }
+    ensures { result ≡ two_digits n }
+{
+    [48 + (n / 10) as u8, 48 + (n % 10) as u8]
+}
+
+/// Appends what names the rounds, where they are written.
+pub(crate) fn push_rounds<const N: usize>(text: &mut ShortBytes<N>, written: bool, rounds: u64)
+    requires room { length text.old + 28 ≤ N }
+    ensures appended { text.new ≡ text.old ++ rounds_part written rounds }
+    ensures len { length text.new ≤ length text.old + 28 }
+{
+    if written {
+        text.push_all(b"rounds=");
+        text.push_decimal(rounds);
+        text.push_all(b"$");
+    }
+}

@@ -1,0 +1,55 @@
+#!/usr/bin/env python3
+"""Builds libpwcrypt, crypt(3) over the proved calls, in a folder: lib/libpwcrypt.so.1.0 with the links libpwcrypt.so.1 and
+libpwcrypt.so.
+
+    crypt3/library.py FOLDER
+
+It takes the archive that `rt lib` makes in crates/pwcrypt_c, as bindings/library.py takes that of pwcheck_c; the variable
+LIBPWCRYPT_C names another one. It needs gcc, binutils and libxcrypt's <crypt.h> (Debian's libcrypt-dev). CFLAGS are put behind
+the flags of Debian's hardening.
+"""
+import os
+import shlex
+import sys
+
+HERE = os.path.dirname(os.path.abspath(__file__))
+TOP = os.path.dirname(HERE)
+sys.path.insert(0, os.path.join(TOP, "bindings"))
+import library  # noqa: E402
+
+VERSION = "1.0"
+ARCHIVE = os.environ.get("LIBPWCRYPT_C", os.path.join(TOP, "crates", "pwcrypt_c", "out", "libpwcrypt_c.a"))
+# Those of Debian 12 with hardening=+all, and two that its later releases have.
+FLAGS = ["-std=c11", "-D_GNU_SOURCE", "-O2", "-g", "-Wall", "-Wextra", "-Werror", "-fPIC", "-fvisibility=default",
+         "-fstack-protector-strong", "-fstack-clash-protection", "-fcf-protection", "-Wformat", "-Werror=format-security",
+         "-D_FORTIFY_SOURCE=2"]
+LINK = ["-Wl,-z,relro", "-Wl,-z,now", "-Wl,-z,defs", "-Wl,-z,text", "-Wl,-z,noexecstack", "-Wl,-Bsymbolic",
+        "-Wl,--version-script=" + os.path.join(HERE, "exports.map")]
+
+
+def archives():
+    """The crate's archive, and the kit's allocator for it."""
+    kit = os.environ.get("KIT") or os.path.dirname(
+        library.run("rt", "doc", capture_output=True, text=True).stdout.strip())
+    archive = ARCHIVE if "LIBPWCRYPT_C" in os.environ else library.made(ARCHIVE, "pwcrypt_c", "rt", "lib")
+    return [archive, os.path.join(kit, "c", "liblibc_c.a")]
+
+
+def laid_out(folder):
+    """The shared library under its full version, with its links; the answer is its path."""
+    lib = os.path.join(folder, "lib")
+    os.makedirs(lib, exist_ok=True)
+    full, soname = "libpwcrypt.so." + VERSION, "libpwcrypt.so." + VERSION.split(".", maxsplit=1)[0]
+    library.run("gcc", *FLAGS, *shlex.split(os.environ.get("CFLAGS", "")), "-shared", "-o", os.path.join(lib, full),
+                "-Wl,-soname," + soname, *LINK, os.path.join(HERE, "pwcrypt.c"), *archives())
+    for link, target in [(soname, full), ("libpwcrypt.so", soname)]:
+        path = os.path.join(lib, link)
+        if os.path.lexists(path):
+            os.remove(path)
+        os.symlink(target, path)
+    return os.path.join(lib, full)
+
+
+if __name__ == "__main__":
+    library.need(len(sys.argv) == 2, "usage: library.py FOLDER")
+    laid_out(sys.argv[1])
