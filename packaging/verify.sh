@@ -1,0 +1,20 @@
+#!/usr/bin/env bash
+# Builds a release anew from the sources here and compares it with the one in a folder, bit by bit.
+#
+#     packaging/verify.sh FOLDER
+#
+# It ends with 0 where both are the same, and else with 1 and the files that differ.
+set -eu
+top=$(cd "$(dirname "$0")/.." && pwd)
+folder=$(cd "${1:?packaging/verify.sh FOLDER}" && pwd)
+work=$(mktemp -d)
+trap 'rm -rf "$work"' EXIT
+(cd "$folder" && sha256sum --quiet -c SHA256SUMS)
+"$top/packaging/release.sh" "$work" >/dev/null
+if cmp -s "$work/SHA256SUMS" "$folder/SHA256SUMS"; then
+  echo "verify.sh: $(wc -l < "$folder/SHA256SUMS") files are those that these sources give"
+  exit 0
+fi
+diff "$folder/SHA256SUMS" "$work/SHA256SUMS" >&2 || true
+echo "verify.sh: $folder is of other sources, or was changed" >&2
+exit 1
