@@ -67,78 +67,48 @@ fn a_user_who_came_between_the_readings_has_no_password(rt: HostRuntime) -> Resu
     Ok(())
 }
 
-// A run over three files: the reads of users, passwords and texts and the writes that fail, and the most bytes.
-#[derive(Clone, Copy)]
-struct ThreeFiles {
-    bad_users: &'static [u64],
-    bad_passwords: &'static [u64],
-    bad_texts: &'static [u64],
-    bad_writes: &'static [u64],
-    max: u64,
-}
+// The reads of users, of passwords and of texts and the writes that fail, the most bytes, the output and the end.
+type ThreeFiles = (
+    &'static [u64],
+    &'static [u64],
+    &'static [u64],
+    &'static [u64],
+    u64,
+    &'static [u8],
+    Result<JoinEnd, u8>,
+);
 
-const GOOD: ThreeFiles = ThreeFiles {
-    bad_users: &[],
-    bad_passwords: &[],
-    bad_texts: &[],
-    bad_writes: &[],
-    max: 100,
-};
+const THREE_FILES: [ThreeFiles; 7] = [
+    (
+        &[],
+        &[],
+        &[],
+        &[],
+        100,
+        b"ann\tmatch\n",
+        Ok(JoinEnd::Texts(0)),
+    ),
+    (&[1], &[], &[], &[], 100, b"", Err(3)),
+    (&[], &[1], &[], &[], 100, b"", Ok(JoinEnd::Passwords(3))),
+    (&[], &[], &[1], &[], 100, b"", Ok(JoinEnd::Texts(3))),
+    (&[], &[], &[], &[0], 100, b"", Ok(JoinEnd::Texts(4))),
+    (&[], &[], &[], &[], 10, b"", Err(6)),
+    (&[], &[], &[], &[], 42, b"", Ok(JoinEnd::Passwords(6))),
+];
 
 #[test]
 fn ends_of_three_files(rt: HostRuntime) -> Result<(), Fail> {
-    let rows: [(ThreeFiles, &[u8], Result<JoinEnd, u8>); 7] = [
-        (GOOD, b"ann\tmatch\n", Ok(JoinEnd::Texts(0))),
-        (
-            ThreeFiles {
-                bad_users: &[1],
-                ..GOOD
-            },
-            b"",
-            Err(3),
-        ),
-        (
-            ThreeFiles {
-                bad_passwords: &[1],
-                ..GOOD
-            },
-            b"",
-            Ok(JoinEnd::Passwords(3)),
-        ),
-        (
-            ThreeFiles {
-                bad_texts: &[1],
-                ..GOOD
-            },
-            b"",
-            Ok(JoinEnd::Texts(3)),
-        ),
-        (
-            ThreeFiles {
-                bad_writes: &[0],
-                ..GOOD
-            },
-            b"",
-            Ok(JoinEnd::Texts(4)),
-        ),
-        (ThreeFiles { max: 10, ..GOOD }, b"", Err(6)),
-        (
-            ThreeFiles { max: 42, ..GOOD },
-            b"",
-            Ok(JoinEnd::Passwords(6)),
-        ),
-    ];
-    for (files, output, wanted) in &rows {
+    for (bad_users, bad_passwords, bad_texts, bad_writes, max, output, wanted) in THREE_FILES {
         let text = b"ann:$1$abcdefgh$cHJi5PXp/ki/ktXzqlk6I1\n".as_slice();
         let mut room = [0; 40];
-        let mut users = MemorySource::new(text, 8, files.bad_users);
+        let mut users = MemorySource::new(text, 8, bad_users);
         let mut passwords = MemorySource::new(
             b"ann:secret\nbob:a password that no text has\n",
             8,
-            files.bad_passwords,
+            bad_passwords,
         );
-        let mut texts = MemorySource::new(text, 30, files.bad_texts);
-        let mut sink = MemorySink::new(&mut room, 40, files.bad_writes);
+        let mut texts = MemorySource::new(text, 30, bad_texts);
+        let mut sink = MemorySink::new(&mut room, 40, bad_writes);
         let end = run_join_fewer(
             rt.alloc(),
             RandomState::new(&rt)?,
@@ -147,10 +117,10 @@ fn ends_of_three_files(rt: HostRuntime) -> Result<(), Fail> {
             &mut passwords,
             &mut texts,
             &mut sink,
-            files.max,
+            max,
         );
-        assert_eq!(rt; end, *wanted);
-        assert_eq!(rt; sink.bytes(), *output);
+        assert_eq!(rt; end, wanted);
+        assert_eq!(rt; sink.bytes(), output);
     }
     Ok(())
 }
