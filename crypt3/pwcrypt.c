@@ -63,6 +63,8 @@ static bool write_text(const char *phrase, const char *setting, struct crypt_dat
     int32_t status = pwcrypt_text(bytes_of(phrase), strlen(phrase), bytes_of(setting), strlen(setting), text,
                                   sizeof text - 1, &length);
     if (status != PWCRYPT_DONE) {
+        /* Anew, as libxcrypt does: a setting that stood in the output is the first token now. */
+        write_token(setting, data->output, sizeof data->output);
         errno = error_of(status);
         return false;
     }
