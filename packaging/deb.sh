@@ -16,44 +16,43 @@ trap 'rm -rf "$tree"' EXIT
 chmod 755 "$tree"
 DESTDIR=$tree "$top/install.sh" /usr >&2
 gzip -9 -n "$tree"/usr/share/man/man*/*
-python3 "$top/packaging/copyright.py" > "$tree/usr/share/doc/pwcheck/copyright"
 rm "$tree"/usr/share/doc/pwcheck/LICENSE-* "$tree/usr/share/doc/pwcheck/NOTICE"
 crypt_tree=$(mktemp -d)
 trap 'rm -rf "$tree" "$crypt_tree"' EXIT
 chmod 755 "$crypt_tree"
+
+package() { # NAME TREE SECTION, and the description on standard input
+  install -d "$2/DEBIAN" "$2/usr/share/doc/$1"
+  python3 "$top/packaging/copyright.py" > "$2/usr/share/doc/$1/copyright"
+  {
+    echo "Package: $1"
+    echo "Version: ${version:-0}"
+    echo "Architecture: amd64"
+    echo "Maintainer: Bovchiril maintainers <maintainers@users.noreply.bovchiril.example>"
+    echo "Depends: libc6 (>= 2.34)"
+    echo "Section: $3"
+    echo "Priority: optional"
+    echo "Installed-Size: $(du -sk "$2/usr" | cut -f1)"
+    cat
+  } > "$2/DEBIAN/control"
+  dpkg-deb --root-owner-group --build "$2" "$folder/$1_${version:-0}_amd64.deb"
+}
+
 if [ -e "$tree/usr/lib/libpwcrypt.so.1" ]; then
-  install -d "$crypt_tree/DEBIAN" "$crypt_tree/usr/lib" "$crypt_tree/usr/share/man/man3"
+  install -d "$crypt_tree/usr/lib" "$crypt_tree/usr/share/man/man3"
   mv "$tree"/usr/lib/libpwcrypt.so* "$crypt_tree/usr/lib"
   mv "$tree/usr/share/man/man3/pwcrypt.3.gz" "$crypt_tree/usr/share/man/man3"
-  cat > "$crypt_tree/DEBIAN/control" <<CONTROL
-Package: libpwcrypt1
-Version: ${version:-0}
-Architecture: amd64
-Maintainer: Bovchiril maintainers <maintainers@users.noreply.bovchiril.example>
-Depends: libc6 (>= 2.34)
-Section: libs
-Priority: optional
-Installed-Size: $(du -sk "$crypt_tree/usr" | cut -f1)
+  package libpwcrypt1 "$crypt_tree" libs <<'TEXT'
 Description: crypt(3) over proved code
- A shared library with the calls and symbol versions of libxcrypt, for programs that link it or preload it in libcrypt's place:
- md5-crypt, SHA-crypt, bcrypt, scrypt and yescrypt. It does not replace libcrypt.
-CONTROL
-  dpkg-deb --root-owner-group --build "$crypt_tree" "$folder/libpwcrypt1_${version:-0}_amd64.deb"
+ A shared library with the calls and symbol versions of libxcrypt, for programs
+ that link it or preload it in libcrypt's place: md5-crypt, SHA-crypt, bcrypt,
+ scrypt and yescrypt. It does not replace libcrypt.
+TEXT
 fi
-install -d "$tree/DEBIAN"
-cat > "$tree/DEBIAN/control" <<CONTROL
-Package: pwcheck
-Version: ${version:-0}
-Architecture: amd64
-Maintainer: Bovchiril maintainers <maintainers@users.noreply.bovchiril.example>
-Depends: libc6 (>= 2.34)
-Section: admin
-Priority: optional
-Installed-Size: $(du -sk "$tree/usr" | cut -f1)
+package pwcheck "$tree" admin <<'TEXT'
 Description: verification of stored passwords, proved
  Programs that answer each line of a password file with one word (SHA-crypt,
  yescrypt, bcrypt, scrypt, PBKDF2, Argon2, md5-crypt for migration), a table of
  users, wrapped Base64, and a C library of the same verdicts. Written in Rattle;
  each function is proved to meet its contract.
-CONTROL
-dpkg-deb --root-owner-group --build "$tree" "$folder/pwcheck_${version:-0}_amd64.deb"
+TEXT
