@@ -13,7 +13,9 @@ export PYTHONDONTWRITEBYTECODE=1
 python3 bindings/numbers.py swaps
 python3 crypt3/numbers.py swaps
 python3 checks/pages.py
+python3 checks/same_numbers.py changed
 python3 bench/pictures.py check
+python3 checks/dist.py
 [ "${1:-}" = quick ] && exit 0
 work=$(mktemp -d)
 trap 'rm -rf "$work"' EXIT

@@ -1,5 +1,5 @@
 #!/usr/bin/env bash
-# Builds a release anew from the sources here and compares it with the one in a folder, bit by bit.
+# Builds a release, or dist/, anew from the sources here and compares it with the one in a folder, bit by bit.
 #
 #     packaging/verify.sh FOLDER
 #
@@ -10,7 +10,9 @@ folder=$(cd "${1:?packaging/verify.sh FOLDER}" && pwd)
 work=$(mktemp -d)
 trap 'rm -rf "$work"' EXIT
 (cd "$folder" && sha256sum --quiet -c SHA256SUMS)
-"$top/packaging/release.sh" "$work" >/dev/null
+maker=release.sh
+[ ! -e "$folder/SOURCES" ] || maker=dist.sh
+"$top/packaging/$maker" "$work" >/dev/null
 if cmp -s "$work/SHA256SUMS" "$folder/SHA256SUMS"; then
   echo "verify.sh: $(wc -l < "$folder/SHA256SUMS") files are those that these sources give"
   exit 0

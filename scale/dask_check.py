@@ -3,10 +3,11 @@
 and the status is that of one run: that of the first part that didn't reach its end (which is named; nothing behind its
 answers is written), else 1 where some answer is no `match`, else 0. A part whose worker dies is done again by another.
 
-    scale/dask_check.py FILE [--scheduler ADDRESS] [--workers N] [--part BYTES]
+    scale/dask_check.py FILE [--scheduler ADDRESS] [--workers N] [--part BYTES] [--words 'WORDS']
 
 Without a scheduler's address a cluster of N workers (one for each core if left out) is started on this machine and ended
-with the run. It needs Debian's python3-distributed. PWCHECK names the program (pwcheck on PATH, else
+with the run. It needs Debian's python3-distributed. The program's words are `check` if left out; with PWCHECK=pwtool they may be
+'check --quiet --users', or 'join --quiet - PASSWORDS' with a file that each worker has. PWCHECK names the program (pwcheck on PATH, else
 crates/pwcheck/out/pwcheck), which every worker must find by the same name; the parts go to the workers, passwords with
 them, over the cluster's own connections: use TLS (Dask's security) where the network isn't yours.
 """
@@ -35,8 +36,8 @@ def parts(path, size):
             yield piece + file.readline()
 
 
-def check(program, lines):
-    done = subprocess.run([program, "check"], input=lines, stdout=subprocess.PIPE, check=False)
+def check(program, words, lines):
+    done = subprocess.run([program, *words], input=lines, stdout=subprocess.PIPE, check=False)
     return done.returncode, done.stdout
 
 
@@ -46,6 +47,7 @@ def main():
     options.add_argument("--scheduler")
     options.add_argument("--workers", type=int, default=os.cpu_count())
     options.add_argument("--part", type=int, default=1 << 20)
+    options.add_argument("--words", default="check")
     asked = options.parse_args()
     cluster = None
     if not asked.scheduler:
@@ -53,7 +55,7 @@ def main():
     client = Client(asked.scheduler or cluster)
     some = stop = 0
     try:
-        futures = [client.submit(check, PROGRAM, piece, pure=False, retries=3) for piece in parts(asked.file, asked.part)]
+        futures = [client.submit(check, PROGRAM, asked.words.split(), piece, pure=False, retries=3) for piece in parts(asked.file, asked.part)]
         for number, future in enumerate(futures, 1):
             status, words = future.result()
             sys.stdout.buffer.write(words)

@@ -8,6 +8,13 @@
 # PWCHECK names the program (pwcheck on PATH, else crates/pwcheck/out/pwcheck); on other machines it must be found by the
 # same name. WORDS are its words: `check` (if left out) or `check --count`. A bound of 2^40 bytes holds for each part.
 # With --sshlogin each part of the file is sent to the host's standard input, so passwords pass through ssh alone.
+#
+# pwtool is run so too, on lines with users, or on a shadow file beside a file of passwords, which each host must have:
+#
+#     PWCHECK=pwtool WORDS='check --quiet --users' scale/parallel.sh LINES
+#     PWCHECK=pwtool WORDS='join --quiet - /path/to/passwords' scale/parallel.sh SHADOW
+#
+# Each part of a join keeps all passwords in memory; --no-text isn't for parts, as it asks which users have no line in any.
 set -u
 here=$(cd "$(dirname "$0")" && pwd)
 program=${PWCHECK:-$(command -v pwcheck || echo "$here/../crates/pwcheck/out/pwcheck")}
@@ -19,7 +26,7 @@ fi
 [ $# -ge 1 ] && [ -f "$1" ] || { echo "usage: scale/parallel.sh FILE [OPTIONS of parallel]" >&2; exit 64; }
 file=$1
 shift
-# Each part ends with a line of its status; no answer begins with a tab.
+# Each part ends with a line of its status; no answer is a tab and such a word.
 parallel --will-cite --pipepart -a "$file" --keep-order --block "${BLOCK:--8}" "$@" \
   "$program $words; printf '\tstatus %d\n' \$?" |
   awk -F'\t' '

@@ -8,7 +8,3 @@ phrase_max = 511
 -- the most bytes of a setting of `$7$` and `$y$`, with all that follows the salt
 abbrev pub setting_max : ℕ
 setting_max = 339
-
--- the most bytes of a text: those of `$7$`, eleven parameters, a salt of 325, `$` and a hash of 43
-abbrev pub text_max : ℕ
-text_max = 384

@@ -21,7 +21,7 @@ pub const PHRASE_MAX: usize = 511;
 /// The most bytes of a setting of `$7$` and `$y$`.
 pub(crate) const LONG_SETTING_MAX: usize = 339;
 
-/// Room for the longest text.
+/// Room for the longest text and a zero byte behind it.
 pub const TEXT_MAX: usize = 384;
 
 // By the method of the setting.

@@ -20,6 +20,8 @@ mod reports;
 mod status;
 mod survey;
 mod tally;
+#[cfg(test)]
+mod tests;
 
 use crate::cli::command;
 use crate::fault::{say, say_refused};

@@ -1,0 +1,22 @@
+#!/usr/bin/env bash
+# Makes the folder of what is built, for those who don't have the kit: programs, C libraries, header, SHA256SUMS, and in SOURCES the
+# checksum of the sources that they are of.
+#
+#     packaging/dist.sh [FOLDER]      (dist/ if left out)
+#
+# What isn't built is built first, and so proved (see install.sh). dist/ is renewed with each version, not with each change:
+# checks/dist.py says whether it is of the sources that stand here.
+set -eu
+top=$(cd "$(dirname "$0")/.." && pwd)
+folder=${1:-$top/dist}
+work=$(mktemp -d)
+trap 'rm -rf "$work"' EXIT
+DESTDIR=$work "$top/install.sh" /usr >&2
+rm -rf "$folder"
+mkdir -p "$folder"
+install -m 755 "$work"/usr/bin/* "$folder"
+install -m 644 "$work/usr/lib/libpwcheck.a" "$top/include/pwcheck.h" "$folder"
+find "$work/usr/lib" -maxdepth 1 -type f -name '*.so.*' -exec install -m 644 {} "$folder" \;
+python3 "$top/packaging/sources.py" > "$folder/SOURCES"
+(cd "$folder" && find . -type f ! -name SHA256SUMS -printf '%f\0' | LC_ALL=C sort -z | xargs -0 sha256sum -- > SHA256SUMS)
+cat "$folder/SHA256SUMS"
