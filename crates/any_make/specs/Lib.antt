@@ -1,0 +1,5 @@
+pub mod Costs
+pub mod Records
+pub mod Names
+pub mod Made
+pub mod Laws
