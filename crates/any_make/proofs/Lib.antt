@@ -1,5 +1,6 @@
 pub mod Judged
 pub mod KeyBytes
+pub mod Joined
 pub mod RecordTexts
 pub mod RecordVerdicts
 pub mod RecordsJudged
@@ -7,3 +8,4 @@ pub mod ShaVerdicts
 pub mod BcryptVerdicts
 pub mod YescryptVerdicts
 pub mod Matches
+pub mod FirstLine

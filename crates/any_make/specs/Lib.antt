@@ -3,3 +3,4 @@ pub mod Records
 pub mod Names
 pub mod Made
 pub mod Laws
+pub mod Line

@@ -1,8 +1,8 @@
 //! The schemes of which texts are made, and what their texts cost.
 
-ghost use Rattle.std.specs.Prelude.{◌≡◌, ◌≤◌, true};
+ghost use Rattle.std.specs.Prelude.{◌≡◌, ◌≤◌};
 ghost use Rattle.any_make.specs.Costs.{is_taken, needs_memory, password_length, recommended, salt_length, scheme_of, takes_zero};
-ghost use Rattle.argon2_plain.specs.Bounds as argon2;
+ghost use Rattle.any_make.specs.Records.{argon2_params};
 
 use argon2_plain::{Params, Variant};
 use sha_crypt::{Family, ROUNDS_MAX, ROUNDS_MIN};
@@ -123,10 +123,7 @@ impl MakeScheme {
 impl Argon2Cost {
     /// The numbers with the type.
     pub(crate) fn params(self) -> Params
-        ensures variant { result.variant ≡ Variant.Id }
-        ensures passes { result.passes ≡ self.passes }
-        ensures memory { result.memory ≡ self.memory }
-        ensures lanes { result.lanes ≡ self.lanes }
+        ensures params { result ≡ argon2_params self }
     {
         Params {
             variant: Variant::Id,
