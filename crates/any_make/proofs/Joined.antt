@@ -1,7 +1,7 @@
 -- What is pushed, one after another, is the text of a record.
 use Rattle.std.proofs.Common.{◌≡◌, ◌⊎◌, ℕ, ◌^◌, ◌<◌, ◌≤◌, List, [], ◌∷◌, ◌++◌, length, refl, sym, ap, ◌∙◌, arith, append_assoc, inl, inr}
 use Rattle.std.specs.Prelude.{codes}
-use Rattle.std.specs.Fmt.{decimal}
+use Rattle.std.specs.Fmt.{decimal, digits}
 use Rattle.base64ct.specs.Encoding.{EachBelow, longest_input}
 use Rattle.phc.specs.Encoded.{encoding}
 use Rattle.phc.specs.Record.{record_text}
@@ -56,7 +56,7 @@ argon2_joined : (c : Argon2Cost) (salt key : List ℕ)
     → with_fields (codes "$argon2id$v=19$m=" ++ decimal c.memory ++ codes ",t=" ++ decimal c.passes ++ codes ",p="
     ++ decimal c.lanes) salt key
     ≡ record_text (argon2_record c salt key)
-unfolding record_text
+unfolding record_text digits
 argon2_joined c salt key =
     three_numbers (codes "$argon2id$v=19$m=") (decimal c.memory) (codes ",t=") (decimal c.passes) (codes ",p=") (decimal c.lanes)
     (codes "$") (encoding salt) (encoding key)

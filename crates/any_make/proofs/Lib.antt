@@ -9,3 +9,4 @@ pub mod BcryptVerdicts
 pub mod YescryptVerdicts
 pub mod Matches
 pub mod FirstLine
+pub mod Makers

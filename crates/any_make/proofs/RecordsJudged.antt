@@ -1,7 +1,7 @@
 -- The texts of scrypt, Argon2id and PBKDF2 are judged.
 use Rattle.std.proofs.Common.{◌≡◌, ℕ, ◌*◌, ◌^◌, ◌<◌, ◌≤◌, true, List, [], ◌∷◌, ◌++◌, length, refl, sym, ap, ◌∙◌, arith, Some, None}
 use Rattle.std.specs.Prelude.{◌&&◌, codes, nat_le, nat_lt}
-use Rattle.std.specs.Fmt.{decimal}
+use Rattle.std.specs.Fmt.{decimal, digits}
 use Rattle.std.proofs.lemmas.Bool.{and_parts}
 use Rattle.std.proofs.lemmas.Bool.Decides.{nat_tests}
 use Rattle.std.proofs.Math.Nat.{le-mul_of_pos_right}
@@ -182,7 +182,7 @@ module _ (c : Argon2Cost) (bounds : argon2_bounds.in_bounds c.passes c.memory c.
   }
 
   argon2_joined : (salt key : List ℕ) → parts_text (argon2_parts salt key) ≡ record_text (argon2_record c salt key)
-  unfolding record_text
+  unfolding record_text digits
   argon2_joined salt key =
       regrouped (codes "$argon2id$v=19") (36 ∷ pairs_text (three (codes "m") (codes "t") (codes "p") c.memory c.passes c.lanes))
       (36 ∷ encoding salt) (36 ∷ encoding key)

@@ -79,7 +79,9 @@ pub fn run_make<S: Source, K: Sink>(
     let mut lines = LineBuffer::new(INPUT_MAX);
     match lines.next_line(source) {
         Line::Whole(_) => write_text(alloc, cost, lines.line(), salt, sink),
-        Line::TooLong | Line::Budget => MakeEnd::LongLine,
+        Line::TooLong => MakeEnd::LongLine,
+        // More bytes than may be read, and no line feed among them.
+        Line::Budget => MakeEnd::LongLine,
         Line::End => MakeEnd::NoLine,
         Line::Failed => MakeEnd::ReadFault,
     }

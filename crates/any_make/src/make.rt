@@ -1,6 +1,7 @@
 //! Texts that are made.
 
 ghost use Rattle.std.specs.Prelude.{◌≡◌, ◌⊎◌, ◌≤◌, length, take, false, true, IfErr, IfOk, IsNone, MatchResult, Ok, OnErr};
+ghost use Rattle.std.specs.Str.{is_utf8};
 ghost use Rattle.any_check.specs.Records.{accepted, tag};
 ghost use Rattle.any_check.specs.Table.{any_verdict};
 ghost use Rattle.bcrypt_plain.specs.Check.{has_zero};
@@ -18,6 +19,16 @@ fn has_zero(password: &[u8]) -> bool
     ensures { result ≡ has_zero password.now }
 {
     password.iter().any(|b| *b == 0)
+}
+
+// Whether a password is UTF-8.
+fn is_text(password: &[u8]) -> bool
+    ensures { result ≡ is_utf8 password.now }
+{
+    match text_of(password) {
+        Some(_) => true,
+        None => false,
+    }
 }
 
 // The first cause that no text is made.
@@ -38,7 +49,7 @@ fn make_fault(cost: MakeCost, password: &[u8], salt: &[u8]) -> Option<MakeFault>
     if password.len() > scheme.password_length() {
         return Some(MakeFault::PasswordTooLong);
     }
-    if text_of(password).is_none() {
+    if !is_text(password) {
         return Some(MakeFault::NotUtf8);
     }
     if !scheme.takes_zero() && has_zero(password) {
