@@ -1,12 +1,11 @@
 -- The first line of a source, and what is written for it.
-use Rattle.std.proofs.Common.{◌≡◌, ◌⊎◌, ℕ, ◌+◌, ◌-◌, ◌^◌, ◌<◌, ◌≤◌, true, false, List, [], ◌∷◌, ◌++◌, length, take, drop, refl, sym, ap, ◌∙◌, arith}
+use Rattle.std.proofs.Common.{◌≡◌, ℕ, ◌-◌, ◌^◌, ◌<◌, ◌≤◌, List, [], ◌∷◌, ◌++◌, length, take, drop, refl, sym, ap, ◌∙◌, arith}
 use Rattle.std.proofs.Common.{append-nil, append_assoc, take-append-drop, subst, inl, inr, Some, None, Option}
 use Rattle.std.specs.Io.KnownBytes.{Appends}
 use Rattle.std.proofs.lemmas.Bool.{false≢true}
 use Rattle.std.proofs.lemmas.List.{length-take-le}
 use Rattle.line_io.specs.Buffer as buffer
 use Rattle.line_io.specs.Devices.{WhereTold}
-use Rattle.line_io.specs.Lines.{NoFeed}
 use Rattle.line_io.specs.Runs.{IsCall, IsNew}
 use Rattle.line_io.specs.declared.buffer.Line.{Line}
 use Rattle.line_io.specs.declared.buffer.Line.TheVariants as line
@@ -37,8 +36,7 @@ module _ (held left : List ℕ) (before now : LineBuffer) (new : IsNew (2 ^ 40) 
       let bytes = takes.bytes in
       let answered = rw new.pending_none at takes.answered in
       let length_is = answered.0 in
-      let most = answered.1 in
-      (
+      let most = answered.1 in (
         omega (arith, length_is, most),
         answered.2,
         elim answered.3 [
@@ -80,8 +78,7 @@ module _ (held left : List ℕ) (before now : LineBuffer) (new : IsNew (2 ^ 40) 
       let max_is = new.max_same in
       let over = answered.2 in
       let long : 8192 < k = omega (arith, counted, none, max_same, max_is, over) in
-      let fits : k ≤ length bytes = omega arith in
-      (
+      let fits : k ≤ length bytes = omega arith in (
         take k bytes,
         drop k bytes ++ left,
         takes.consumed ∙ ap (λ (b : List ℕ). b ++ left) (sym (take-append-drop k bytes))

@@ -1,6 +1,6 @@
 -- The keys of Argon2 and PBKDF2 are bytes, 32 of them; scrypt's crate says it of its own.
-use Rattle.std.proofs.Common.{◌≡◌, ℕ, zero, suc, ◌+◌, ◌/◌, ◌^◌, ◌<◌, List, [], ◌∷◌, ◌++◌, length, take, slice_index, ◌∙◌, arith, refl}
-use Rattle.std.specs.Prelude.{bit_xor, replicate}
+use Rattle.std.proofs.Common.{◌≡◌, ℕ, zero, suc, ◌+◌, ◌/◌, ◌^◌, ◌<◌, List, [], ◌∷◌, ◌++◌, length, slice_index, arith}
+use Rattle.std.specs.Prelude.{replicate}
 use Rattle.std.specs.Int.{w32, w64, byte_at, bytes_high_first, bytes_low_first, to_be_bytes, to_le_bytes}
 use Rattle.std.proofs.lemmas.Nat.{xor_of_8}
 use Rattle.sha2.specs.Sha256.{digest_bytes, sha256}
@@ -14,9 +14,6 @@ use Rattle.pbkdf2_plain.specs.Lengths.{length-pbkdf2}
 use Rattle.pbkdf2_plain.specs.Pbkdf2.{output_block, output_blocks, pbkdf2, u}
 use Rattle.scrypt_plain.specs.Bytes.{xor_bytes}
 use Rattle.scrypt_plain.specs.Hmac.{hmac}
-use Rattle.scrypt_plain.specs.Lengths.{length-pbkdf2_once}
-use Rattle.scrypt_plain.specs.Pbkdf2.{pbkdf2_once}
-use Rattle.scrypt_plain.specs.Scrypt.{mixed_parts}
 use Rattle.scrypt_plain.proofs.KeyBytes.{scrypt_bytes}
 use Rattle.yescrypt_plain.specs.declared.params.ScryptParams.{ScryptParams}
 use Rattle.yescrypt_plain.proofs.KeyBytes as of_crypt

@@ -1,13 +1,13 @@
 -- The laws: the text that is made of a password matches it, and which others match it.
-use Rattle.std.proofs.Common.{◌≡◌, ℕ, ◌*◌, ◌^◌, ◌≤◌, Bool, true, false, List, [], ◌∷◌, length, refl, sym, ap, ◌∙◌, subst, arith, inl, inr}
-use Rattle.std.proofs.Common.{Some, None, Ok}
-use Rattle.std.specs.Prelude.{◌&&◌, ◌||◌, ◌⊎◌, ◌==◌, not, nat_le, nat_lt, Option}
+use Rattle.std.proofs.Common.{◌≡◌, ℕ, ◌≤◌, Bool, true, false, List, [], ◌∷◌, length, refl, sym, ap, ◌∙◌, arith, inl, inr}
+use Rattle.std.proofs.Common.{None, Ok}
+use Rattle.std.specs.Prelude.{◌||◌, ◌⊎◌, ◌==◌, not, nat_le, Option}
 use Rattle.std.specs.Str.{is_utf8}
 use Rattle.std.proofs.lemmas.Bool.{and_parts}
 use Rattle.std.proofs.lemmas.Bool.Decides.{nat_tests}
 use Rattle.base64ct.specs.Encoding.{EachBelow}
 use Rattle.bcrypt_plain.specs.Check.{has_zero}
-use Rattle.pieces.specs.Faults.{first_fault, unless}
+use Rattle.pieces.specs.Faults.{unless}
 use Rattle.pieces.proofs.FaultLaws.{first_none, unless_none, value_found}
 use Rattle.sha_crypt.specs.declared.errors.Family.TheVariants.{Sha256, Sha512}
 use Rattle.any_check.specs.Records.{accepted, tag}

@@ -1,8 +1,7 @@
 -- The verdict on a record that is printed.
-use Rattle.std.proofs.Common.{◌≡◌, ℕ, ◌≤◌, Bool, true, List, length, refl, sym, ap, ◌∙◌, arith, Option, Some, None, Ok}
-use Rattle.std.specs.Prelude.{if◌then◌else◌}
+use Rattle.std.proofs.Common.{◌≡◌, ℕ, ◌≤◌, true, List, length, refl, sym, ap, ◌∙◌, Option, Some, None, Ok}
 use Rattle.base64ct.specs.Encoding.{EachBelow}
-use Rattle.base64ct.proofs.DecodingLaws.{decoding-encoding, same_true, true_same}
+use Rattle.base64ct.proofs.DecodingLaws.{decoding-encoding, same_true}
 use Rattle.base64ct.specs.Alphabets.{base64_unpadded}
 use Rattle.std.proofs.lemmas.Option.{same_Some}
 use Rattle.mcf.specs.Grammar.{Parts, fault, first_field_fault, is_identifier, mcf, parts, parts_text}

@@ -1,5 +1,5 @@
 -- The texts of scrypt, Argon2id and PBKDF2 are judged.
-use Rattle.std.proofs.Common.{◌≡◌, ℕ, ◌*◌, ◌^◌, ◌<◌, ◌≤◌, true, List, [], ◌∷◌, ◌++◌, length, refl, sym, ap, ◌∙◌, arith, Some, None}
+use Rattle.std.proofs.Common.{◌≡◌, ℕ, ◌*◌, ◌^◌, ◌<◌, ◌≤◌, true, List, [], ◌∷◌, length, refl, ap, arith, Some}
 use Rattle.std.specs.Prelude.{◌&&◌, codes, nat_le, nat_lt}
 use Rattle.std.specs.Fmt.{decimal, digits}
 use Rattle.std.proofs.lemmas.Bool.{and_parts}
@@ -12,8 +12,7 @@ use Rattle.argon2_plain.specs.Bounds as argon2_bounds
 use Rattle.argon2_plain.specs.Profile as argon2
 use Rattle.phc.specs.Encoded.{encoding}
 use Rattle.phc.specs.Params.{Pairs, pairs_text}
-use Rattle.phc.specs.Record.{IsRecord, record_text}
-use Rattle.phc.specs.declared.password_hash.PasswordHash.{PasswordHash}
+use Rattle.phc.specs.Record.{record_text}
 use Rattle.pbkdf2_plain.specs.Profile as pbkdf2
 use Rattle.pieces.specs.Pieces.{pieces_at}
 use Rattle.scrypt_plain.specs.Bounds as scrypt_bounds
@@ -29,7 +28,7 @@ use Rattle.any_make.specs.declared.scheme.Argon2Cost.{Argon2Cost}
 use Rattle.any_make.specs.declared.scheme.MakeCost.TheVariants as cost
 use Rattle.any_make.proofs.Judged.{IsJudged}
 use Rattle.any_make.proofs.KeyBytes.{argon2_below, argon2_long, pbkdf2_below, pbkdf2_long, scrypt_below, scrypt_long}
-use Rattle.any_make.proofs.RecordTexts.{AreFields, AreParams, IsShortName, has_fields, number_read, regrouped, rounds_params, three, three_params}
+use Rattle.any_make.proofs.RecordTexts.{AreFields, AreParams, has_fields, number_read, regrouped, rounds_params, three, three_params}
 use Rattle.any_make.proofs.RecordVerdicts.{IsPrinted, key_once, on_record}
 
 -- ---- scrypt

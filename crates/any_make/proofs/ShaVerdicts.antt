@@ -1,8 +1,7 @@
 -- The texts of SHA-crypt are judged.
-use Rattle.std.proofs.Common.{◌≡◌, ℕ, ◌≤◌, Bool, true, false, List, [], ◌∷◌, ◌++◌, length, refl, ap, ◌∙◌, arith, Ok}
+use Rattle.std.proofs.Common.{◌≡◌, ℕ, ◌≤◌, Bool, true, List, [], ◌∷◌, ◌++◌, length, refl, ap, ◌∙◌, arith, Ok}
 use Rattle.std.specs.Prelude.{not, ◌==◌, Some, None}
 use Rattle.std.specs.List.{list_all}
-use Rattle.std.proofs.lemmas.Bool.Decides.{nat_tests}
 use Rattle.base64ct.specs.Encoding.{EachBelow}
 use Rattle.base64ct.proofs.DecodingLaws.{same_true, true_same}
 use Rattle.mcf.specs.Grammar.{Parts, field_fault, first_field_fault, is_field_byte, is_identifier, mcf}

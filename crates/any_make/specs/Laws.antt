@@ -1,5 +1,5 @@
 -- Laws over the definitions.
-use Rattle.std.specs.Prelude.{◌≡◌, ◌↔◌, ◌⊎◌, ◌≤◌, ℕ, Bool, true, false, List, Ok, length, is_ok}
+use Rattle.std.specs.Prelude.{◌≡◌, ◌↔◌, ◌⊎◌, ◌≤◌, ℕ, Bool, true, false, List, Ok, length}
 use Rattle.base64ct.specs.Encoding.{EachBelow}
 use Rattle.bcrypt_plain.specs.Check.{has_zero}
 use Rattle.stored_check.specs.Limits.{password_max}

@@ -8,7 +8,7 @@ use Rattle.line_io.specs.Runs.{IsPrefix}
 use Rattle.any_make.specs.Made.{IsMakeFault, made}
 use Rattle.any_make.specs.declared.error.MakeFault.{MakeFault}
 use Rattle.any_make.specs.declared.line.MakeEnd.{MakeEnd}
-use Rattle.any_make.specs.declared.line.MakeEnd.TheVariants.{LongLine, Made, NoLine, ReadFault, Refused, WriteFault}
+use Rattle.any_make.specs.declared.line.MakeEnd.TheVariants.{LongLine, Made, NoLine, Refused, WriteFault}
 use Rattle.any_make.specs.declared.scheme.MakeCost.{MakeCost}
 
 -- some bytes begin with a line and its line feed; or they are one nonempty line without a line feed

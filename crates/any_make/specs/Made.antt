@@ -1,6 +1,6 @@
 -- The text of a password, a cost and a salt; and the text that is made, or why none is.
-use Rattle.std.specs.Prelude.{◌≡◌, ◌⊎◌, ◌<◌, ◌≤◌, ℕ, ◌==◌, ◌||◌, not, Bool, true, List, [], ◌∷◌, length, nat_le, take, drop}
-use Rattle.std.specs.Prelude.{Option, Result, Ok, Err, IfOk, is_ok}
+use Rattle.std.specs.Prelude.{◌≡◌, ◌⊎◌, ◌<◌, ◌≤◌, ℕ, ◌==◌, ◌||◌, not, true, List, [], ◌∷◌, length, nat_le, take, drop}
+use Rattle.std.specs.Prelude.{Option, Result, Ok, Err, is_ok}
 use Rattle.std.specs.Str.{is_utf8}
 use Rattle.base64ct.specs.Alphabets.{base64_sha_crypt}
 use Rattle.base64ct.specs.Encoding.{encoding}

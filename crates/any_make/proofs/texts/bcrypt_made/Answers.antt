@@ -1,4 +1,4 @@
-use Rattle.std.proofs.Common.{◌≡◌, List, ℕ, sym, ap, ◌∙◌}
+use Rattle.std.proofs.Common.{List, ℕ, sym, ap, ◌∙◌}
 use Rattle.bcrypt_plain.specs.Made as bcrypt
 use Rattle.any_make.proofs.Makers.{bcrypt_is, bcrypt_never}
 use Rattle.any_make.proofs.texts.bcrypt_made.Goals as goal
