@@ -2,10 +2,11 @@
 //! SHA-crypt, bcrypt and yescrypt, passlib for scrypt, the program argon2, and Python's hashlib for the keys of PBKDF2.
 
 use crate::{
-    Argon2Cost, MakeCost, MakeFault, MakeScheme, NameFault, TEXT_MAX, made_text, make_text,
-    scheme_name, scheme_named,
+    Argon2Cost, MakeCost, MakeEnd, MakeFault, MakeScheme, NameFault, TEXT_MAX, made_text,
+    make_text, run_make, scheme_name, scheme_named,
 };
 use any_check::{check_any, record_kdf};
+use line_io::{MemorySink, MemorySource};
 use sha_crypt::Family;
 use yescrypt_plain::{CryptKept, ScryptParams, YescryptParams};
 
@@ -439,5 +440,72 @@ fn schemes(rt: HostRuntime) {
         "sha256",
     ] {
         assert_eq!(rt; scheme_named(name), Err(NameFault::Unknown), "{name}");
+    }
+}
+
+// The texts of `secret` and of no bytes, by libxcrypt, as in the table.
+const SECRET: &[u8] = b"$2b$04$..CA.uOD/eaGAOmJB.yMBu4AbFLftUBUHQbseIwAiOGKsNRgByuEG\n";
+
+const NONE: &[u8] = b"$2b$04$......................w74bL5gU7LSJClZClCa.Pkz14aTv/XO\n";
+
+const FIRST_SALT: &[u8] = b"\x00\x01\x02\x03\x04\x05\x06\x07\x08\x09\x0a\x0b\x0c\x0d\x0e\x0f";
+
+#[test]
+fn first_lines(rt: HostRuntime) {
+    let rows: [(&[u8], &[u8], MakeEnd, &[u8]); 8] = [
+        (b"secret\nother\n", FIRST_SALT, MakeEnd::Made, SECRET),
+        (b"secret", FIRST_SALT, MakeEnd::Made, SECRET),
+        (b"\n", &[0; 16], MakeEnd::Made, NONE),
+        (b"", FIRST_SALT, MakeEnd::NoLine, b""),
+        (
+            b"\xff\n",
+            FIRST_SALT,
+            MakeEnd::Refused(MakeFault::NotUtf8),
+            b"",
+        ),
+        (
+            b"a\0\nb\n",
+            FIRST_SALT,
+            MakeEnd::Refused(MakeFault::ZeroByte),
+            b"",
+        ),
+        (
+            b"secret\n",
+            SHA_SALT,
+            MakeEnd::Refused(MakeFault::Salt),
+            b"",
+        ),
+        (&[b'a'; 8_193], FIRST_SALT, MakeEnd::LongLine, b""),
+    ];
+    for (input, salt, end, output) in rows {
+        for chunk in [1, 5, 10_000] {
+            let mut room = [0; 100];
+            let mut source = MemorySource::new(input, chunk, &[]);
+            let mut sink = MemorySink::new(&mut room, chunk, &[]);
+            let cost = MakeCost::Bcrypt(4);
+            let got = run_make(rt.alloc(), cost, salt, &mut source, &mut sink);
+            assert_eq!(rt; got, end);
+            assert_eq!(rt; sink.bytes(), output);
+        }
+    }
+}
+
+#[test]
+fn failing_devices(rt: HostRuntime) {
+    let cost = MakeCost::Bcrypt(4);
+    let mut room = [0; 100];
+    let mut source = MemorySource::new(b"secret\n", 3, &[1]);
+    let mut sink = MemorySink::new(&mut room, 100, &[]);
+    let got = run_make(rt.alloc(), cost, FIRST_SALT, &mut source, &mut sink);
+    assert_eq!(rt; got, MakeEnd::ReadFault);
+    assert_eq!(rt; sink.bytes(), b"".as_slice());
+    for (failing, output) in [(0u64, b"".as_slice()), (1, &SECRET[..7])] {
+        let mut room = [0; 100];
+        let failing = [failing];
+        let mut source = MemorySource::new(b"secret\n", 3, &[]);
+        let mut sink = MemorySink::new(&mut room, 7, &failing);
+        let got = run_make(rt.alloc(), cost, FIRST_SALT, &mut source, &mut sink);
+        assert_eq!(rt; got, MakeEnd::WriteFault);
+        assert_eq!(rt; sink.bytes(), output);
     }
 }

@@ -2,7 +2,7 @@
 use Rattle.std.specs.Prelude.{ℕ}
 use Rattle.any_make.specs.declared.error.MakeFault.TheVariants.{OutOfMemory}
 use Rattle.any_make.specs.declared.line.MakeEnd.{MakeEnd}
-use Rattle.any_make.specs.declared.line.MakeEnd.TheVariants.{LongLine, Made, NoLine, ReadFault, Refused, WriteFault}
+use Rattle.any_make.specs.declared.line.MakeEnd.TheVariants.{Made, ReadFault, Refused, WriteFault}
 
 -- 0 the text is written; 1 none is made of the line; 3 a read failed; 4 a write failed; 5 memory is wanting
 abbrev pub end_status : MakeEnd → ℕ

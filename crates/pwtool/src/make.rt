@@ -83,11 +83,15 @@ fn scheme_of(rt: &HostRuntime, name: &str) -> Option<MakeScheme> {
     match scheme_named(name) {
         Ok(scheme) => Some(scheme),
         Err(NameFault::Weak) => {
-            let _ = eprintln!(rt; "pwtool: {name}: no text of it is made, as 1,000 rounds of MD5 are too weak");
+            let _ = eprintln!(rt;
+                "pwtool: {name}: no text of it is made, as 1,000 rounds of MD5 are too weak"
+            );
             None
         }
         Err(NameFault::Unknown) => {
-            let _ = eprintln!(rt; "pwtool: {name}: no scheme of which texts are made: 'pwtool make --help' has them");
+            let _ = eprintln!(rt;
+                "pwtool: {name}: no scheme of which texts are made: 'pwtool make --help' has them"
+            );
             None
         }
     }
@@ -154,10 +158,7 @@ fn make(rt: &HostRuntime, cost: MakeCost) -> u8 {
     }
     let mut source = StdSource::new(rt.reader());
     let mut sink = StdSink::new(io::writer(rt));
-    told(
-        rt,
-        run_make(rt.alloc(), cost, salt, &mut source, &mut sink),
-    )
+    told(rt, run_make(rt.alloc(), cost, salt, &mut source, &mut sink))
 }
 
 /// Makes the text of the password on standard input, and gives the status.
@@ -172,12 +173,16 @@ pub fn run_make_form(rt: &HostRuntime, matches: &ArgMatches<'_>) -> u8 {
     }
     let cost = cost_of(matches, scheme.recommended());
     if !cost.is_taken() {
-        let _ = eprintln!(rt; "pwtool: {name}: it doesn't take the cost: 'pwtool make --help' has the ranges");
+        let _ = eprintln!(rt;
+            "pwtool: {name}: it doesn't take the cost: 'pwtool make --help' has the ranges"
+        );
         return BAD_WORDS;
     }
     if rt.stdin().is_terminal() && !matches.get_flag("echo") {
-        let _ = eprintln!(rt; "pwtool: the terminal would show the password: \
-            'stty -echo; head -n 1 | pwtool make {name}; stty echo', or --echo");
+        let _ = eprintln!(rt;
+            "pwtool: the terminal would show the password: \
+            'stty -echo; head -n 1 | pwtool make {name}; stty echo', or --echo"
+        );
         return BAD_WORDS;
     }
     make(rt, cost)

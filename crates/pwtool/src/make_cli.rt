@@ -33,22 +33,46 @@ W is the number of characters of a line, 4 to 65536, without a sign or a zero in
 is taken, however long the input is. Status 7: the input of unwrap is no such text, and what
 stands before its fault is written; pwtool --help has the rest.";
 
-// The names of the numbers that a text may cost, and what they are.
-fn costs() -> [(&'static str, &'static str); 9] {
+// A number that a text may cost: its option, and its help.
+#[derive(Drop)]
+struct CostNumber {
+    name: &'static str,
+    help: &'static str,
+}
+
+fn number(name: &'static str, help: &'static str) -> CostNumber {
+    CostNumber { name, help }
+}
+
+// The numbers that texts may cost.
+fn numbers() -> [CostNumber; 9] {
     [
-        (
+        number(
             "rounds",
             "sha256-crypt, sha512-crypt: 1000 to 999999999; pbkdf2-sha256: 1 to 10000000",
         ),
-        ("cost", "bcrypt: 4 to 31"),
-        ("ln", "scrypt: log2 of N, 1 to 20; yescrypt: 2 to 23"),
-        ("r", "scrypt, yescrypt: the block has 128 times so many bytes"),
-        ("p", "scrypt: the parts, 1 to 1024"),
-        ("t", "yescrypt: the time, 0 to 1024"),
-        ("memory", "argon2id: KiB, 8 to 2097152"),
-        ("passes", "argon2id: the passes over the memory"),
-        ("lanes", "argon2id: the lanes"),
+        number("cost", "bcrypt: 4 to 31"),
+        number("ln", "scrypt: log2 of N, 1 to 20; yescrypt: 2 to 23"),
+        number(
+            "r",
+            "scrypt, yescrypt: the block has 128 times so many bytes",
+        ),
+        number("p", "scrypt: the parts, 1 to 1024"),
+        number("t", "yescrypt: the time, 0 to 1024"),
+        number("memory", "argon2id: KiB, 8 to 2097152"),
+        number("passes", "argon2id: the passes over the memory"),
+        number("lanes", "argon2id: the lanes"),
     ]
+}
+
+// The argument of a number.
+fn argument<'a>(alloc: Global, number: &CostNumber) -> Arg<'a> {
+    Arg::new(alloc, number.name)
+        .long(number.name)
+        .value_name("N")
+        .value_parser(value_parser!(u32).range(0..=4_294_967_295))
+        .help_heading("What the text costs (left out: today's recommendation)")
+        .help(number.help)
 }
 
 /// The form `make`.
@@ -65,14 +89,8 @@ pub fn make<'a>(alloc: Global) -> Result<Command<'a>, AllocError> {
         .after_help(SCHEMES)
         .arg(scheme)?
         .arg(echo)?;
-    for (name, help) in costs() {
-        let number = Arg::new(alloc, name)
-            .long(name)
-            .value_name("N")
-            .value_parser(value_parser!(u32).range(0..=4_294_967_295))
-            .help_heading("What the text costs")
-            .help(help);
-        command = command.arg(number)?;
+    for number in &numbers() {
+        command = command.arg(argument(alloc, number))?;
     }
     Ok(command)
 }
