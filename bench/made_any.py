@@ -14,7 +14,6 @@ and Debian's argon2, python3-passlib and python3-bcrypt. It installs nothing.
 
 usage: /usr/bin/python3 bench/made_any.py [TEXTS] [SEED]      (100 and 1 if left out)
 """
-import base64
 import ctypes
 import hashlib
 import os
@@ -26,10 +25,13 @@ import warnings
 
 from libxcrypt import crypt_r
 
+HERE = os.path.dirname(os.path.abspath(__file__))
+# This folder has scripts of the names base64, argon2 and bcrypt, which passlib would take for the modules.
+sys.path = [folder for folder in sys.path if os.path.abspath(folder) != HERE]
 warnings.simplefilter("ignore")
+import base64  # noqa: E402
 from passlib import hash as passlib_hash  # noqa: E402
 
-HERE = os.path.dirname(os.path.abspath(__file__))
 
 
 def program(name):
