@@ -5,7 +5,7 @@
 #     examples/recipes.sh      (the programs are those on PATH, else crates/*/out/*)
 set -u
 top=$(cd "$(dirname "$0")/.." && pwd)
-PATH=$PATH:$top/crates/pwcheck/out:$top/crates/pwfile/out:$top/crates/pwlegacy/out:$top/crates/pwkdf/out:/usr/sbin:/sbin
+PATH=$PATH:$top/crates/pwcheck/out:$top/crates/pwtool/out:$top/crates/pwfile/out:$top/crates/pwlegacy/out:$top/crates/pwkdf/out:/usr/sbin:/sbin
 folder=$(mktemp -d)
 trap 'rm -rf "$folder"' EXIT
 cd "$folder" || exit 2
@@ -119,6 +119,14 @@ if has htpasswd; then
   same 'htpasswd' match "$(printf '%s\t%s\n' 'secret' "$(htpasswd -nb ann secret | sed -n 's/^ann://p')" | pwlegacy)"
 else
   skipped htpasswd htpasswd
+fi
+
+# ---- the text of a new password
+if has pwtool; then
+  printf '%s\n' 'correct horse' | pwtool make bcrypt --cost 10 > text
+  same 'new password' match "$(printf '%s\t%s\n' 'correct horse' "$(cat text)" | pwtool check --quiet)"
+else
+  skipped 'new password' pwtool
 fi
 
 # ---- other tools' texts

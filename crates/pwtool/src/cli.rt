@@ -1,5 +1,6 @@
 //! The command line.
 
+use crate::make_cli::{make, normalize, unwrap, wrap};
 use clap::{Arg, ArgAction, Command, value_parser};
 use std::alloc::{AllocError, Global};
 
@@ -241,5 +242,9 @@ pub fn command<'a>(alloc: Global) -> Result<Command<'a>, AllocError> {
         .after_help(STATUSES)
         .subcommand(check(alloc)?)?
         .subcommand(join(alloc)?)?
-        .subcommand(survey(alloc)?)
+        .subcommand(survey(alloc)?)?
+        .subcommand(make(alloc)?)?
+        .subcommand(normalize(alloc)?)?
+        .subcommand(wrap(alloc)?)?
+        .subcommand(unwrap(alloc)?)
 }

@@ -2,6 +2,8 @@
 //! where every scheme of `any_check` has a verdict; with `--users` each line begins with a user, who is kept.
 //! `pwtool join TEXTS PASSWORDS`: answers each user of a shadow or htpasswd file by the user's password in another file.
 //! `pwtool survey [FILE]`: tells the scheme and the cost of each user's stored text, and whether it is weak.
+//! `pwtool make SCHEME`: writes the text of a new password, with a salt from the system.
+//! `pwtool normalize`, `wrap` and `unwrap`: what `pwcheck` and `wrapstream` do under these names.
 //!
 //! A file is standard input where it is `-`, and each answer goes to standard output with a line feed. Errors are one line on
 //! standard error, where the progress of a run and how many answers there were are told, too. The status says how the run
@@ -14,9 +16,13 @@ mod cli;
 mod fault;
 mod form;
 mod join;
+mod make;
+mod make_cli;
+mod normalizer;
 mod pair;
 mod progress;
 mod reports;
+mod small_forms;
 mod status;
 mod survey;
 mod tally;
@@ -26,13 +32,16 @@ mod tests;
 use crate::cli::command;
 use crate::fault::{say, say_refused};
 use crate::form::{run_check, run_survey};
+use crate::make::run_make_form;
 use crate::pair::run_join;
+use crate::small_forms::{run_normalize, run_stream_form};
 use crate::status::BAD_WORDS;
 pub use check::{check_lines, check_users};
 use clap::ArgMatches;
 use clap::error::ErrorKind;
 pub use join::{join_fewer, join_files, tell_no_text};
 use line_program::status::{ALL_GOOD, NO_MEMORY, NO_WORDS, WRITE_FAULT};
+pub use normalizer::normalize_lines;
 use std::process::ExitCode;
 use std::{env, io};
 pub use survey::survey_lines;
@@ -65,6 +74,10 @@ fn run_form(rt: &HostRuntime, matches: &ArgMatches<'_>) -> u8 {
     match matches.subcommand() {
         Some(("join", matches)) => run_join(rt, matches),
         Some(("survey", matches)) => run_survey(rt, matches),
+        Some(("make", matches)) => run_make_form(rt, matches),
+        Some(("normalize", matches)) => run_normalize(rt, matches),
+        Some(("wrap", matches)) => run_stream_form(rt, "wrap", matches),
+        Some(("unwrap", matches)) => run_stream_form(rt, "unwrap", matches),
         Some((_, matches)) => run_check(rt, matches),
         None => {
             say(rt, "no form is named");

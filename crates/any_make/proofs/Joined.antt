@@ -1,0 +1,85 @@
+-- What is pushed, one after another, is the text of a record.
+use Rattle.std.proofs.Common.{◌≡◌, ◌⊎◌, ℕ, ◌<◌, ◌≤◌, List, ◌++◌, length, refl, ap, ◌∙◌, arith, append_assoc, inl, inr}
+use Rattle.std.specs.Prelude.{codes}
+use Rattle.std.specs.Fmt.{decimal, digits}
+use Rattle.base64ct.specs.Encoding.{EachBelow, longest_input}
+use Rattle.phc.specs.Encoded.{encoding}
+use Rattle.phc.specs.Record.{record_text}
+use Rattle.phc.proofs.EncodedBytes.{encoded_length}
+use Rattle.yescrypt_plain.specs.declared.params.ScryptParams.{ScryptParams}
+use Rattle.any_make.specs.Records.{argon2_key, argon2_record, pbkdf2_key, pbkdf2_record, scrypt_key, scrypt_record}
+use Rattle.any_make.specs.declared.scheme.Argon2Cost.{Argon2Cost}
+
+-- ---- there is room for the encoding of few bytes
+
+pub never_refused : (bytes : List ℕ) (n : ℕ) → EachBelow 256 bytes → length bytes ≤ 32 → 43 ≤ n
+    → ((longest_input < length bytes) ⊎ (n < length (encoding bytes))) → ⊥
+never_refused bytes n small few room (inl long) = omega (arith, long, few)
+never_refused bytes n small few room (inr short) = omega (arith, encoded_length bytes small, short, few, room)
+
+-- ---- the pieces in one group, and as a record groups them
+
+-- three numbers, the first behind `f`, the others behind `x` and `y`
+three_numbers : (f a x b y c d s k : List ℕ) → f ++ a ++ x ++ b ++ y ++ c ++ d ++ s ++ d ++ k
+    ≡ f ++ (((a ++ (x ++ (b ++ (y ++ c)))) ++ (d ++ s)) ++ (d ++ k))
+three_numbers f a x b y c d s k = simp append_assoc refl
+
+-- one number behind `f`, and `x` behind it
+one_number : (f a x d s k : List ℕ) → f ++ a ++ x ++ d ++ s ++ d ++ k
+    ≡ f ++ (((a ++ x) ++ (d ++ s)) ++ (d ++ k))
+one_number f a x d s k = simp append_assoc refl
+
+-- a text with a salt and a key behind its front
+abbrev with_fields : List ℕ → List ℕ → List ℕ → List ℕ
+with_fields front salt key = front ++ codes "$" ++ encoding salt ++ codes "$" ++ encoding key
+
+-- ---- scrypt
+
+scrypt_joined : (c : ScryptParams) (salt key : List ℕ)
+    → with_fields (codes "$scrypt$ln=" ++ decimal c.ln ++ codes ",r=" ++ decimal c.r ++ codes ",p=" ++ decimal c.p) salt key
+    ≡ record_text (scrypt_record c salt key)
+unfolding record_text
+scrypt_joined c salt key =
+    three_numbers (codes "$scrypt$ln=") (decimal c.ln) (codes ",r=") (decimal c.r) (codes ",p=") (decimal c.p) (codes "$")
+    (encoding salt) (encoding key)
+
+pub scrypt_is : (c : ScryptParams) (password salt key front text : List ℕ) → key ≡ scrypt_key c password salt
+    → front ≡ codes "$scrypt$ln=" ++ decimal c.ln ++ codes ",r=" ++ decimal c.r ++ codes ",p=" ++ decimal c.p
+    → text ≡ with_fields front salt key → text ≡ record_text (scrypt_record c salt (scrypt_key c password salt))
+scrypt_is c password salt key front text key_is front_is is =
+    is ∙ ap (λ (f : List ℕ). with_fields f salt key) front_is ∙ scrypt_joined c salt key
+    ∙ ap (λ (k : List ℕ). record_text (scrypt_record c salt k)) key_is
+
+-- ---- Argon2id
+
+argon2_joined : (c : Argon2Cost) (salt key : List ℕ)
+    → with_fields (codes "$argon2id$v=19$m=" ++ decimal c.memory ++ codes ",t=" ++ decimal c.passes ++ codes ",p="
+    ++ decimal c.lanes) salt key
+    ≡ record_text (argon2_record c salt key)
+unfolding record_text digits
+argon2_joined c salt key =
+    three_numbers (codes "$argon2id$v=19$m=") (decimal c.memory) (codes ",t=") (decimal c.passes) (codes ",p=") (decimal c.lanes)
+    (codes "$") (encoding salt) (encoding key)
+
+pub argon2_is : (c : Argon2Cost) (password salt key front text : List ℕ) → key ≡ argon2_key c password salt
+    → front ≡ codes "$argon2id$v=19$m=" ++ decimal c.memory ++ codes ",t=" ++ decimal c.passes ++ codes ",p=" ++ decimal c.lanes
+    → text ≡ with_fields front salt key → text ≡ record_text (argon2_record c salt (argon2_key c password salt))
+argon2_is c password salt key front text key_is front_is is =
+    is ∙ ap (λ (f : List ℕ). with_fields f salt key) front_is ∙ argon2_joined c salt key
+    ∙ ap (λ (k : List ℕ). record_text (argon2_record c salt k)) key_is
+
+-- ---- PBKDF2
+
+pbkdf2_joined : (rounds : ℕ) (salt key : List ℕ)
+    → with_fields (codes "$pbkdf2-sha256$i=" ++ decimal rounds ++ codes ",l=32") salt key
+    ≡ record_text (pbkdf2_record rounds salt key)
+unfolding record_text
+pbkdf2_joined rounds salt key =
+    one_number (codes "$pbkdf2-sha256$i=") (decimal rounds) (codes ",l=32") (codes "$") (encoding salt) (encoding key)
+
+pub pbkdf2_is : (rounds : ℕ) (password salt key front text : List ℕ) → key ≡ pbkdf2_key rounds password salt
+    → front ≡ codes "$pbkdf2-sha256$i=" ++ decimal rounds ++ codes ",l=32"
+    → text ≡ with_fields front salt key → text ≡ record_text (pbkdf2_record rounds salt (pbkdf2_key rounds password salt))
+pbkdf2_is rounds password salt key front text key_is front_is is =
+    is ∙ ap (λ (f : List ℕ). with_fields f salt key) front_is ∙ pbkdf2_joined rounds salt key
+    ∙ ap (λ (k : List ℕ). record_text (pbkdf2_record rounds salt k)) key_is

@@ -1,0 +1,12 @@
+pub mod Judged
+pub mod KeyBytes
+pub mod Joined
+pub mod RecordTexts
+pub mod RecordVerdicts
+pub mod RecordsJudged
+pub mod ShaVerdicts
+pub mod BcryptVerdicts
+pub mod YescryptVerdicts
+pub mod Matches
+pub mod FirstLine
+pub mod Makers

@@ -1,0 +1,49 @@
+-- What a run that makes the text of one line did.
+use Rattle.std.specs.Prelude.{◌≡◌, ◌⊎◌, ◌<◌, ◌≤◌, ℕ, List, [], ◌∷◌, ◌++◌, length, Ok, Option}
+use Rattle.std.specs.Io.KnownBytes.{Appends}
+use Rattle.line_io.specs.Devices.{AppendsPrefix}
+use Rattle.line_io.specs.Limits.{line_max}
+use Rattle.line_io.specs.Lines.{NoFeed}
+use Rattle.line_io.specs.Runs.{IsPrefix}
+use Rattle.any_make.specs.Made.{IsMakeFault, made}
+use Rattle.any_make.specs.declared.error.MakeFault.{MakeFault}
+use Rattle.any_make.specs.declared.line.MakeEnd.{MakeEnd}
+use Rattle.any_make.specs.declared.line.MakeEnd.TheVariants.{LongLine, Made, NoLine, Refused, WriteFault}
+use Rattle.any_make.specs.declared.scheme.MakeCost.{MakeCost}
+
+-- some bytes begin with a line and its line feed; or they are one nonempty line without a line feed
+abbrev pub IsFirstLine : List ℕ → List ℕ → Type 0
+IsFirstLine held line =
+    (length line ≤ line_max) × NoFeed line
+    × (((rest : List ℕ) × (held ≡ line ++ 10 ∷ rest)) ⊎ ((held ≡ line) × (0 < length line)))
+
+-- some bytes begin with more than a line may have and no line feed among them
+abbrev pub HasLongLine : List ℕ → Type 0
+HasLongLine held =
+    (front : List ℕ) × (rest : List ℕ) × (held ≡ front ++ rest) × NoFeed front × (line_max < length front)
+
+-- The table of outcomes. The source held `held`; `added` was added to the sink.
+pub record MakeOutcome (c : MakeCost) (salt : List ℕ) (end : MakeEnd) (held added : List ℕ) : Type 0 where
+  -- the text of the first line, and a line feed
+  pub done : end ≡ Made
+      → (line : List ℕ) × (text : List ℕ) × IsFirstLine held line × (made c line salt ≡ Ok text) × (added ≡ text ++ 10 ∷ [])
+  -- the first line is no password of which a text is made, or memory was wanting
+  pub refused : (e : MakeFault) → end ≡ Refused e
+      → (line : List ℕ) × IsFirstLine held line × IsMakeFault c (made c line salt) e
+  -- there is no line, or it is too long
+  pub no_line : end ≡ NoLine → held ≡ []
+  pub long_line : end ≡ LongLine → HasLongLine held
+  -- a write failed: what was written is the beginning of the text and the line feed
+  pub write_fault : end ≡ WriteFault
+      → (line : List ℕ) × (text : List ℕ) × IsFirstLine held line × (made c line salt ≡ Ok text)
+      × IsPrefix added (text ++ 10 ∷ [])
+  -- otherwise nothing is written
+  pub nothing : (end ≡ Made) ⊎ (end ≡ WriteFault) ⊎ (added ≡ [])
+
+-- what the call that makes a text of a line and writes it did to the bytes that a sink took
+abbrev pub WritesText : MakeCost → List ℕ → List ℕ → Option (List ℕ) → Option (List ℕ) → MakeEnd → Type 0
+WritesText c line salt old new Made = (text : List ℕ) × (made c line salt ≡ Ok text) × Appends old new (text ++ 10 ∷ [])
+WritesText c line salt old new WriteFault =
+    (text : List ℕ) × (made c line salt ≡ Ok text) × AppendsPrefix old new (text ++ 10 ∷ [])
+WritesText c line salt old new (Refused e) = IsMakeFault c (made c line salt) e × Appends old new []
+WritesText c line salt old new end = ⊥

@@ -1,0 +1,88 @@
+//! The text of the first line of a source.
+
+ghost use Rattle.std.specs.Prelude.{◌≡◌, ◌++◌, ◌∷◌, []};
+ghost use Rattle.line_io.specs.Devices.{WhereTold};
+ghost use Rattle.pieces.specs.FaultCounts.{HasRisen};
+ghost use Rattle.any_make.specs.Line.{MakeOutcome, WritesText};
+
+use crate::{MakeCost, MakeFault, TEXT_MAX, made_text};
+use line_io::{Failed, INPUT_MAX, Line, LineBuffer, Sink, Source, write_all};
+use pieces::short_bytes::ShortBytes;
+use std::alloc::Global;
+
+/// How a run of [`run_make`] ended.
+#[derive(Clone, Copy, Debug, PartialEq, Eq)]
+pub enum MakeEnd {
+    /// The text and a line feed are written.
+    Made,
+    /// No text is made of the first line.
+    Refused(MakeFault),
+    /// The source is empty.
+    NoLine,
+    /// The first line has more than 8,192 bytes.
+    LongLine,
+    /// A read failed.
+    ReadFault,
+    /// A write failed.
+    WriteFault,
+}
+
+// Room for a text and a line feed.
+const LINE_ROOM: usize = 155;
+
+// A text with a line feed behind it.
+fn with_feed(text: &ShortBytes<TEXT_MAX>) -> ShortBytes<LINE_ROOM>
+    ensures { result ≡ text.now ++ 10 ∷ [] }
+{
+    let mut line = ShortBytes::from_slice(text.as_slice());
+    line.push_all(b"\n");
+    line
+}
+
+// Writes the text of a password and a line feed.
+fn write_text<K: Sink>(
+    alloc: Global,
+    cost: MakeCost,
+    password: &[u8],
+    salt: &[u8],
+    sink: &mut K,
+) -> MakeEnd
+    ensures write_fault { result ≡ MakeEnd.WriteFault → HasRisen (K.faults sink.old) (K.faults sink.new) }
+    ensures written { WritesText cost password.now salt.now (K.written sink.old) (K.written sink.new) result }
+{
+    match made_text(alloc, cost, password, salt) {
+        Ok(text) => match write_all(sink, with_feed(&text).as_slice()) {
+            Ok(()) => MakeEnd::Made,
+            Err(Failed) => MakeEnd::WriteFault,
+        },
+        Err(fault) => MakeEnd::Refused(fault),
+    }
+}
+
+/// Reads the first line of a source, a password, and writes its text for a cost and a salt, and a line feed.
+///
+/// The line ends with a line feed, which is no part of it, or with the source; no other line is read, though bytes behind the
+/// first may be taken from the source. The salt has [`MakeScheme::salt_length`](crate::MakeScheme::salt_length) bytes. Nothing
+/// is written before the text is made.
+pub fn run_make<S: Source, K: Sink>(
+    alloc: Global,
+    cost: MakeCost,
+    salt: &[u8],
+    source: &mut S,
+    sink: &mut K,
+) -> MakeEnd
+    ensures read_fault { result ≡ MakeEnd.ReadFault → HasRisen (S.faults source.old) (S.faults source.new) }
+    ensures write_fault { result ≡ MakeEnd.WriteFault → HasRisen (K.faults sink.old) (K.faults sink.new) }
+    ensures outcome { WhereTold (S.left source.old) (S.left source.new) (K.written sink.old) (K.written sink.new)
+        (λ held taken added. MakeOutcome cost salt.now result held added) }
+{
+    let mut lines = LineBuffer::new(INPUT_MAX);
+    match lines.next_line(source) {
+        Line::Whole(_) => write_text(alloc, cost, lines.line(), salt, sink),
+        Line::TooLong => MakeEnd::LongLine,
+        // More bytes than may be read, and no line feed among them.
+        Line::Budget => MakeEnd::LongLine,
+        Line::End => MakeEnd::NoLine,
+        Line::Failed => MakeEnd::ReadFault,
+    }
+}

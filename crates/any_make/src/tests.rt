@@ -1,0 +1,511 @@
+//! Texts that outside programs made of the same passwords, costs and salts: libxcrypt's crypt_gensalt(3) and crypt(3) for
+//! SHA-crypt, bcrypt and yescrypt, passlib for scrypt, the program argon2, and Python's hashlib for the keys of PBKDF2.
+
+use crate::{
+    Argon2Cost, MakeCost, MakeEnd, MakeFault, MakeScheme, NameFault, TEXT_MAX, made_text,
+    make_text, run_make, scheme_name, scheme_named,
+};
+use any_check::{check_any, record_kdf};
+use line_io::{MemorySink, MemorySource};
+use sha_crypt::Family;
+use yescrypt_plain::{CryptKept, ScryptParams, YescryptParams};
+
+#[derive(Clone, Copy)]
+struct Row {
+    cost: MakeCost,
+    password: &'static str,
+    salt: &'static [u8],
+    text: &'static str,
+}
+
+const ROWS: [Row; 24] = [
+    Row {
+        cost: MakeCost::ShaCrypt(Family::Sha256, 5_000),
+        password: "secret",
+        salt: b"\x00\x01\x02\x03\x04\x05\x06\x07\x08\x09\x0a\x0b",
+        text: "$5$.2U.1EE/4Q.07ck0$CzGJZOHQDllUMYGxhIcFqR.3b3ZjuC1RO5x8IBkm0D1",
+    },
+    Row {
+        cost: MakeCost::ShaCrypt(Family::Sha256, 1_000),
+        password: "",
+        salt: b"\xff\xff\xff\xff\xff\xff\xff\xff\xff\xff\xff\xff",
+        text: "$5$rounds=1000$zzzzzzzzzzzzzzzz$LGJ7cJqqZqeiezBtFiv8ktVq2AvcjtBX6JWbCY7YEN0",
+    },
+    Row {
+        cost: MakeCost::ShaCrypt(Family::Sha256, 1_234),
+        password: "pässwörd",
+        salt: b"\x9c?\xe5\x01z\xb2\xd4Hn\x0d\xc1\xf7",
+        text: "$5$rounds=1234$QyHt/cbgIXYPB2wx$xW2pTNrvl0jiw.bNHRFRCQ1haOdAYYL7r1ByR5aPcO9",
+    },
+    Row {
+        cost: MakeCost::ShaCrypt(Family::Sha512, 5_000),
+        password: "secret",
+        salt: b"\x00\x01\x02\x03\x04\x05\x06\x07\x08\x09\x0a\x0b",
+        text: "$6$.2U.1EE/4Q.07ck0$dnt4PYxhQKl1.ZSlUrD811SO.MbvewHk0dYpjnYNusSgbAY0qwCBWwwHWS.S1.WR3.k5rAkMH7NkRVmM2LKWg0",
+    },
+    Row {
+        cost: MakeCost::ShaCrypt(Family::Sha512, 1_000),
+        password: "correct horse battery staple",
+        salt: b"\x00\x00\x00\x00\x00\x00\x00\x00\x00\x00\x00\x00",
+        text: "$6$rounds=1000$................$br.jvj/pWuuKaWbZQX34VVav/T8yLfNxC8yCBrEdoOpMm8Dsq.leA8QDAVNX0knN6vzNFZvzRYYWB285MI5Ol0",
+    },
+    Row {
+        cost: MakeCost::ShaCrypt(Family::Sha512, 10_000),
+        password: "correct horse battery staple correct horse battery staple correct horse battery staple ",
+        salt: b"\x9c?\xe5\x01z\xb2\xd4Hn\x0d\xc1\xf7",
+        text: "$6$rounds=10000$QyHt/cbgIXYPB2wx$iJ4wKjowRDg0oZRoHHfV32b5/5y1zPvLMM9x3jmebNiYuKsOyFvw5kjisFBULpy4Z6QeNW2mvyaTyzOsCYKli/",
+    },
+    Row {
+        cost: MakeCost::Bcrypt(4),
+        password: "secret",
+        salt: b"\x00\x01\x02\x03\x04\x05\x06\x07\x08\x09\x0a\x0b\x0c\x0d\x0e\x0f",
+        text: "$2b$04$..CA.uOD/eaGAOmJB.yMBu4AbFLftUBUHQbseIwAiOGKsNRgByuEG",
+    },
+    Row {
+        cost: MakeCost::Bcrypt(5),
+        password: "0123456789012345678901234567890123456789012345678901234567890123456789ab",
+        salt: b"\xff\xff\xff\xff\xff\xff\xff\xff\xff\xff\xff\xff\xff\xff\xff\xff",
+        text: "$2b$05$999999999999999999999uwsaGaIy1oTLySLiYyBZKeBaAiS7mJDC",
+    },
+    Row {
+        cost: MakeCost::Bcrypt(4),
+        password: "",
+        salt: b"\x00\x00\x00\x00\x00\x00\x00\x00\x00\x00\x00\x00\x00\x00\x00\x00",
+        text: "$2b$04$......................w74bL5gU7LSJClZClCa.Pkz14aTv/XO",
+    },
+    Row {
+        cost: MakeCost::Bcrypt(6),
+        password: "pässwörd",
+        salt: b"\x9c?\xe5\x01z\xb2\xd4Hn\x0d\xc1\xf7S+\x8a\x90",
+        text: "$2b$06$lB9j.VowzCfsBaF1SwsIi.zY7VInTL3MkgFAIZUsFtzrL2.NqWKKW",
+    },
+    Row {
+        cost: MakeCost::Yescrypt(YescryptParams { ln: 10, r: 8, t: 0 }),
+        password: "secret",
+        salt: b"\x00\x01\x02\x03\x04\x05\x06\x07\x08\x09\x0a\x0b\x0c\x0d\x0e\x0f",
+        text: "$y$j75$.2U.1EE/4Q.07ck0AoU1D.$WZs6uq6acbHmEIsYN/kl4Nhf1X5mY6cAbdQQYOq6tt9",
+    },
+    Row {
+        cost: MakeCost::Yescrypt(YescryptParams { ln: 11, r: 8, t: 0 }),
+        password: "",
+        salt: b"\xff\xff\xff\xff\xff\xff\xff\xff\xff\xff\xff\xff\xff\xff\xff\xff",
+        text: "$y$j85$zzzzzzzzzzzzzzzzzzzzz1$cNML9J.a21323IswNIVMTFGQiPW2CLDZ73QmBW7nJc1",
+    },
+    Row {
+        cost: MakeCost::Yescrypt(YescryptParams { ln: 10, r: 8, t: 0 }),
+        password: "pässwörd",
+        salt: b"\x9c?\xe5\x01z\xb2\xd4Hn\x0d\xc1\xf7S+\x8a\x90",
+        text: "$y$j75$QyHt/cbgIXYPB2wxHhWWE0$QVOpvZlZ4TJP2fzyvM.aQJdCNq51LEZqQiQtuIyg/C0",
+    },
+    Row {
+        cost: MakeCost::Scrypt(ScryptParams { ln: 4, r: 8, p: 1 }),
+        password: "secret",
+        salt: b"\x00\x01\x02\x03\x04\x05\x06\x07\x08\x09\x0a\x0b\x0c\x0d\x0e\x0f",
+        text: "$scrypt$ln=4,r=8,p=1$AAECAwQFBgcICQoLDA0ODw$FBYrbyejpsRMOOxNjJ4WhxLlIIkIxp/izmMfHJ7w9YU",
+    },
+    Row {
+        cost: MakeCost::Scrypt(ScryptParams { ln: 1, r: 1, p: 1 }),
+        password: "",
+        salt: b"\xff\xff\xff\xff\xff\xff\xff\xff\xff\xff\xff\xff\xff\xff\xff\xff",
+        text: "$scrypt$ln=1,r=1,p=1$/////////////////////w$8gCxzfiyr2jkCnpAHpU+WLtEihuiTn3a+2vIevDCl/U",
+    },
+    Row {
+        cost: MakeCost::Scrypt(ScryptParams { ln: 10, r: 8, p: 2 }),
+        password: "pässwörd",
+        salt: b"\x9c?\xe5\x01z\xb2\xd4Hn\x0d\xc1\xf7S+\x8a\x90",
+        text: "$scrypt$ln=10,r=8,p=2$nD/lAXqy1EhuDcH3UyuKkA$mpPUXa/k6XHXgtuzUzNFmIEWnbIJ2l9jmjjkhIx2KuM",
+    },
+    Row {
+        cost: MakeCost::Scrypt(ScryptParams { ln: 7, r: 12, p: 3 }),
+        password: "\ttab and $ and :",
+        salt: b"\x00\x00\x00\x00\x00\x00\x00\x00\x00\x00\x00\x00\x00\x00\x00\x00",
+        text: "$scrypt$ln=7,r=12,p=3$AAAAAAAAAAAAAAAAAAAAAA$0wvHBfniKoKDVSTxn49QFO6cqbtXO8pYQqoaaWUAH8A",
+    },
+    Row {
+        cost: MakeCost::Argon2id(Argon2Cost {
+            memory: 64,
+            passes: 1,
+            lanes: 1,
+        }),
+        password: "secret",
+        salt: b"0123456789abcdef",
+        text: "$argon2id$v=19$m=64,t=1,p=1$MDEyMzQ1Njc4OWFiY2RlZg$pbviq+1UUgwZCmLIr4Hgk7mEMsxnRLuOb2HfvIaBwGY",
+    },
+    Row {
+        cost: MakeCost::Argon2id(Argon2Cost {
+            memory: 256,
+            passes: 3,
+            lanes: 4,
+        }),
+        password: "password",
+        salt: b"saltsaltsaltsalt",
+        text: "$argon2id$v=19$m=256,t=3,p=4$c2FsdHNhbHRzYWx0c2FsdA$fwfGb+vIubWfuLB9/YzfZTInF3Z4Ua2Wgy1Elio7Ys0",
+    },
+    Row {
+        cost: MakeCost::Argon2id(Argon2Cost {
+            memory: 8,
+            passes: 2,
+            lanes: 1,
+        }),
+        password: "pässwörd",
+        salt: b"somesomesomesome",
+        text: "$argon2id$v=19$m=8,t=2,p=1$c29tZXNvbWVzb21lc29tZQ$van/hKLGpbh7MC3+PDuKZVgLD5Mf3RYr7swIkCjiV3w",
+    },
+    Row {
+        cost: MakeCost::Pbkdf2Sha256(1_000),
+        password: "secret",
+        salt: b"\x00\x01\x02\x03\x04\x05\x06\x07\x08\x09\x0a\x0b\x0c\x0d\x0e\x0f",
+        text: "$pbkdf2-sha256$i=1000,l=32$AAECAwQFBgcICQoLDA0ODw$Tvsru20utY6o3q7VRBeuL9h/1QqKhWhwk2PaYNRWBgY",
+    },
+    Row {
+        cost: MakeCost::Pbkdf2Sha256(1),
+        password: "",
+        salt: b"\xff\xff\xff\xff\xff\xff\xff\xff\xff\xff\xff\xff\xff\xff\xff\xff",
+        text: "$pbkdf2-sha256$i=1,l=32$/////////////////////w$MDW6MSX6t0yh/d+0W5a7IV1ny+EUvBK8yKKtXigFg1k",
+    },
+    Row {
+        cost: MakeCost::Pbkdf2Sha256(4_096),
+        password: "pässwörd",
+        salt: b"\x9c?\xe5\x01z\xb2\xd4Hn\x0d\xc1\xf7S+\x8a\x90",
+        text: "$pbkdf2-sha256$i=4096,l=32$nD/lAXqy1EhuDcH3UyuKkA$kXCjRpGeeSvWtyCZYftGYe8WxwNJfDrGsQmMPm7kf5U",
+    },
+    Row {
+        cost: MakeCost::Pbkdf2Sha256(2),
+        password: "🔑 key",
+        salt: b"\x00\x00\x00\x00\x00\x00\x00\x00\x00\x00\x00\x00\x00\x00\x00\x00",
+        text: "$pbkdf2-sha256$i=2,l=32$AAAAAAAAAAAAAAAAAAAAAA$7GmXh3EhCUq2+oCV5Vf0BoDV/n72zZymLv1+0bedCnk",
+    },
+];
+
+// The bytes that stand in a buffer before a call.
+const OLD: u8 = 0xa5;
+
+#[test]
+fn made_by_others(rt: HostRuntime) {
+    for row in ROWS {
+        let mut out = [OLD; TEXT_MAX];
+        let made = make_text(
+            rt.alloc(),
+            row.cost,
+            row.password.as_bytes(),
+            row.salt,
+            &mut out,
+        );
+        let count = row.text.len();
+        assert_eq!(rt; made, Ok(count), "{}", row.text);
+        assert_eq!(rt; &out[..count], row.text.as_bytes(), "{}", row.text);
+        assert!(rt; out[count..].iter().all(|b| *b == OLD), "{}", row.text);
+        match made_text(rt.alloc(), row.cost, row.password.as_bytes(), row.salt) {
+            Ok(text) => assert_eq!(rt; text.as_slice(), row.text.as_bytes()),
+            Err(fault) => panic!(rt; "{}: {fault:?}", row.text),
+        }
+    }
+}
+
+#[test]
+fn matched(rt: HostRuntime) {
+    let kdf = record_kdf(rt.alloc());
+    let kept = CryptKept::new(rt.alloc());
+    for row in ROWS {
+        let answer = check_any(rt.alloc(), &kdf, &kept, row.password, row.text);
+        assert_eq!(rt; answer, Ok(true), "{}", row.text);
+        let answer = check_any(rt.alloc(), &kdf, &kept, "another", row.text);
+        assert_eq!(rt; answer, Ok(false), "{}", row.text);
+    }
+}
+
+// A buffer of just the length is room, and one that is a byte shorter is not.
+#[test]
+fn rooms(rt: HostRuntime) {
+    for row in ROWS {
+        let count = row.text.len();
+        let mut room = [OLD; TEXT_MAX];
+        let made = make_text(
+            rt.alloc(),
+            row.cost,
+            row.password.as_bytes(),
+            row.salt,
+            &mut room[..count],
+        );
+        assert_eq!(rt; made, Ok(count), "{}", row.text);
+        assert_eq!(rt; &room[..count], row.text.as_bytes(), "{}", row.text);
+        let mut room = [OLD; TEXT_MAX];
+        let made = make_text(
+            rt.alloc(),
+            row.cost,
+            row.password.as_bytes(),
+            row.salt,
+            &mut room[..count - 1],
+        );
+        assert_eq!(rt; made, Err(MakeFault::BufferShort), "{}", row.text);
+        assert!(rt; room.iter().all(|b| *b == OLD), "{}", row.text);
+    }
+}
+
+#[derive(Clone, Copy)]
+struct Refused {
+    cost: MakeCost,
+    password: &'static [u8],
+    salt: &'static [u8],
+    fault: MakeFault,
+}
+
+const SALT: &[u8] = b"0123456789abcdef";
+
+const SHA_SALT: &[u8] = b"0123456789ab";
+
+fn scrypt(ln: u32, r: u32, p: u32) -> MakeCost {
+    MakeCost::Scrypt(ScryptParams { ln, r, p })
+}
+
+fn argon2(memory: u32, passes: u32, lanes: u32) -> MakeCost {
+    MakeCost::Argon2id(Argon2Cost {
+        memory,
+        passes,
+        lanes,
+    })
+}
+
+fn yescrypt(ln: u32, r: u32, t: u32) -> MakeCost {
+    MakeCost::Yescrypt(YescryptParams { ln, r, t })
+}
+
+fn sha256(rounds: u32) -> MakeCost {
+    MakeCost::ShaCrypt(Family::Sha256, rounds)
+}
+
+fn refused(
+    cost: MakeCost,
+    password: &'static [u8],
+    salt: &'static [u8],
+    fault: MakeFault,
+) -> Refused {
+    Refused {
+        cost,
+        password,
+        salt,
+        fault,
+    }
+}
+
+#[test]
+fn faults(rt: HostRuntime) {
+    let rows = [
+        refused(sha256(999), b"x", SHA_SALT, MakeFault::Cost),
+        refused(sha256(1_000_000_000), b"x", SHA_SALT, MakeFault::Cost),
+        refused(scrypt(0, 8, 1), b"x", SALT, MakeFault::Cost),
+        refused(scrypt(25, 8, 1), b"x", SALT, MakeFault::Cost),
+        refused(MakeCost::Bcrypt(3), b"x", SALT, MakeFault::Cost),
+        refused(MakeCost::Bcrypt(32), b"x", SALT, MakeFault::Cost),
+        refused(yescrypt(1, 8, 0), b"x", SALT, MakeFault::Cost),
+        refused(yescrypt(10, 8, 1_025), b"x", SALT, MakeFault::Cost),
+        refused(argon2(7, 1, 1), b"x", SALT, MakeFault::Cost),
+        refused(argon2(64, 0, 1), b"x", SALT, MakeFault::Cost),
+        refused(argon2(64, 1, 9), b"x", SALT, MakeFault::Cost),
+        refused(MakeCost::Pbkdf2Sha256(0), b"x", SALT, MakeFault::Cost),
+        refused(
+            MakeCost::Pbkdf2Sha256(10_000_001),
+            b"x",
+            SALT,
+            MakeFault::Cost,
+        ),
+        refused(sha256(1_000), b"x", SALT, MakeFault::Salt),
+        refused(sha256(1_000), b"x", b"", MakeFault::Salt),
+        refused(MakeCost::Bcrypt(4), b"x", SHA_SALT, MakeFault::Salt),
+        refused(scrypt(4, 8, 1), b"x", b"0123456789abcdefg", MakeFault::Salt),
+        refused(MakeCost::Bcrypt(3), b"\xff\0", SHA_SALT, MakeFault::Cost),
+        refused(MakeCost::Bcrypt(4), b"\xff\0", SHA_SALT, MakeFault::Salt),
+        refused(MakeCost::Bcrypt(4), b"\xff\0", SALT, MakeFault::NotUtf8),
+        refused(scrypt(4, 8, 1), b"\xc3", SALT, MakeFault::NotUtf8),
+        refused(MakeCost::Bcrypt(4), b"a\0b", SALT, MakeFault::ZeroByte),
+        refused(sha256(1_000), b"\0", SHA_SALT, MakeFault::ZeroByte),
+        refused(yescrypt(10, 8, 0), b"a\0", SALT, MakeFault::ZeroByte),
+    ];
+    for row in rows {
+        let mut out = [OLD; TEXT_MAX];
+        let made = make_text(rt.alloc(), row.cost, row.password, row.salt, &mut out);
+        assert_eq!(rt; made, Err(row.fault));
+        assert!(rt; out.iter().all(|b| *b == OLD));
+    }
+}
+
+#[test]
+fn long_passwords(rt: HostRuntime) {
+    let long = [b'a'; 4_097];
+    let mut out = [OLD; TEXT_MAX];
+    for cost in [
+        sha256(1_000),
+        scrypt(1, 1, 1),
+        argon2(8, 1, 1),
+        MakeCost::Pbkdf2Sha256(1),
+    ] {
+        let scheme = cost.scheme();
+        let salt = &SALT[..scheme.salt_length()];
+        let made = make_text(rt.alloc(), cost, &long, salt, &mut out);
+        assert_eq!(rt; made, Err(MakeFault::PasswordTooLong));
+        let made = make_text(rt.alloc(), cost, &long[1..], salt, &mut out);
+        assert!(rt; made.is_ok());
+    }
+    let made = make_text(rt.alloc(), MakeCost::Bcrypt(4), &long[..73], SALT, &mut out);
+    assert_eq!(rt; made, Err(MakeFault::PasswordTooLong));
+    let made = make_text(rt.alloc(), MakeCost::Bcrypt(4), &long[..72], SALT, &mut out);
+    assert_eq!(rt; made, Ok(60));
+}
+
+// A record's scheme takes a zero byte.
+#[test]
+fn zero_bytes(rt: HostRuntime) {
+    let kdf = record_kdf(rt.alloc());
+    let kept = CryptKept::new(rt.alloc());
+    for cost in [scrypt(1, 1, 1), argon2(8, 1, 1), MakeCost::Pbkdf2Sha256(1)] {
+        match made_text(rt.alloc(), cost, b"a\0b", SALT) {
+            Ok(text) => match str::from_utf8(text.as_slice()) {
+                Ok(stored) => {
+                    let answer = check_any(rt.alloc(), &kdf, &kept, "a\0b", stored);
+                    assert_eq!(rt; answer, Ok(true));
+                    let answer = check_any(rt.alloc(), &kdf, &kept, "a", stored);
+                    assert_eq!(rt; answer, Ok(false));
+                }
+                Err(_) => panic!(rt; "it is no text"),
+            },
+            Err(fault) => panic!(rt; "{fault:?}"),
+        }
+    }
+}
+
+// What OWASP, RFC 9106, libxcrypt and passlib recommend, and the bytes of a salt.
+#[test]
+fn schemes(rt: HostRuntime) {
+    for (scheme, name, cost, salt, needs) in [
+        (
+            MakeScheme::ShaCrypt(Family::Sha256),
+            "sha256-crypt",
+            sha256(535_000),
+            12,
+            false,
+        ),
+        (
+            MakeScheme::ShaCrypt(Family::Sha512),
+            "sha512-crypt",
+            MakeCost::ShaCrypt(Family::Sha512, 656_000),
+            12,
+            false,
+        ),
+        (MakeScheme::Scrypt, "scrypt", scrypt(17, 8, 1), 16, true),
+        (
+            MakeScheme::Bcrypt,
+            "bcrypt",
+            MakeCost::Bcrypt(12),
+            16,
+            false,
+        ),
+        (
+            MakeScheme::Yescrypt,
+            "yescrypt",
+            yescrypt(12, 32, 0),
+            16,
+            true,
+        ),
+        (
+            MakeScheme::Argon2id,
+            "argon2id",
+            argon2(65_536, 3, 4),
+            16,
+            true,
+        ),
+        (
+            MakeScheme::Pbkdf2Sha256,
+            "pbkdf2-sha256",
+            MakeCost::Pbkdf2Sha256(600_000),
+            16,
+            false,
+        ),
+    ] {
+        assert_eq!(rt; scheme_name(scheme), name);
+        assert_eq!(rt; scheme_named(name), Ok(scheme));
+        assert_eq!(rt; scheme.recommended(), cost);
+        assert_eq!(rt; cost.scheme(), scheme);
+        assert!(rt; cost.is_taken());
+        assert_eq!(rt; scheme.salt_length(), salt, "{name}");
+        assert_eq!(rt; scheme.needs_memory(), needs, "{name}");
+    }
+    assert_eq!(rt; scheme_named("md5-crypt"), Err(NameFault::Weak));
+    for name in [
+        "",
+        "md5",
+        "SHA256-crypt",
+        "argon2",
+        "argon2i",
+        "scrypt ",
+        "sha256",
+    ] {
+        assert_eq!(rt; scheme_named(name), Err(NameFault::Unknown), "{name}");
+    }
+}
+
+// The texts of `secret` and of no bytes, by libxcrypt, as in the table.
+const SECRET: &[u8] = b"$2b$04$..CA.uOD/eaGAOmJB.yMBu4AbFLftUBUHQbseIwAiOGKsNRgByuEG\n";
+
+const NONE: &[u8] = b"$2b$04$......................w74bL5gU7LSJClZClCa.Pkz14aTv/XO\n";
+
+const FIRST_SALT: &[u8] = b"\x00\x01\x02\x03\x04\x05\x06\x07\x08\x09\x0a\x0b\x0c\x0d\x0e\x0f";
+
+#[test]
+fn first_lines(rt: HostRuntime) {
+    let rows: [(&[u8], &[u8], MakeEnd, &[u8]); 8] = [
+        (b"secret\nother\n", FIRST_SALT, MakeEnd::Made, SECRET),
+        (b"secret", FIRST_SALT, MakeEnd::Made, SECRET),
+        (b"\n", &[0; 16], MakeEnd::Made, NONE),
+        (b"", FIRST_SALT, MakeEnd::NoLine, b""),
+        (
+            b"\xff\n",
+            FIRST_SALT,
+            MakeEnd::Refused(MakeFault::NotUtf8),
+            b"",
+        ),
+        (
+            b"a\0\nb\n",
+            FIRST_SALT,
+            MakeEnd::Refused(MakeFault::ZeroByte),
+            b"",
+        ),
+        (
+            b"secret\n",
+            SHA_SALT,
+            MakeEnd::Refused(MakeFault::Salt),
+            b"",
+        ),
+        (&[b'a'; 8_193], FIRST_SALT, MakeEnd::LongLine, b""),
+    ];
+    for (input, salt, end, output) in rows {
+        for chunk in [1, 5, 10_000] {
+            let mut room = [0; 100];
+            let mut source = MemorySource::new(input, chunk, &[]);
+            let mut sink = MemorySink::new(&mut room, chunk, &[]);
+            let cost = MakeCost::Bcrypt(4);
+            let got = run_make(rt.alloc(), cost, salt, &mut source, &mut sink);
+            assert_eq!(rt; got, end);
+            assert_eq!(rt; sink.bytes(), output);
+        }
+    }
+}
+
+#[test]
+fn failing_devices(rt: HostRuntime) {
+    let cost = MakeCost::Bcrypt(4);
+    let mut room = [0; 100];
+    let mut source = MemorySource::new(b"secret\n", 3, &[1]);
+    let mut sink = MemorySink::new(&mut room, 100, &[]);
+    let got = run_make(rt.alloc(), cost, FIRST_SALT, &mut source, &mut sink);
+    assert_eq!(rt; got, MakeEnd::ReadFault);
+    assert_eq!(rt; sink.bytes(), b"".as_slice());
+    for (failing, output) in [(0u64, b"".as_slice()), (1, &SECRET[..7])] {
+        let mut room = [0; 100];
+        let failing = [failing];
+        let mut source = MemorySource::new(b"secret\n", 3, &[]);
+        let mut sink = MemorySink::new(&mut room, 7, &failing);
+        let got = run_make(rt.alloc(), cost, FIRST_SALT, &mut source, &mut sink);
+        assert_eq!(rt; got, MakeEnd::WriteFault);
+        assert_eq!(rt; sink.bytes(), output);
+    }
+}

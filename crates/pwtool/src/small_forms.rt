@@ -1,0 +1,70 @@
+//! The forms `normalize`, `wrap` and `unwrap` from their command lines on.
+
+use crate::fault::{say, say_at};
+use crate::normalizer::normalize_lines;
+use crate::reports::{opened, told};
+use crate::status::{BAD_WORDS, NO_FILE};
+use clap::ArgMatches;
+use line_io::{StdSink, StdSource};
+use line_program::status;
+use std::io;
+use std::io::Read;
+use wrap_stream::run_stream;
+
+/// The input of `unwrap` is no wrapped encoding.
+const NO_TEXT: u8 = 7;
+
+// Writes the normal texts of the lines that a reader gives.
+fn normalize<R: Read + Drop>(rt: &HostRuntime, name: &str, reader: R) -> u8 {
+    let mut source = StdSource::new(reader);
+    let mut sink = StdSink::new(io::writer(rt));
+    told(rt, name, normalize_lines(&mut source, &mut sink))
+}
+
+/// Writes the normal texts of the lines of the file that is named, or of standard input, and gives the status.
+pub fn run_normalize(rt: &HostRuntime, matches: &ArgMatches<'_>) -> u8 {
+    let name = matches.get_str("FILE").unwrap_or("-");
+    if name == "-" {
+        return normalize(rt, name, rt.reader());
+    }
+    match opened(rt, name) {
+        Some(file) => normalize(rt, name, file),
+        None => NO_FILE,
+    }
+}
+
+// Wraps or unwraps the bytes that a reader gives.
+fn stream<R: Read + Drop>(
+    rt: &HostRuntime,
+    form: &str,
+    matches: &ArgMatches<'_>,
+    name: &str,
+    reader: R,
+) -> u8 {
+    let width = matches.get_str("W").unwrap_or("");
+    let mut source = StdSource::new(reader);
+    let mut sink = StdSink::new(io::writer(rt));
+    match run_stream(form, width, &mut source, &mut sink) {
+        status::BAD_WORDS => {
+            say(rt, "W is a number from 4 to 65536");
+            BAD_WORDS
+        }
+        NO_TEXT => {
+            say_at(rt, name, "it is no Base64 in lines of this width");
+            NO_TEXT
+        }
+        status => told(rt, name, status),
+    }
+}
+
+/// Does what the form `wrap` or `unwrap` says with the file that is named, or with standard input, and gives the status.
+pub fn run_stream_form(rt: &HostRuntime, form: &str, matches: &ArgMatches<'_>) -> u8 {
+    let name = matches.get_str("FILE").unwrap_or("-");
+    if name == "-" {
+        return stream(rt, form, matches, name, rt.reader());
+    }
+    match opened(rt, name) {
+        Some(file) => stream(rt, form, matches, name, file),
+        None => NO_FILE,
+    }
+}
