@@ -1,0 +1,5 @@
+pub mod Parts
+pub mod Handed
+pub mod Rules
+pub mod Views
+pub mod Runs

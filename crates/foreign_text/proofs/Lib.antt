@@ -1,0 +1,4 @@
+mod Lengths
+mod Records
+mod Spelled
+mod Itself
