@@ -1,7 +1,7 @@
 -- What a converter gives converts to itself.
 use Rattle.std.proofs.Common.{◌≡◌, ◌≢◌, ◌⊎◌, ℕ, Bool, true, false, List, [], ◌∷◌, ◌++◌, length, refl, ap, ◌∙◌, sym, inl, inr, Ok, Err}
-use Rattle.std.specs.Prelude.{◌&&◌, nat_eq, codes, Option, Some, None, Result, if◌then◌else◌}
-use Rattle.std.specs.List.{starts_with}
+use Rattle.std.specs.Prelude.{◌&&◌, nat_eq, take, codes, Option, Some, None, Result, if◌then◌else◌}
+use Rattle.std.specs.Cmp.Lexicographic.{pointwise}
 use Rattle.std.proofs.lemmas.Bool.{and_parts}
 use Rattle.phc.specs.Parts.{output_of_bytes, salt_of_bytes}
 use Rattle.phc.specs.Record.{record_text}
@@ -23,10 +23,16 @@ use Rattle.base64ct.specs.Alphabets.{base64, base64_pbkdf2}
 
 -- ---- answers
 
-same_ok : (a b : List ℕ) → Ok {E = ForeignFault} a ≡ Ok b → a ≡ b
+abbrev given : List ℕ → Answer
+given stored = Ok stored
+
+abbrev cause : ForeignFault → Answer
+cause e = Err e
+
+same_ok : (a b : List ℕ) → given a ≡ Ok b → a ≡ b
 same_ok a b h = cc
 
-no_ok : {P : Type 0} (e : ForeignFault) (b : List ℕ) → Err {T = List ℕ} e ≡ Ok b → P
+no_ok : {P : Type 0} (e : ForeignFault) (b : List ℕ) → cause e ≡ Ok b → P
 no_ok e b h = absurd cc
 
 by_front : {P : Type 0} (read : List ℕ → Answer) (o : Option (List ℕ)) (other : Answer) (stored : List ℕ)
@@ -83,7 +89,8 @@ adapted_made (Ok f) stored h =
 
 begins_longer : (stored front : List ℕ) → begins stored (36 ∷ front) ≡ true → begins stored (codes "$") ≡ true
 begins_longer [] front h = h
-begins_longer (b ∷ stored) front h = rw ((and_parts (nat_eq b 36) (starts_with nat_eq stored front) h).0) refl
+begins_longer (b ∷ stored) front h =
+    rw ((and_parts (nat_eq 36 b) (pointwise nat_eq front (take (length front) stored)) h).0) refl
 
 made_begins : (stored : List ℕ) → IsMade stored → begins stored (codes "$") ≡ true
 unfolding pbkdf2_text record_text
@@ -100,7 +107,7 @@ signed front rest stored e h =
     let parts = by_sign (begins rest (36 ∷ front)) rest stored e h in
     begins_longer stored front (ap (λ (t : List ℕ). begins t (36 ∷ front)) (sym parts.1) ∙ parts.0)
 
-held : (text stored : List ℕ) → begins text (codes "$") ≡ true → Ok {E = ForeignFault} text ≡ Ok stored
+held : (text stored : List ℕ) → begins text (codes "$") ≡ true → given text ≡ Ok stored
     → begins stored (codes "$") ≡ true
 held text stored first h = ap (λ (t : List ℕ). begins t (codes "$")) (sym (same_ok text stored h)) ∙ first
 
@@ -137,26 +144,27 @@ other_kept text stored (Some name) h = no_ok _ stored h
 as_made : (stored : List ℕ) → IsMade stored → passlib stored ≡ Ok stored
 unfolding passlib pbkdf2_text record_text
 as_made stored made =
-    ap passlib (sym made.3) ∙ ap (λ (t : List ℕ). Ok {E = ForeignFault} t) made.3
+    ap passlib (sym made.3) ∙ ap given made.3
 
 as_text : (text stored : List ℕ) → passlib text ≡ Ok stored → text ≡ stored → passlib stored ≡ Ok stored
 as_text text stored h same = ap passlib (sym same) ∙ h
 
-passlib_again : (text stored : List ℕ) → passlib text ≡ Ok stored → passlib stored ≡ Ok stored
-passlib_again text stored h = by_case (cases h)
-  where
-    cases : passlib text ≡ Ok stored → (text ≡ stored) ⊎ IsMade stored
-    unfolding passlib
-    cases =
-        by_front (passlib_pbkdf2 text) (behind text (codes "$pbkdf2-sha256$")) _ stored
-        (λ rest. by_test (begins_with_digit rest) (adapted_pbkdf2 rest) (Ok text) stored
-        (λ digit h. inr (adapted_made (fields_of (pieces_at 36 rest)) stored h))
-        (λ h. inl (same_ok text stored h)))
-        (λ h. inl (other_kept text stored (passlib_unread text) h))
+passlib_gives : (text stored : List ℕ) → passlib text ≡ Ok stored → (text ≡ stored) ⊎ IsMade stored
+unfolding passlib
+passlib_gives text stored =
+    by_front (passlib_pbkdf2 text) (behind text (codes "$pbkdf2-sha256$")) _ stored
+    (λ rest. by_test (begins_with_digit rest) (adapted_pbkdf2 rest) (Ok text) stored
+    (λ digit h. inr (adapted_made (fields_of (pieces_at 36 rest)) stored h))
+    (λ h. inl (same_ok text stored h)))
+    (λ h. inl (other_kept text stored (passlib_unread text) h))
 
-    by_case : (text ≡ stored) ⊎ IsMade stored → passlib stored ≡ Ok stored
-    by_case (inl same) = as_text text stored h same
-    by_case (inr made) = as_made stored made
+by_kind : (text stored : List ℕ) → passlib text ≡ Ok stored → (text ≡ stored) ⊎ IsMade stored
+    → passlib stored ≡ Ok stored
+by_kind text stored h (inl same) = as_text text stored h same
+by_kind text stored h (inr made) = as_made stored made
+
+passlib_again : (text stored : List ℕ) → passlib text ≡ Ok stored → passlib stored ≡ Ok stored
+passlib_again text stored h = by_kind text stored h (passlib_gives text stored h)
 
 -- ---- all
 

@@ -1,5 +1,5 @@
 -- What Django, OpenLDAP and passlib write is converted to the text of the record.
-use Rattle.std.proofs.Common.{◌≡◌, ℕ, suc, ◌+◌, ◌*◌, ◌/◌, ◌^◌, ◌<◌, ◌≤◌, Bool, true, false, List, [], ◌∷◌, ◌++◌, length, map}
+use Rattle.std.proofs.Common.{◌≡◌, ℕ, zero, suc, ◌+◌, ◌-◌, ◌*◌, ◌%◌, ◌/◌, ◌^◌, ◌<◌, ◌≤◌, Bool, true, false, List, [], ◌∷◌, ◌++◌, length, map}
 use Rattle.std.proofs.Common.{refl, ap, ◌∙◌, sym, arith, Ok}
 use Rattle.std.specs.Prelude.{◌==◌, not, codes, nat_le, replicate, Option, Some, None}
 use Rattle.std.specs.Char.{is_ascii_digit}
@@ -16,7 +16,7 @@ use Rattle.base64ct.specs.Decoding.{decoding}
 use Rattle.base64ct.specs.Encoding.{Alphabet, EachBelow, character, encoding, groups, is_alphabet, padding}
 use Rattle.base64ct.proofs.DecodingLaws.{decoding-encoding}
 use Rattle.base64ct.proofs.Encodings.{groups-below}
-use Rattle.base64ct.proofs.Padding.{length-encoding}
+use Rattle.base64ct.proofs.Padding.{length-encoding, padding_count}
 use Rattle.phc.specs.Grammar.{value_fault}
 use Rattle.phc.proofs.Characters.{decimal_digits}
 use Rattle.phc.proofs.ValueBytes.{decimal_length, value_from}
@@ -34,7 +34,7 @@ abbrev no_dollar : ℕ → Bool
 no_dollar b = not (b == 36)
 
 repeated : (p : ℕ → Bool) (n b : ℕ) → p b ≡ true → list_all p (replicate n b) ≡ true
-repeated p 0 b h = refl
+repeated p zero b h = refl
 repeated p (suc n) b h = rw h (repeated p n b h)
 
 padded : (p : ℕ → Bool) (t : Bool) (n : ℕ) → p 61 ≡ true → list_all p (padding t n) ≡ true
@@ -79,11 +79,15 @@ rounds_read n small =
     value_from (decimal n) (omega (arith, decimal_length n small)) (values n small) in
     rw valid (decimal_read (2 ^ 32) n (omega arith) small)
 
+padding_small : (p : Bool) (n : ℕ) → padding_count p n ≤ 3
+padding_small true n = omega arith
+padding_small false n = omega arith
+
 bytes_read : (a : Alphabet) (b : List ℕ) → is_alphabet a ≡ true → EachBelow 256 b → length b ≤ 64
     → field_bytes a (encoding a b) ≡ Some b
 bytes_read a b lawful below few =
     let size = length-encoding a b below in
-    let short : length (encoding a b) ≤ 128 = omega (arith, size, few) in
+    let short : length (encoding a b) ≤ 128 = omega (arith, size, few, padding_small a.padded ((4 * length b + 2) / 3)) in
     taken a (encoding a b) b short (decoding-encoding a b lawful below)
 
 module _ (rounds : ℕ) (salt key : List ℕ) (held : AreHeld rounds salt key) where

@@ -1,5 +1,4 @@
 use Rattle.std.proofs.Common.{◌<◌, ◌^◌, length, ap, arith}
-use Rattle.std.specs.Prelude.{codes}
 use Rattle.std.specs.Fmt.{decimal}
 use Rattle.std.proofs.lemmas.List.{length-append}
 use Rattle.phc.proofs.ValueBytes.{decimal_length}
@@ -8,7 +7,7 @@ use Rattle.foreign_text.proofs.pbkdf2.front.Goals as goal
 pub push_decimal-requires : goal.push_decimal-requires
 push_decimal-requires c =
     let small : c.args.rounds < 2 ^ 32 = c.ranges.rounds.fits in
-    omega (arith, decimal_length c.args.rounds small)
+    omega (arith, ap length c.from_slice-text.ensures.bytes, decimal_length c.args.rounds small)
 
 pub returns-clause-len : goal.returns-clause-len
 returns-clause-len c =
@@ -16,6 +15,7 @@ returns-clause-len c =
     omega (
       arith,
       ap length c.push_decimal.ensures.appended,
-      length-append (codes "$pbkdf2-sha256$i=") (decimal c.args.rounds),
+      ap length c.from_slice-text.ensures.bytes,
+      length-append c.from_slice-text.result (decimal c.args.rounds),
       decimal_length c.args.rounds small,
     )

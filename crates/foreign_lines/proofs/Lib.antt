@@ -1,0 +1,3 @@
+mod Handing
+mod TwoFiles
+mod Joins
