@@ -3,6 +3,8 @@
 //! `pwtool join TEXTS PASSWORDS`: answers each user of a shadow or htpasswd file by the user's password in another file.
 //! `pwtool survey [FILE]`: tells the scheme and the cost of each user's stored text, and whether it is weak.
 //!
+//! With `--from` the texts are those of Django, LDAP or passlib.
+//!
 //! A file is standard input where it is `-`, and each answer goes to standard output with a line feed. Errors are one line on
 //! standard error, where the progress of a run and how many answers there were are told, too. The status says how the run
 //! ended.
@@ -12,7 +14,9 @@ mod bounds;
 mod check;
 mod cli;
 mod fault;
+mod foreign;
 mod form;
+mod from;
 mod join;
 mod pair;
 mod progress;
@@ -29,6 +33,9 @@ use crate::status::BAD_WORDS;
 pub use check::{check_lines, check_users};
 use clap::ArgMatches;
 use clap::error::ErrorKind;
+pub use foreign::{
+    check_foreign, check_foreign_users, join_foreign, join_foreign_fewer, survey_foreign,
+};
 pub use join::{join_fewer, join_files, tell_no_text};
 use line_program::status::{ALL_GOOD, NO_MEMORY, NO_WORDS, WRITE_FAULT};
 use std::process::ExitCode;
