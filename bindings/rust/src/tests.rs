@@ -56,7 +56,7 @@ fn answers() {
     }
     assert_eq!(Answer::of(99), Answer::Unknown(99));
     assert_eq!(Answer::of(99).word(), "");
-    assert_eq!(version(), "1.0");
+    assert_eq!(version(), "1.1");
 }
 
 #[test]

@@ -1,3 +1,4 @@
 mod Handing
 mod TwoFiles
 mod Joins
+mod Verdicts

@@ -3,3 +3,4 @@ pub mod Handed
 pub mod Rules
 pub mod Views
 pub mod Runs
+pub mod Laws

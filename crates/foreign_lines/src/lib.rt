@@ -8,6 +8,7 @@
 
 mod fewer;
 mod join;
+pub mod laws;
 mod lines;
 mod parts;
 mod runs;

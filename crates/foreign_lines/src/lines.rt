@@ -3,14 +3,14 @@
 ghost use Rattle.std.specs.Prelude.{◌≡◌, ◌<◌, ◌≤◌, ◌∷◌, ◌++◌, [], IfOk, MatchOption, OnErr, OnOk, length, true};
 ghost use Rattle.line_io.specs.Limits.{line_max};
 ghost use Rattle.line_io.specs.Output.{Puts};
-ghost use Rattle.foreign_text.specs.Views.{as_answer};
+ghost use Rattle.foreign_text.specs.Converted.{converted};
 ghost use Rattle.foreign_lines.specs.Handed.{by_answer, by_reply, by_test, handed, refused, word_line};
 ghost use Rattle.foreign_lines.specs.Parts.{line_with};
 ghost use Rattle.foreign_lines.specs.Views.{parts_of};
 ghost use Rattle.foreign_lines.specs.Rules.{by_after};
 
 use crate::parts::{LineForm, LineParts, parts_in};
-use foreign_text::{Foreign, ForeignFault, StoredText, stored_text};
+use foreign_text::{Foreign, ForeignFault, MadeText, stored_text};
 use line_io::{LINE_MAX, OutputBuffer, Sink};
 use line_program::Responder;
 use line_state::Ending;
@@ -133,33 +133,30 @@ fn answer_refused<R: Responder, K: Sink>(
     }
 }
 
-// Answers a line by what the converter says of its stored text.
-fn answer_converted<R: Responder, K: Sink>(
+// Answers a line whose stored text stands in these parts.
+fn answer_parts<R: Responder, K: Sink>(
     inner: &mut R,
+    foreign: Foreign,
     form: LineForm,
     parts: LineParts<'_>,
-    answer: Result<StoredText<'_>, ForeignFault>,
     out: &mut OutputBuffer,
     sink: &mut K,
 ) -> Result<bool, AllocError>
     ensures good { IfOk result (λ good. good
-        ≡ by_test (R.rules.is_good inner.old) (by_answer form (parts_of parts.entry) (as_answer answer.entry))) }
+        ≡ by_test (R.rules.is_good inner.old) (by_answer form (parts_of parts.entry) (converted foreign parts.entry.text.now))) }
     ensures reply { OnOk result (Puts (K.written sink.old) (K.written sink.new) (K.faults sink.old) (K.faults sink.new) out.old out.new
-        (by_reply (R.rules.reply inner.old) (by_answer form (parts_of parts.entry) (as_answer answer.entry)))) }
-    ensures after { OnOk result (inner.new
-        ≡ by_after (R.rules.after inner.old) inner.old (by_answer form (parts_of parts.entry) (as_answer answer.entry))) }
-    ensures wants { OnErr result
-        (by_test (R.rules.may_lack_memory inner.old) (by_answer form (parts_of parts.entry) (as_answer answer.entry)) ≡ true) }
+        (by_reply (R.rules.reply inner.old) (by_answer form (parts_of parts.entry) (converted foreign parts.entry.text.now)))) }
+    ensures after { OnOk result (inner.new ≡ by_after (R.rules.after inner.old) inner.old
+        (by_answer form (parts_of parts.entry) (converted foreign parts.entry.text.now))) }
+    ensures wants { OnErr result (by_test (R.rules.may_lack_memory inner.old)
+        (by_answer form (parts_of parts.entry) (converted foreign parts.entry.text.now)) ≡ true) }
     ensures nothing { OnErr result (Puts (K.written sink.old) (K.written sink.new) (K.faults sink.old) (K.faults sink.new) out.old out.new []) }
     ensures unchanged { OnErr result (inner.new ≡ inner.old) }
 {
-    match answer {
-        Ok(StoredText::Held(stored)) => {
-            answer_with(inner, form, parts, stored.as_bytes(), out, sink)
-        }
-        Ok(StoredText::Made(stored)) => {
-            answer_with(inner, form, parts, stored.as_slice(), out, sink)
-        }
+    let mut made = MadeText::new();
+    match stored_text(foreign, parts.text, &mut made) {
+        Ok(Some(held)) => answer_with(inner, form, parts, held.as_bytes(), out, sink),
+        Ok(None) => answer_with(inner, form, parts, made.as_slice(), out, sink),
         Err(fault) => answer_refused(inner, form, parts, fault, out, sink),
     }
 }
@@ -183,10 +180,7 @@ fn answer_foreign<R: Responder, K: Sink>(
     ensures unchanged { OnErr result (inner.new ≡ inner.old) }
 {
     match parts_in(form, line) {
-        Some(parts) => {
-            let answer = stored_text(foreign, parts.text);
-            answer_converted(inner, form, parts, answer, out, sink)
-        }
+        Some(parts) => answer_parts(inner, foreign, form, parts, out, sink),
         None => inner.answer(line, out, sink),
     }
 }

@@ -35,7 +35,10 @@ fn utf8_text(bytes: &[u8]) -> Option<&str>
     ensures text { MatchOption result (is_utf8 bytes.now ≡ false)
         (λ text. (is_utf8 bytes.now ≡ true) × (text.now ≡ bytes.now)) }
 {
-    text_of(bytes)
+    match text_of(bytes) {
+        Some(text) => Some(text),
+        None => None,
+    }
 }
 
 // The parts of a text, cut at its last tab.
@@ -87,6 +90,7 @@ fn text_parts<'a>(user: &'a [u8], text: &'a [u8]) -> Option<LineParts<'a>>
 }
 
 // The parts of a user, a colon, a password, a tab and a stored text.
+#[tactic(auto, unfolding(crate::specs::Parts::parts_in))]
 fn user_password_parts(line: &[u8]) -> Option<LineParts<'_>>
     ensures { as_parts result ≡ parts_in LineForm.UserPassword line.now }
 {
@@ -97,6 +101,7 @@ fn user_password_parts(line: &[u8]) -> Option<LineParts<'_>>
 }
 
 // The parts of a user, a colon and a stored text.
+#[tactic(auto, unfolding(crate::specs::Parts::parts_in))]
 fn user_text_parts(line: &[u8]) -> Option<LineParts<'_>>
     ensures { as_parts result ≡ parts_in LineForm.UserText line.now }
 {

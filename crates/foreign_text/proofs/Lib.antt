@@ -1,4 +1,4 @@
 mod Lengths
-mod Records
+pub mod Records
 mod Spelled
 mod Itself

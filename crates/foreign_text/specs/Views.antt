@@ -1,9 +1,8 @@
 -- What answers show.
-use Rattle.std.specs.Prelude.{ℕ, List, Result, Ok, Err}
+use Rattle.std.specs.Prelude.{ℕ, List, Option, Some, None, Result, Ok, Err}
+use Rattle.std.specs.Borrow.{Bor}
 use Rattle.foreign_text.specs.Pbkdf2.{Fields}
 use Rattle.foreign_text.specs.declared.pbkdf2.Pbkdf2Fields.{Pbkdf2Fields}
-use Rattle.foreign_text.specs.declared.converted.StoredText.{StoredText}
-use Rattle.foreign_text.specs.declared.converted.StoredText.TheVariants.{Held, Made}
 use Rattle.foreign_text.specs.declared.fault.ForeignFault.{ForeignFault}
 
 -- the fields as lists
@@ -11,12 +10,8 @@ abbrev pub as_fields : Result Pbkdf2Fields ForeignFault → Result Fields Foreig
 as_fields (Err e) = Err e
 as_fields (Ok f) = Ok (record { rounds = f.rounds.now; salt = f.salt.now; key = f.key.now })
 
--- the bytes of a stored text
-abbrev pub text_bytes : StoredText → List ℕ
-text_bytes (Held text) = text.now
-text_bytes (Made text) = text
-
--- the same of an answer
-abbrev pub as_answer : Result StoredText ForeignFault → Result (List ℕ) ForeignFault
-as_answer (Err e) = Err e
-as_answer (Ok t) = Ok (text_bytes t)
+-- the stored text of an answer: a part of the foreign text, or the one that was made
+abbrev pub as_answer : Result (Option (Bor (List ℕ))) ForeignFault → List ℕ → Result (List ℕ) ForeignFault
+as_answer (Err e) made = Err e
+as_answer (Ok (Some text)) made = Ok text.now
+as_answer (Ok None) made = Ok made

@@ -1,6 +1,6 @@
 //! Foreign texts converted.
 
-ghost use Rattle.std.specs.Prelude.{◌≡◌};
+ghost use Rattle.std.specs.Prelude.{◌≡◌, ℕ, List};
 ghost use Rattle.foreign_text.specs.Converted.{adapted_fields, adapted_pbkdf2, as_it_is, converted, django_fields, django_pbkdf2};
 ghost use Rattle.foreign_text.specs.Views.{as_answer, as_fields};
 
@@ -24,30 +24,22 @@ pub enum Foreign {
     Passlib,
 }
 
-/// A stored text.
-#[derive(Clone, Copy, Debug)]
-pub enum StoredText<'a> {
-    /// A part of the foreign text, or all of it.
-    Held(&'a str),
-    /// A text that was made: ASCII.
-    Made(ShortBytes<TEXT_MAX>),
-}
+/// A text that is made: ASCII.
+pub type MadeText = ShortBytes<TEXT_MAX>;
 
 /// A part of a foreign text, where it begins with `sign`.
-pub(crate) fn as_it_is<'a>(sign: &str, rest: &'a str) -> Result<StoredText<'a>, ForeignFault>
-    ensures { as_answer result ≡ as_it_is sign.now rest.now }
+pub(crate) fn as_it_is<'a>(sign: &str, rest: &'a str) -> Result<Option<&'a str>, ForeignFault>
+    ensures { (made : List ℕ) → as_answer result made ≡ as_it_is sign.now rest.now }
 {
     if begins_with(rest, sign) {
-        Ok(StoredText::Held(rest))
+        Ok(Some(rest))
     } else {
         Err(ForeignFault::Form)
     }
 }
 
 // What Django's fields stand for.
-fn django_fields(
-    fields: Result<Pbkdf2Fields<'_>, ForeignFault>,
-) -> Result<ShortBytes<TEXT_MAX>, ForeignFault>
+fn django_fields(fields: Result<Pbkdf2Fields<'_>, ForeignFault>) -> Result<MadeText, ForeignFault>
     ensures { result ≡ django_fields (as_fields fields.entry) }
 {
     let fields = match fields {
@@ -65,9 +57,7 @@ fn django_fields(
 }
 
 // What passlib's and OpenLDAP's fields stand for.
-fn adapted_fields(
-    fields: Result<Pbkdf2Fields<'_>, ForeignFault>,
-) -> Result<ShortBytes<TEXT_MAX>, ForeignFault>
+fn adapted_fields(fields: Result<Pbkdf2Fields<'_>, ForeignFault>) -> Result<MadeText, ForeignFault>
     ensures { result ≡ adapted_fields (as_fields fields.entry) }
 {
     let fields = match fields {
@@ -87,33 +77,44 @@ fn adapted_fields(
     }
 }
 
-// A text that was made.
-fn made<'a>(
-    text: Result<ShortBytes<TEXT_MAX>, ForeignFault>,
-) -> Result<StoredText<'a>, ForeignFault>
-    ensures { as_answer result ≡ text }
+// Puts a text that was made.
+fn put_made<'a>(
+    text: Result<MadeText, ForeignFault>,
+    made: &mut MadeText,
+) -> Result<Option<&'a str>, ForeignFault>
+    ensures { as_answer result made.new ≡ text }
 {
     match text {
-        Ok(text) => Ok(StoredText::Made(text)),
+        Ok(text) => {
+            *made = text;
+            Ok(None)
+        }
         Err(fault) => Err(fault),
     }
 }
 
 /// What stands behind `pbkdf2_sha256$` of Django.
-pub(crate) fn django_pbkdf2(rest: &str) -> Result<StoredText<'_>, ForeignFault>
-    ensures { as_answer result ≡ django_pbkdf2 rest.now }
+pub(crate) fn django_pbkdf2<'a>(
+    rest: &'a str,
+    made: &mut MadeText,
+) -> Result<Option<&'a str>, ForeignFault>
+    ensures { as_answer result made.new ≡ django_pbkdf2 rest.now }
 {
-    made(django_fields(fields_of(rest)))
+    put_made(django_fields(fields_of(rest)), made)
 }
 
 /// What stands behind LDAP's tag or passlib's identifier of PBKDF2.
-pub(crate) fn adapted_pbkdf2(rest: &str) -> Result<StoredText<'_>, ForeignFault>
-    ensures { as_answer result ≡ adapted_pbkdf2 rest.now }
+pub(crate) fn adapted_pbkdf2<'a>(
+    rest: &'a str,
+    made: &mut MadeText,
+) -> Result<Option<&'a str>, ForeignFault>
+    ensures { as_answer result made.new ≡ adapted_pbkdf2 rest.now }
 {
-    made(adapted_fields(fields_of(rest)))
+    put_made(adapted_fields(fields_of(rest)), made)
 }
 
-/// The stored text that a foreign text stands for, in the one spelling that `any_check` reads.
+/// The stored text that a foreign text stands for, in the one spelling that `any_check` reads: a part of the foreign text; or
+/// none, and then the text is put into `made`.
 ///
 /// A record of PBKDF2 is made of the rounds, the salt and the key: of Django's salt the bytes of its characters. A text that
 /// stands in the foreign one is given as it stands there, and so is one that begins with `$`, but for passlib's own: whether
@@ -122,12 +123,16 @@ pub(crate) fn adapted_pbkdf2(rest: &str) -> Result<StoredText<'_>, ForeignFault>
 /// # Errors
 ///
 /// The first cause: the scheme isn't read; the form; then of PBKDF2 the rounds, the salt, its length, the key and its length.
-pub fn stored_text(foreign: Foreign, text: &str) -> Result<StoredText<'_>, ForeignFault>
-    ensures converted { as_answer result ≡ converted foreign text.now }
+pub fn stored_text<'a>(
+    foreign: Foreign,
+    text: &'a str,
+    made: &mut MadeText,
+) -> Result<Option<&'a str>, ForeignFault>
+    ensures converted { as_answer result made.new ≡ converted foreign text.now }
 {
     match foreign {
-        Foreign::Django => django(text),
-        Foreign::Ldap => ldap(text),
-        Foreign::Passlib => passlib(text),
+        Foreign::Django => django(text, made),
+        Foreign::Ldap => ldap(text, made),
+        Foreign::Passlib => passlib(text, made),
     }
 }

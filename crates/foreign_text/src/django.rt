@@ -5,7 +5,7 @@ ghost use Rattle.foreign_text.specs.Converted.{django};
 ghost use Rattle.foreign_text.specs.Names.{django_digest, django_unread};
 ghost use Rattle.foreign_text.specs.Views.{as_answer};
 
-use crate::converted::{StoredText, as_it_is, django_pbkdf2};
+use crate::converted::{MadeText, as_it_is, django_pbkdf2};
 use crate::{ForeignFault, Unread};
 use pieces::{begins_with, behind};
 
@@ -41,14 +41,17 @@ fn django_unread(text: &str) -> Unread
 
 /// The stored text of a text of Django.
 #[tactic(auto, unfolding(crate::specs::Converted::django))]
-pub(crate) fn django(text: &str) -> Result<StoredText<'_>, ForeignFault>
-    ensures { as_answer result ≡ django text.now }
+pub(crate) fn django<'a>(
+    text: &'a str,
+    made: &mut MadeText,
+) -> Result<Option<&'a str>, ForeignFault>
+    ensures { as_answer result made.new ≡ django text.now }
 {
     if begins_with(text, "$") {
-        return Ok(StoredText::Held(text));
+        return Ok(Some(text));
     }
     if let Some(rest) = behind(text, "pbkdf2_sha256$") {
-        return django_pbkdf2(rest);
+        return django_pbkdf2(rest, made);
     }
     if let Some(rest) = behind(text, "argon2") {
         return as_it_is("$argon2", rest);

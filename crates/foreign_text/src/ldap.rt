@@ -1,12 +1,12 @@
 //! Texts of LDAP's `userPassword`.
 
-ghost use Rattle.std.specs.Prelude.{◌≡◌};
+ghost use Rattle.std.specs.Prelude.{◌≡◌, ℕ, List};
 ghost use Rattle.pieces.specs.Pieces.{lent};
 ghost use Rattle.foreign_text.specs.Converted.{ldap, ldap_crypt};
 ghost use Rattle.foreign_text.specs.Names.{behind_tag, is_tagged, ldap_digest, ldap_pbkdf2, ldap_sha2, ldap_unread};
 ghost use Rattle.foreign_text.specs.Views.{as_answer};
 
-use crate::converted::{StoredText, adapted_pbkdf2, as_it_is};
+use crate::converted::{MadeText, adapted_pbkdf2, as_it_is};
 use crate::{ForeignFault, Unread};
 use pieces::{begins_with, behind};
 
@@ -83,11 +83,11 @@ fn ldap_unread(text: &str) -> Unread
 }
 
 // What crypt(3) takes.
-fn ldap_crypt(rest: &str) -> Result<StoredText<'_>, ForeignFault>
-    ensures { as_answer result ≡ ldap_crypt rest.now }
+fn ldap_crypt(rest: &str) -> Result<Option<&str>, ForeignFault>
+    ensures { (made : List ℕ) → as_answer result made ≡ ldap_crypt rest.now }
 {
     if begins_with(rest, "$") {
-        Ok(StoredText::Held(rest))
+        Ok(Some(rest))
     } else {
         Err(ForeignFault::Unread(Unread::DesCrypt))
     }
@@ -95,11 +95,11 @@ fn ldap_crypt(rest: &str) -> Result<StoredText<'_>, ForeignFault>
 
 /// The stored text of a text of LDAP.
 #[tactic(auto, unfolding(crate::specs::Converted::ldap))]
-pub(crate) fn ldap(text: &str) -> Result<StoredText<'_>, ForeignFault>
-    ensures { as_answer result ≡ ldap text.now }
+pub(crate) fn ldap<'a>(text: &'a str, made: &mut MadeText) -> Result<Option<&'a str>, ForeignFault>
+    ensures { as_answer result made.new ≡ ldap text.now }
 {
     if begins_with(text, "$") {
-        return Ok(StoredText::Held(text));
+        return Ok(Some(text));
     }
     if let Some(rest) = behind_tag(text, "{CRYPT}", "{crypt}") {
         return ldap_crypt(rest);
@@ -108,7 +108,7 @@ pub(crate) fn ldap(text: &str) -> Result<StoredText<'_>, ForeignFault>
         return as_it_is("$argon2", rest);
     }
     if let Some(rest) = behind_tag(text, "{PBKDF2-SHA256}", "{pbkdf2-sha256}") {
-        return adapted_pbkdf2(rest);
+        return adapted_pbkdf2(rest, made);
     }
     Err(ForeignFault::Unread(ldap_unread(text)))
 }

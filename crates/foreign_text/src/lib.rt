@@ -16,6 +16,6 @@ mod pbkdf2;
 #[cfg(test)]
 mod tests;
 
-pub use converted::{Foreign, StoredText, stored_text};
+pub use converted::{Foreign, MadeText, stored_text};
 pub use fault::{ForeignFault, Unread};
 pub use pbkdf2::TEXT_MAX;

@@ -1,11 +1,11 @@
 //! Texts of passlib.
 
-ghost use Rattle.std.specs.Prelude.{◌≡◌};
+ghost use Rattle.std.specs.Prelude.{◌≡◌, ℕ, List};
 ghost use Rattle.foreign_text.specs.Converted.{begins_with_digit, passlib, passlib_other, passlib_pbkdf2};
 ghost use Rattle.foreign_text.specs.Names.{passlib_unread};
 ghost use Rattle.foreign_text.specs.Views.{as_answer};
 
-use crate::converted::{StoredText, adapted_pbkdf2};
+use crate::converted::{MadeText, adapted_pbkdf2};
 use crate::{ForeignFault, Unread};
 use pieces::{begins_with, behind};
 
@@ -37,26 +37,29 @@ fn passlib_unread(text: &str) -> Option<Unread>
 }
 
 // A text of another scheme than PBKDF2 with SHA-256.
-fn passlib_other(text: &str) -> Result<StoredText<'_>, ForeignFault>
-    ensures { as_answer result ≡ passlib_other text.now (passlib_unread text.now) }
+fn passlib_other(text: &str) -> Result<Option<&str>, ForeignFault>
+    ensures { (made : List ℕ) → as_answer result made ≡ passlib_other text.now (passlib_unread text.now) }
 {
     match passlib_unread(text) {
         Some(scheme) => Err(ForeignFault::Unread(scheme)),
-        None => Ok(StoredText::Held(text)),
+        None => Ok(Some(text)),
     }
 }
 
 /// The stored text of a text of passlib.
 #[tactic(auto, unfolding(crate::specs::Converted::passlib))]
-pub(crate) fn passlib(text: &str) -> Result<StoredText<'_>, ForeignFault>
-    ensures { as_answer result ≡ passlib text.now }
+pub(crate) fn passlib<'a>(
+    text: &'a str,
+    made: &mut MadeText,
+) -> Result<Option<&'a str>, ForeignFault>
+    ensures { as_answer result made.new ≡ passlib text.now }
 {
     let Some(rest) = behind(text, "$pbkdf2-sha256$") else {
         return passlib_other(text);
     };
     if begins_with_digit(rest) {
-        adapted_pbkdf2(rest)
+        adapted_pbkdf2(rest, made)
     } else {
-        Ok(StoredText::Held(text))
+        Ok(Some(text))
     }
 }

@@ -1,23 +1,21 @@
 //! Texts of Django 3.2, passlib 1.7.4 and the Python module argon2 21.1. The records for those of PBKDF2 were put together by
 //! Python's base64 and passlib's `ab64_decode`.
 
-use crate::{Foreign, ForeignFault, StoredText, Unread, stored_text};
+use crate::{Foreign, ForeignFault, MadeText, Unread, stored_text};
 
-// Whether the answer is this text.
-fn is_text(answer: Result<StoredText<'_>, ForeignFault>, text: &str) -> bool {
-    match answer {
-        Ok(StoredText::Held(held)) => held == text,
-        Ok(StoredText::Made(made)) => made.as_slice() == text.as_bytes(),
+// Whether the stored text is this one.
+fn is_converted(foreign: Foreign, text: &str, stored: &str) -> bool {
+    let mut made = MadeText::new();
+    match stored_text(foreign, text, &mut made) {
+        Ok(Some(held)) => held == stored,
+        Ok(None) => made.as_slice() == stored.as_bytes(),
         Err(_) => false,
     }
 }
 
 // The fault, if there is one.
-fn fault_of(answer: Result<StoredText<'_>, ForeignFault>) -> Option<ForeignFault> {
-    match answer {
-        Ok(_) => None,
-        Err(fault) => Some(fault),
-    }
+fn fault_of(foreign: Foreign, text: &str) -> Option<ForeignFault> {
+    stored_text(foreign, text, &mut MadeText::new()).err()
 }
 
 // Foreign texts, and the stored texts for them.
@@ -98,8 +96,8 @@ const CONVERTED: [(Foreign, &str, &str); 15] = [
 #[test]
 fn converted_texts(rt: HostRuntime) {
     for (foreign, text, stored) in CONVERTED {
-        assert!(rt; is_text(stored_text(foreign, text), stored), "{text}");
-        assert!(rt; is_text(stored_text(foreign, stored), stored), "{stored}");
+        assert!(rt; is_converted(foreign, text, stored), "{text}");
+        assert!(rt; is_converted(foreign, stored, stored), "{stored}");
     }
 }
 
@@ -207,7 +205,7 @@ const UNREAD: [(Foreign, &str, Unread, &str); 16] = [
 fn unread_schemes(rt: HostRuntime) {
     for (foreign, text, scheme, word) in UNREAD {
         let fault = ForeignFault::Unread(scheme);
-        assert_eq!(rt; fault_of(stored_text(foreign, text)), Some(fault), "{text}");
+        assert_eq!(rt; fault_of(foreign, text), Some(fault), "{text}");
         assert_eq!(rt; fault.word(), word);
     }
 }
@@ -357,7 +355,7 @@ const FAULTS: [(Foreign, &str, ForeignFault, &str); 23] = [
 #[test]
 fn faults(rt: HostRuntime) {
     for (foreign, text, fault, word) in FAULTS {
-        assert_eq!(rt; fault_of(stored_text(foreign, text)), Some(fault), "{text}");
+        assert_eq!(rt; fault_of(foreign, text), Some(fault), "{text}");
         assert_eq!(rt; fault.word(), word);
     }
 }

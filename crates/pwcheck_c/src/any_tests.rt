@@ -54,9 +54,21 @@ const TEXTS: [&str; 11] = [
 fn verdicts_of_every_scheme(rt: HostRuntime) {
     for text in TEXTS {
         let stored = text.as_bytes();
-        assert_eq!(rt; pwcheck_check_any(rt.alloc(), b"secret", stored, &NONE), 0, "{text}");
-        assert_eq!(rt; pwcheck_check_any(rt.alloc(), b"secret", stored, &LEAST), 0, "{text}");
-        assert_eq!(rt; pwcheck_check_any(rt.alloc(), b"Secret", stored, &NONE), 1, "{text}");
+        assert_eq!(rt;
+            pwcheck_check_any(rt.alloc(), b"secret", stored, &NONE),
+            0,
+            "{text}"
+        );
+        assert_eq!(rt;
+            pwcheck_check_any(rt.alloc(), b"secret", stored, &LEAST),
+            0,
+            "{text}"
+        );
+        assert_eq!(rt;
+            pwcheck_check_any(rt.alloc(), b"Secret", stored, &NONE),
+            1,
+            "{text}"
+        );
     }
 }
 
@@ -67,14 +79,35 @@ fn causes_by_number(rt: HostRuntime) {
         (b"*", 31),
         (b"", 31),
         (b"$1$abcdefgh", 32),
-        (b"$2x$04$abcdefghijklmnopqrstuu2r9OfJnfCsdneAXAGHnS4UpFFP8WIrW", 33),
-        (b"$2b$03$abcdefghijklmnopqrstuu2r9OfJnfCsdneAXAGHnS4UpFFP8WIrW", 34),
-        (b"$2b$04$abcdefghijklmnopqrstuv2r9OfJnfCsdneAXAGHnS4UpFFP8WIrW", 35),
-        (b"$2b$04$abcdefghijklmnopqrstuu2r9OfJnfCsdneAXAGHnS4UpFFP8WIr", 36),
-        (b"$y$/75$0123456789ab$kb1fsIrDP1wOa4Q3gNpxZkfwQ3ce8kmPbnemuN65IT2", 37),
-        (b"$y$jT5$0123456789ab$kb1fsIrDP1wOa4Q3gNpxZkfwQ3ce8kmPbnemuN65IT2", 38),
+        (
+            b"$2x$04$abcdefghijklmnopqrstuu2r9OfJnfCsdneAXAGHnS4UpFFP8WIrW",
+            33,
+        ),
+        (
+            b"$2b$03$abcdefghijklmnopqrstuu2r9OfJnfCsdneAXAGHnS4UpFFP8WIrW",
+            34,
+        ),
+        (
+            b"$2b$04$abcdefghijklmnopqrstuv2r9OfJnfCsdneAXAGHnS4UpFFP8WIrW",
+            35,
+        ),
+        (
+            b"$2b$04$abcdefghijklmnopqrstuu2r9OfJnfCsdneAXAGHnS4UpFFP8WIr",
+            36,
+        ),
+        (
+            b"$y$/75$0123456789ab$kb1fsIrDP1wOa4Q3gNpxZkfwQ3ce8kmPbnemuN65IT2",
+            37,
+        ),
+        (
+            b"$y$jT5$0123456789ab$kb1fsIrDP1wOa4Q3gNpxZkfwQ3ce8kmPbnemuN65IT2",
+            38,
+        ),
         (b"$y$j75$0123456789ab", 39),
-        (b"$7$T/..../....SodiumChloride$nlEbTww0ryKdVNlzWsYxiiWbBXRoFx2X8iNJtJTvzX.", 40),
+        (
+            b"$7$T/..../....SodiumChloride$nlEbTww0ryKdVNlzWsYxiiWbBXRoFx2X8iNJtJTvzX.",
+            40,
+        ),
         (b"$7$4/..../....SodiumChloride", 41),
         (b"$5$rounds=1$abcdefgh$x", 15),
         (b"$scrypt$ln=4,r=8,p=1$c2FsdHNhbHRzYWx0", 28),
@@ -85,29 +118,65 @@ fn causes_by_number(rt: HostRuntime) {
         assert_eq!(rt; got, number, "{stored:?}");
     }
     let bcrypt = TEXTS[4].as_bytes();
-    assert_eq!(rt; pwcheck_check_any(rt.alloc(), b"sec\0ret", bcrypt, &NONE), 42);
-    assert_eq!(rt; pwcheck_check_any(rt.alloc(), &[b'a'; 4_097], bcrypt, &NONE), 4);
+    assert_eq!(rt;
+        pwcheck_check_any(rt.alloc(), b"sec\0ret", bcrypt, &NONE),
+        42
+    );
+    assert_eq!(rt;
+        pwcheck_check_any(rt.alloc(), &[b'a'; 4_097], bcrypt, &NONE),
+        4
+    );
 }
 
 // Each bound alone; a text above one is answered at once, as nothing is hashed.
 #[test]
 fn bounds(rt: HostRuntime) {
     let rows: [(&[u8], i32); 6] = [
-        (b"$5$rounds=999999999$abcdefgh$gruCpC7VkOTspMQTTSAR8mtlO9Upms.fwqE5y16JVM.", 30),
-        (b"$2b$31$abcdefghijklmnopqrstuu2r9OfJnfCsdneAXAGHnS4UpFFP8WIrW", 30),
-        (b"$y$jFT$0123456789ab$kb1fsIrDP1wOa4Q3gNpxZkfwQ3ce8kmPbnemuN65IT2", 30),
-        (b"$scrypt$ln=17,r=8,p=1024$c2FsdHNhbHRzYWx0$09/untC+3Bg44eiJQ8bqhTXgE2ali+ykLaojkJZlF9U", 30),
-        (b"$pbkdf2-sha256$i=10000000,l=32$c2FsdHNhbHRzYWx0$sVaWem31qy3rw+Ldi3plA/XzhMSNi9/XHnnD1Ytj05o", 30),
-        (b"$argon2id$v=19$m=2097152,t=1,p=1$c2FsdHNhbHRzYWx0$Sm3MnLdCFk0Af+croKgebRoqqmhbKd88iiW3yUOXn78", 30),
+        (
+            b"$5$rounds=999999999$abcdefgh$gruCpC7VkOTspMQTTSAR8mtlO9Upms.fwqE5y16JVM.",
+            30,
+        ),
+        (
+            b"$2b$31$abcdefghijklmnopqrstuu2r9OfJnfCsdneAXAGHnS4UpFFP8WIrW",
+            30,
+        ),
+        (
+            b"$y$jFT$0123456789ab$kb1fsIrDP1wOa4Q3gNpxZkfwQ3ce8kmPbnemuN65IT2",
+            30,
+        ),
+        (
+            b"$scrypt$ln=17,r=8,p=1024$c2FsdHNhbHRzYWx0$09/untC+3Bg44eiJQ8bqhTXgE2ali+ykLaojkJZlF9U",
+            30,
+        ),
+        (
+            b"$pbkdf2-sha256$i=10000000,l=32$c2FsdHNhbHRzYWx0$sVaWem31qy3rw+Ldi3plA/XzhMSNi9/XHnnD1Ytj05o",
+            30,
+        ),
+        (
+            b"$argon2id$v=19$m=2097152,t=1,p=1$c2FsdHNhbHRzYWx0$Sm3MnLdCFk0Af+croKgebRoqqmhbKd88iiW3yUOXn78",
+            30,
+        ),
     ];
     for (stored, number) in rows {
         let got = pwcheck_check_any(rt.alloc(), b"secret", stored, &LEAST);
         assert_eq!(rt; got, number, "{stored:?}");
     }
-    let limits = Limits { bcrypt_cost: 4, ..NONE };
+    let limits = Limits {
+        bcrypt_cost: 4,
+        ..NONE
+    };
     let stored = TEXTS[5].as_bytes();
-    assert_eq!(rt; pwcheck_check_any(rt.alloc(), b"secret", stored, &limits), 30);
-    let limits = Limits { argon2_lanes: 1, ..NONE };
+    assert_eq!(rt;
+        pwcheck_check_any(rt.alloc(), b"secret", stored, &limits),
+        30
+    );
+    let limits = Limits {
+        argon2_lanes: 1,
+        ..NONE
+    };
     let stored = TEXTS[9].as_bytes();
-    assert_eq!(rt; pwcheck_check_any(rt.alloc(), b"secret", stored, &limits), 30);
+    assert_eq!(rt;
+        pwcheck_check_any(rt.alloc(), b"secret", stored, &limits),
+        30
+    );
 }
