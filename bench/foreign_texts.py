@@ -2,7 +2,8 @@
 """Asks `pwtool` about texts that Django's own hashers and passlib make on the spot: every answer must be as the maker says.
 
 For each foreign spelling (django, ldap, passlib) it makes 300 texts of random passwords with random salts and costs, by
-each maker in turn, and beside each a wrong password. The makers' own check says which of both is the text's. Then
+each maker in turn whose texts are read, and ten by each whose texts aren't. Each is asked about its password or another;
+the maker's own check says which. Then
     pwtool check --from SPELLING           answers lines of a password, a tab and a text,
     pwtool check --users --from SPELLING   the same behind a user,
     pwtool join --from SPELLING            a file of users and texts beside one of users and passwords, and
@@ -173,17 +174,20 @@ SPELLINGS = {"django": of_django, "ldap": of_ldap, "passlib": of_others}
 
 # ---- rows
 
-def rows_of(rng, makers, count):
+def row_of(rng, maker, is_right):
     """A maker's name, its scheme, a password, a text, and whether its maker says that both belong together."""
-    rows = []
-    for number in range(count):
-        name, scheme, make, verify = makers[number % len(makers)]
-        word = password(rng)
-        text = make(rng, word)
-        need("\t" not in text and "\n" not in text and ":" not in text, f"{name} makes {text!r}")
-        asked = word if number // len(makers) % 2 == 0 else password(rng) + "x"
-        rows.append((name, scheme, asked, text, bool(verify(asked, text))))
-    return rows
+    name, scheme, make, verify = maker
+    word = password(rng)
+    text = make(rng, word)
+    need("\t" not in text and "\n" not in text and ":" not in text, f"{name} makes {text!r}")
+    asked = word if is_right else password(rng) + "x"
+    return name, scheme, asked, text, bool(verify(asked, text))
+
+
+def rows_of(rng, makers, count):
+    read = [maker for maker in makers if not maker[1].startswith("unsupported-")]
+    rows = [row_of(rng, read[k % len(read)], k // len(read) % 2 == 0) for k in range(count)]
+    return rows + [row_of(rng, maker, k % 2 == 0) for maker in makers if maker not in read for k in range(10)]
 
 
 def wanted(scheme, belongs):

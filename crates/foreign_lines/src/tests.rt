@@ -45,7 +45,7 @@ const DJANGO: &[u8] =
 
 const DJANGO_WORDS: &[u8] =
     b"match\nmismatch\nmismatch\nmismatch\nmatch\nmatch\nunsupported-bcrypt-sha256\n\
-    foreign-salt-length\nbadline\nbadline\nno-scheme\n";
+    foreign-salt-length\nbadline\nbadline\nunsupported-scheme\n";
 
 #[test]
 fn lines_of_django(rt: HostRuntime) {
