@@ -30,10 +30,9 @@ built() { # PROGRAM
   local out=$top/crates/$1/out newer
   if may_build; then
     echo "building $1, which proves what isn't proved: this may take minutes"
-    # rt leaves what the program wrote in out/stdout once it is proved, built and run. Its own status is no matter.
-    rm -f "$out/stdout"
-    (cd "$top/crates/$1" && rt run </dev/null >/dev/null 2>&1) || true
-    [ -e "$out/stdout" ] || fail "$1 isn't proved or not built: see (cd crates/$1 && rt run)"
+    # rt says which program it runs once that is proved and built. The program's own status is no matter.
+    (cd "$top/crates/$1" && rt run </dev/null 2>&1 >/dev/null || true) | grep -q "^rt: running out/$1" \
+      || fail "$1 isn't proved or not built: see (cd crates/$1 && rt run)"
     return
   fi
   [ -e "$out/$1" ] || fail "$out/$1 isn't built, and the kit's rt isn't here"

@@ -1,5 +1,5 @@
 #!/usr/bin/env python3
-"""Lays out the C library in a folder as a package would: include/pwcheck.h, lib/libpwcheck.a, lib/libpwcheck.so.1.0
+"""Lays out the C library in a folder as a package would: include/pwcheck.h, lib/libpwcheck.a, lib/libpwcheck.so.1.1
 with the links libpwcheck.so.1 and libpwcheck.so, and lib/pkgconfig/pwcheck.pc.
 
     bindings/library.py FOLDER [PREFIX]

@@ -51,6 +51,18 @@ ANSWERS = {
     "Checked (Err of_stored.NoHash)": "NO_HASH",
     "Checked (Err of_stored.Kdf)": "KDF",
     "OverCost": "OVER_COST",
+    "NoScheme": "NO_SCHEME",
+    "Md5Format": "MD5_FORMAT",
+    "BcryptObsolete": "BCRYPT_OBSOLETE",
+    "BcryptCost": "BCRYPT_COST",
+    "BcryptB64": "BCRYPT_B64",
+    "BcryptFormat": "BCRYPT_FORMAT",
+    "YescryptFlavor": "YESCRYPT_FLAVOR",
+    "YescryptCost": "YESCRYPT_COST",
+    "YescryptFormat": "YESCRYPT_FORMAT",
+    "ScryptCost": "SCRYPT_COST",
+    "ScryptFormat": "SCRYPT_FORMAT",
+    "ZeroByte": "ZERO_BYTE",
 }
 ALPHABETS = {name: name.upper() for name in (
     "base64", "base64_unpadded", "base64_url", "base64_url_unpadded", "base64_bcrypt", "base64_crypt", "base64_pbkdf2",
@@ -144,6 +156,7 @@ def versions():
     need(f"PWCHECK_{version} {{" in read("bindings", "exports.map"), f"the version of symbols isn't {version}")
     need(f'version = "{version}.0"' in read("bindings", "rust", "Cargo.toml"), f"Cargo.toml isn't {version}.0")
     need(f"libpwcheck.so.{version}" in read("bindings", "library.py"), f"library.py doesn't tell of {version}")
+    need(f'version = "{version}.0"' in read("bindings", "python", "pyproject.toml"), f"pyproject.toml isn't {version}.0")
     return {"VERSION_MAJOR": int(version.split(".")[0]), "VERSION_MINOR": int(version.split(".")[1])}
 
 
@@ -155,6 +168,24 @@ def header_numbers(header):
     need(len(pairs) == len({name for name, _ in pairs}), "a name stands twice in the header")
     need(len(re.findall(r"PWCHECK_[A-Z0-9_]+ = ", bare)) == bare.count(" = "), "an enumerator isn't read")
     return {name: int(n) for name, n in pairs}
+
+
+def limits_agree(header):
+    """The limits stand in the header and in the bindings in the order of the definition of `CostLimits`."""
+    struct = re.search(r"pub struct CostLimits \{(.*?)^\}", read("crates", "any_check", "src", "cost.rt"), re.M | re.S).group(1)
+    wanted = re.findall(r"^ +pub (\w+):", struct, re.M)
+    texts = {
+        "pwcheck_c": re.search(r"pub struct Limits \{(.*?)^\}", read("crates", "pwcheck_c", "src", "any.rt"), re.M | re.S),
+        "the header": re.search(r"^struct pwcheck_limits \{(.*?)^\};", header, re.M | re.S),
+        "Python": re.search(r"_fields_ = \[(.*?)\]", read("bindings", "python", "pwcheck.py"), re.S),
+        "Rust": re.search(r"pub struct Limits \{(.*?)^\}", read("bindings", "rust", "src", "lib.rs"), re.M | re.S),
+    }
+    for name, found in texts.items():
+        fields = re.findall("|".join(wanted), re.sub(r"/\*.*?\*/|//[^\n]*", "", found.group(1), flags=re.S))
+        need(fields == wanted, f"{name} has the limits {' '.join(fields)}")
+    none = re.search(r"^#define PWCHECK_LIMITS_NONE(.*?)\}$", header, re.M | re.S).group(1)
+    need(none.count("UINT32_MAX") == len(wanted), "PWCHECK_LIMITS_NONE has another number of limits")
+    print(f"numbers.py: {len(wanted)} limits stand everywhere in the order of their definition")
 
 
 def wanted_numbers():
@@ -177,7 +208,8 @@ def rust_numbers():
     table = re.search(r"^pub const ANSWERS: .* = \[\n(.*?)^\];$", text, re.M | re.S).group(1)
 
     def upper(name):
-        return {"NotUtf8": "NOT_UTF8", "PhcB64": "PHC_B64", "NotBase64": "NOT_BASE64", "ShaBase64": "SHA_BASE64"}.get(
+        return {"NotUtf8": "NOT_UTF8", "PhcB64": "PHC_B64", "NotBase64": "NOT_BASE64", "ShaBase64": "SHA_BASE64",
+                "Md5Format": "MD5_FORMAT", "BcryptB64": "BCRYPT_B64"}.get(
             name, re.sub(r"(?<!^)(?=[A-Z])", "_", name).upper())
 
     found = {upper(name): place for place, name in enumerate(re.findall(r"Answer::([A-Za-z0-9]+),", table))}
@@ -230,6 +262,7 @@ def main():
     need(not other, f"the header has other numbers than the definitions: {' '.join(other)}")
     print(f"numbers.py: {len(wanted)} numbers of the header are those of the definitions")
     bindings_agree(wanted)
+    limits_agree(header)
     if swaps:
         try_swaps(wanted, header)
 

@@ -103,6 +103,31 @@ def compare_words(found):
         print(f"{name}: {len(got)} lines, {len(set(got))} words, as the program")
 
 
+# Texts of the password "secret", by openssl, libxcrypt, Python's hashlib and the program argon2.
+ANY = {
+    b"$1$abcdefgh$cHJi5PXp/ki/ktXzqlk6I1": {},
+    b"$5$abcdefgh$gruCpC7VkOTspMQTTSAR8mtlO9Upms.fwqE5y16JVM.": {"sha_rounds": 4999},
+    b"$2b$04$abcdefghijklmnopqrstuu2r9OfJnfCsdneAXAGHnS4UpFFP8WIrW": {"bcrypt_cost": 3},
+    b"$scrypt$ln=4,r=8,p=1$c2FsdHNhbHRzYWx0$09/untC+3Bg44eiJQ8bqhTXgE2ali+ykLaojkJZlF9U": {"scrypt_r": 7},
+    b"$pbkdf2-sha256$i=1000,l=32$c2FsdHNhbHRzYWx0$sVaWem31qy3rw+Ldi3plA/XzhMSNi9/XHnnD1Ytj05o": {"pbkdf2_rounds": 999},
+    b"$argon2id$v=19$m=64,t=1,p=1$c2FsdHNhbHRzYWx0$Sm3MnLdCFk0Af+croKgebRoqqmhbKd88iiW3yUOXn78": {"argon2_memory": 63},
+    b"$y$j75$0123456789ab$kb1fsIrDP1wOa4Q3gNpxZkfwQ3ce8kmPbnemuN65IT2": {"yescrypt_ln": 1},
+}
+
+
+def compare_any(pwcheck):
+    """Texts of every scheme, their verdicts, the words of causes, and a limit below each."""
+    answer = pwcheck.Answer
+    for text, limits in ANY.items():
+        need(pwcheck.check_any(b"secret", text) == answer.MATCH, f"no match for {text}")
+        need(pwcheck.check_any(b"Secret", text) == answer.MISMATCH, f"no mismatch for {text}")
+        if limits:
+            need(pwcheck.check_any(b"secret", text, pwcheck.Limits(**limits)) == answer.OVER_COST, f"no bound for {text}")
+    for text, word in [(b"*", "no-scheme"), (b"$1$abcdefgh", "md5-format"), (b"$2b$03$x", "bcrypt-format"),
+                       (b"$y$j75$0123456789ab", "yescrypt-format"), (b"$5$a", "sha-format"), (b"\xff", "not-utf8")]:
+        need(pwcheck.word(pwcheck.check_any(b"secret", text)) == word, f"another word than {word} for {text}")
+
+
 def refused(call, *arguments):
     try:
         call(*arguments)
@@ -238,6 +263,7 @@ def compare_python(lib):
     compare_texts(pwcheck)
     compare_scrypt_texts(pwcheck)
     compare_limits(pwcheck)
+    compare_any(pwcheck)
     need(pwcheck.version() == pwcheck.VERSION == version(), "another version")
     need(pwcheck.same(b"abc", b"abc") and not pwcheck.same(b"abc", b"abd") and not pwcheck.same(b"abc", b"ab"), "same")
     for number in (-1, 31, 1 << 30, 1 << 32, -1 << 31):

@@ -82,6 +82,61 @@ static void check_all(const uint8_t *password, size_t n, int is_text, int all)
     }
 }
 
+/* Texts of every scheme, all of the password "secret", and of one a limit that is below it. */
+static const struct any_row {
+    const char *text;
+    int other;          /* what another password is answered */
+    size_t limit;       /* the place of the limit */
+    uint32_t below;     /* the greatest number of that limit that refuses the text */
+} ANY[] = {
+    {"$1$abcdefgh$cHJi5PXp/ki/ktXzqlk6I1", PWCHECK_MISMATCH, 12, 0},
+    {"$5$rounds=1500$abcdefgh$qXUmNmbLEOn5YPWvewYoPCAAHp5vzLn73xcpCUC256C", PWCHECK_MISMATCH, 0, 1499},
+    {"$2b$04$abcdefghijklmnopqrstuu2r9OfJnfCsdneAXAGHnS4UpFFP8WIrW", PWCHECK_MISMATCH, 1, 3},
+    {"$pbkdf2-sha256$i=1000,l=32$c2FsdHNhbHRzYWx0$sVaWem31qy3rw+Ldi3plA/XzhMSNi9/XHnnD1Ytj05o", PWCHECK_MISMATCH, 5, 999},
+    {"$scrypt$ln=4,r=8,p=1$c2FsdHNhbHRzYWx0$09/untC+3Bg44eiJQ8bqhTXgE2ali+ykLaojkJZlF9U", PWCHECK_MISMATCH, 6, 3},
+    {"$argon2id$v=19$m=64,t=1,p=1$c2FsdHNhbHRzYWx0$Sm3MnLdCFk0Af+croKgebRoqqmhbKd88iiW3yUOXn78", PWCHECK_MISMATCH, 9, 63},
+    {"$y$j75$0123456789ab$kb1fsIrDP1wOa4Q3gNpxZkfwQ3ce8kmPbnemuN65IT2", PWCHECK_MISMATCH, 2, 1},
+    {"*", PWCHECK_NO_SCHEME, 12, 0},
+    {"$1$abcdefgh", PWCHECK_MD5_FORMAT, 12, 0},
+    {"$2x$04$abcdefghijklmnopqrstuu2r9OfJnfCsdneAXAGHnS4UpFFP8WIrW", PWCHECK_BCRYPT_OBSOLETE, 12, 0},
+    {"$y$j75$0123456789ab", PWCHECK_YESCRYPT_FORMAT, 12, 0},
+    {"$7$4/..../....SodiumChloride", PWCHECK_SCRYPT_FORMAT, 12, 0},
+};
+
+static void check_every_scheme(void)
+{
+    for (size_t i = 0; i < sizeof ANY / sizeof *ANY; i++) {
+        const struct any_row *row = &ANY[i];
+        struct pwcheck_limits limits = PWCHECK_LIMITS_NONE;
+        size_t m = strlen(row->text);
+        int own = row->other == PWCHECK_MISMATCH ? PWCHECK_MATCH : row->other;
+        uint8_t *stored = copy(row->text, m), *secret = copy("secret", 6), *other = copy("Secret", 6);
+        NEED(pwcheck_check_any(secret, 6, stored, m, &limits) == own);
+        NEED(pwcheck_check_any(other, 6, stored, m, &limits) == row->other);
+        if (row->limit < 12) {
+            uint32_t numbers[12];
+            memcpy(numbers, &limits, sizeof limits);
+            numbers[row->limit] = row->below;
+            memcpy(&limits, numbers, sizeof limits);
+            NEED(pwcheck_check_any(secret, 6, stored, m, &limits) == PWCHECK_OVER_COST);
+            numbers[row->limit] = row->below + (row->limit == 2 ? 30 : 1);
+            memcpy(&limits, numbers, sizeof limits);
+            NEED(pwcheck_check_any(secret, 6, stored, m, &limits) == PWCHECK_MATCH);
+        }
+        give_back(stored, m);
+        give_back(secret, 6);
+        give_back(other, 6);
+    }
+    struct pwcheck_limits limits = PWCHECK_LIMITS_NONE;
+    uint8_t *stored = copy(ANY[2].text, strlen(ANY[2].text)), *zero = copy("sec\0ret", 7), *no_text = copy("\xff", 1);
+    NEED(sizeof limits == 12 * sizeof(uint32_t));
+    NEED(pwcheck_check_any(zero, 7, stored, strlen(ANY[2].text), &limits) == PWCHECK_ZERO_BYTE);
+    NEED(pwcheck_check_any(no_text, 1, stored, strlen(ANY[2].text), &limits) == PWCHECK_NOT_UTF8);
+    give_back(stored, strlen(ANY[2].text));
+    give_back(zero, 7);
+    give_back(no_text, 1);
+}
+
 /* A text that is made: its length, no byte past it, and the checks that match it. */
 static void made(const uint8_t *password, size_t n, const uint8_t *text, size_t len)
 {
@@ -178,11 +233,11 @@ static void fill(uint8_t *password, size_t n, int is_text)
 
 static void words(void)
 {
-    for (int32_t k = -5; k < 40; k++)
+    for (int32_t k = -5; k < 60; k++)
         for (size_t n = 0; n <= PWCHECK_WORD_SIZE; n++) {
             uint8_t *out = room(n);
             size_t len = pwcheck_word(k, out, n);
-            NEED(len < PWCHECK_WORD_SIZE && (len > 0) == (k >= 0 && k <= PWCHECK_OVER_COST));
+            NEED(len < PWCHECK_WORD_SIZE && (len > 0) == (k >= 0 && k <= PWCHECK_ZERO_BYTE));
             if (len && len < n) NEED(strlen((char *)out) == len);
             give_back(out, n);
         }
@@ -195,6 +250,7 @@ static void words(void)
 int main(void)
 {
     words();
+    check_every_scheme();
     for (size_t n = 0; n <= 5000; n++)
         for (int is_text = NO_TEXT; is_text <= TEXT; is_text++) {
             uint8_t *password = room(n);

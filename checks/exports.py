@@ -5,13 +5,16 @@ shared one is protected.
     checks/exports.py FOLDER
 
 The static and the shared library define the functions that the header declares, and no other name; the shared one has
-them under the version PWCHECK_1.0, the soname libpwcheck.so.1, links to its full name, full RELRO and no executable
-stack.
+each under the version of the interface in which it came (SINCE below; all others came with 1.0), the soname libpwcheck.so.1,
+links to its full name, full RELRO and no executable stack.
 """
 import os
 import re
 import subprocess
 import sys
+
+# The calls that came behind version 1.0, by theirs. A call never changes its version.
+SINCE = {"pwcheck_check_any": "1.1"}
 
 LIB, INCLUDE = (os.path.join(sys.argv[1], name) for name in ("lib", "include"))
 
@@ -39,7 +42,7 @@ def main():
     static = defined(os.path.join(LIB, "libpwcheck.a"))
     need(static == declared, f"libpwcheck.a and the header differ by {sorted(static ^ declared)}")
     shared = os.path.join(LIB, "libpwcheck.so." + version.group(1))
-    wanted = {f"{name}@@PWCHECK_{version.group(1)}" for name in declared}
+    wanted = {f"{name}@@PWCHECK_{SINCE.get(name, '1.0')}" for name in declared}
     names = {name for name in defined("-D", shared) if not name.startswith("PWCHECK_")}
     need(names == wanted, f"the shared library and the header differ by {sorted(names ^ wanted)}")
     soname = "libpwcheck.so." + version.group(2)
@@ -51,7 +54,7 @@ def main():
     segments = told("readelf", "-lW", shared)
     need("GNU_RELRO" in segments, "no RELRO")
     need(re.search(r"GNU_STACK.* RW ", segments), "an executable stack")
-    print(f"exports.py: {len(declared)} functions, {soname}, PWCHECK_{version.group(1)}, full RELRO")
+    print(f"exports.py: {len(declared)} functions, {soname}, versions 1.0 to {version.group(1)}, full RELRO")
 
 
 main()

@@ -57,7 +57,7 @@ FACTS = [
     ("the minutes of the gate", None, [r"it took (\d+) minutes from nothing on four cores", r"GHz\): (\d+) minutes by the clock"], 2),
     ("the processor minutes of the gate", None, [r"on four cores, (\d+) of processor time", r"so (\d+) of processor time"], 2),
     ("the status of bad words", ("crates/pwtool/src/status.rt", r"BAD_WORDS: u8 = (\d+)"),
-     [r"(\d+) \|? ?the words of the command line are no form of the program; nothing is read", r"It (\d+) the words of the command line are no form"], 2),
+     [r"(\d+) \|? ?the words of the command line are no form of the program"], 2),
     ("the status of a file that can't be opened", ("crates/pwtool/src/status.rt", r"NO_FILE: u8 = (\d+)"),
      [r"(\d+) \|? ?a file can't be opened", r"It (\d+) a file can't"], 2),
 ]

@@ -1,4 +1,5 @@
-/* Password verification: stored texts of SHA-crypt and scrypt checked and made, their keys and digests, and Base64.
+/* Password verification: stored texts of every scheme checked, those of SHA-crypt and scrypt made, their keys and digests,
+ * and Base64.
  *
  * What holds of every call
  * - A slice is a pointer and then a length in bytes, of at most PTRDIFF_MAX. No pointer is null, not even beside the
@@ -9,11 +10,12 @@
  * - Nothing is kept between calls, nothing is read or written but what is passed, errno is left alone where malloc
  *   leaves it, and no call prints, exits or waits.
  * - Only pwcheck_check, pwcheck_check_limited, pwcheck_scrypt and pwcheck_scrypt_text take memory, by malloc and free,
- *   at most 304 MiB, and give it back. They are not for signal handlers, nor for the forked child of a process with
+ *   at most 304 MiB, and give it back; so does pwcheck_check_any, which may take more, as the stored text asks: 2 GiB
+ *   for Argon2. Bound it. They are not for signal handlers, nor for the forked child of a process with
  *   threads.
  * - The time of a check is told by the stored text: its rounds, or the parameters of scrypt. SHA-crypt's grows with the
  *   square of the password's length too, so it takes passwords of at most 4,096 bytes. A stored text of another's
- *   choice may ask for hours: bound it by pwcheck_check_limited.
+ *   choice may ask for hours: bound it by pwcheck_check_limited, or by the limits of pwcheck_check_any.
  * - The processor is x86-64-v2 or later. No call was seen to need more than 10 KB of stack beside malloc's.
  * - Nothing is wiped: what a call has left on the stack and in freed memory may tell of the password.
  *
@@ -40,9 +42,9 @@ extern "C" {
 
 /* The version of this interface. In a later one with the same first number each number and each call means the same;
  * new answers get new numbers. pwcheck_version tells that of the library that is linked. */
-#define PWCHECK_VERSION "1.0"
+#define PWCHECK_VERSION "1.1"
 #define PWCHECK_VERSION_MAJOR 1
-#define PWCHECK_VERSION_MINOR 0
+#define PWCHECK_VERSION_MINOR 1
 
 /* A caller who drops an answer, or passes a null pointer, is warned. Define these first to have it otherwise. */
 #ifndef PWCHECK_MUST_USE
@@ -101,8 +103,22 @@ enum pwcheck_answer {
     PWCHECK_NO_HASH = 28,           /* the record has no salt, or no hash */
     PWCHECK_KDF = 29,               /* scrypt doesn't take the record: see pwcheck(5) */
 
-    PWCHECK_OVER_COST = 30          /* no verdict: the text is valid, and its cost is above the bound;
-                                     * pwcheck_check_limited alone */
+    PWCHECK_OVER_COST = 30,         /* no verdict: the text is valid, and its cost is above the bound;
+                                     * pwcheck_check_limited and pwcheck_check_any alone */
+
+    /* 31 to 42, from version 1.1 on: pwcheck_check_any alone */
+    PWCHECK_NO_SCHEME = 31,         /* no scheme has the identifier of the text */
+    PWCHECK_MD5_FORMAT = 32,        /* the text of md5-crypt has a fault */
+    PWCHECK_BCRYPT_OBSOLETE = 33,   /* $2$ or $2x$, which are obsolete */
+    PWCHECK_BCRYPT_COST = 34,       /* a cost outside 4 to 31 */
+    PWCHECK_BCRYPT_B64 = 35,        /* the salt and the hash of bcrypt are no encoding */
+    PWCHECK_BCRYPT_FORMAT = 36,     /* the text of bcrypt has another fault */
+    PWCHECK_YESCRYPT_FLAVOR = 37,   /* another flavor than crypt(3) writes */
+    PWCHECK_YESCRYPT_COST = 38,     /* a number of a text $y$ is outside what is taken */
+    PWCHECK_YESCRYPT_FORMAT = 39,   /* the text $y$ has another fault */
+    PWCHECK_SCRYPT_COST = 40,       /* a number of a text $7$ is outside what is taken */
+    PWCHECK_SCRYPT_FORMAT = 41,     /* the text $7$ has another fault */
+    PWCHECK_ZERO_BYTE = 42          /* the password has a zero byte, which bcrypt can't hash */
 };
 
 /* What the other calls answer. */
@@ -151,6 +167,34 @@ PWCHECK_MUST_USE PWCHECK_NONNULL
 int32_t pwcheck_check_limited(const uint8_t *password, size_t password_len, const uint8_t *stored, size_t stored_len,
                               uint32_t max_rounds, uint64_t max_bytes);
 
+/* The most that a valid stored text may ask for, scheme by scheme (from version 1.1 on). A number that no text reaches
+ * bounds nothing: begin with PWCHECK_LIMITS_NONE. */
+struct pwcheck_limits {
+    uint32_t sha_rounds;            /* rounds of SHA-crypt, 1,000 to 999,999,999 */
+    uint32_t bcrypt_cost;           /* cost of bcrypt, 4 to 31: 2^cost turns */
+    uint32_t yescrypt_ln;           /* yescrypt: the binary logarithm of N, 2 to 23; the table takes 128 r N bytes */
+    uint32_t yescrypt_r;
+    uint32_t yescrypt_t;            /* 0 to 1,024: so many turns more than the default */
+    uint32_t pbkdf2_rounds;         /* i of PBKDF2, 1 to 10,000,000 */
+    uint32_t scrypt_ln;             /* scrypt, of a record or of a text $7$: the table takes 128 r 2^ln bytes */
+    uint32_t scrypt_r;
+    uint32_t scrypt_p;
+    uint32_t argon2_memory;         /* m of Argon2, in KiB, 8 to 2,097,152 */
+    uint32_t argon2_passes;         /* t */
+    uint32_t argon2_lanes;          /* p */
+};
+#define PWCHECK_LIMITS_NONE                                                                                       \
+    {UINT32_MAX, UINT32_MAX, UINT32_MAX, UINT32_MAX, UINT32_MAX, UINT32_MAX, UINT32_MAX, UINT32_MAX, UINT32_MAX, \
+     UINT32_MAX, UINT32_MAX, UINT32_MAX}
+
+/* Checks a password against a stored text of every scheme: SHA-crypt ($5$, $6$), md5-crypt ($1$, $apr1$), bcrypt ($2a$,
+ * $2b$, $2y$), yescrypt ($y$), scrypt ($7$), or a PHC record of scrypt, PBKDF2 with SHA-256 or Argon2. A valid text that
+ * asks for more than a limit is answered by PWCHECK_OVER_COST, and nothing is hashed for it. Compare the answer with
+ * PWCHECK_MATCH, and with nothing less. From version 1.1 on. */
+PWCHECK_MUST_USE PWCHECK_NONNULL
+int32_t pwcheck_check_any(const uint8_t *password, size_t password_len, const uint8_t *stored, size_t stored_len,
+                          const struct pwcheck_limits *limits);
+
 /* Checks a password against a text of the one family alone. It takes an empty salt, and in a salt any characters but
  * '$', which pwcheck_check answers by 7 and 8. Of the answers 0 to 2, 4 and 9 to 17. */
 PWCHECK_MUST_USE PWCHECK_NONNULL
@@ -163,7 +207,7 @@ int32_t pwcheck_sha512_check(const uint8_t *password, size_t password_len, const
 PWCHECK_NONNULL
 size_t pwcheck_word(int32_t number, uint8_t *out, size_t out_len);
 
-/* Writes the version of the library, as "1.0", and a zero where `out_len` is greater than its length, else nothing;
+/* Writes the version of the library, as "1.1", and a zero where `out_len` is greater than its length, else nothing;
  * gives its length. */
 PWCHECK_NONNULL
 size_t pwcheck_version(uint8_t *out, size_t out_len);

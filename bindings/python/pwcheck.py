@@ -7,9 +7,9 @@ Passwords, stored texts and salts are bytes, of which the library keeps none.
 import ctypes as c
 import enum
 import os
-from typing import Any, Callable
+from typing import Any, Callable, Optional
 
-__all__ = ["Answer", "Alphabet", "VERSION", "check", "check_limited", "sha_check", "word", "version", "scrypt",
+__all__ = ["Answer", "Alphabet", "Limits", "VERSION", "check", "check_any", "check_limited", "sha_check", "word", "version", "scrypt",
            "scrypt_text", "sha_digest", "sha_field", "sha_text", "b64encode", "b64decode", "same"]
 
 
@@ -47,6 +47,18 @@ class Answer(enum.IntEnum):
     NO_HASH = 28
     KDF = 29
     OVER_COST = 30
+    NO_SCHEME = 31
+    MD5_FORMAT = 32
+    BCRYPT_OBSOLETE = 33
+    BCRYPT_COST = 34
+    BCRYPT_B64 = 35
+    BCRYPT_FORMAT = 36
+    YESCRYPT_FLAVOR = 37
+    YESCRYPT_COST = 38
+    YESCRYPT_FORMAT = 39
+    SCRYPT_COST = 40
+    SCRYPT_FORMAT = 41
+    ZERO_BYTE = 42
 
 
 class Alphabet(enum.IntEnum):
@@ -72,12 +84,30 @@ class Status(enum.IntEnum):
     NOT_BASE64 = -4
 
 
+class Limits(c.Structure):
+    """The most that a valid stored text may ask for, scheme by scheme; a limit that is left out bounds nothing.
+
+    `Limits(bcrypt_cost=12, argon2_memory=65536)` takes bcrypt up to cost 12 and Argon2 up to 64 MiB.
+    """
+
+    _fields_ = [(name, c.c_uint32) for name in (
+        "sha_rounds", "bcrypt_cost", "yescrypt_ln", "yescrypt_r", "yescrypt_t", "pbkdf2_rounds", "scrypt_ln", "scrypt_r",
+        "scrypt_p", "argon2_memory", "argon2_passes", "argon2_lanes")]
+
+    def __init__(self, **limits: int) -> None:
+        super().__init__(*[(1 << 32) - 1] * len(self._fields_))
+        for name, number in limits.items():
+            if name not in dict(self._fields_):
+                raise TypeError(f"{name} is no limit")
+            setattr(self, name, _natural(number))
+
+
 WORD_SIZE = 18
 SHA256_DIGEST_SIZE, SHA512_DIGEST_SIZE = 32, 64
 SHA256_FIELD_SIZE, SHA512_FIELD_SIZE = 43, 86
 SHA256_TEXT_MAX, SHA512_TEXT_MAX, SCRYPT_TEXT_MAX = 80, 123, 93
 SCRYPT_SALT_SIZE, PASSWORD_MAX = 16, 4096
-VERSION_MAJOR, VERSION_MINOR = 1, 0
+VERSION_MAJOR, VERSION_MINOR = 1, 1
 VERSION = f"{VERSION_MAJOR}.{VERSION_MINOR}"
 
 _lib = c.CDLL(os.environ.get("LIBPWCHECK", f"libpwcheck.so.{VERSION_MAJOR}"))
@@ -95,6 +125,7 @@ def _export(name: str, result: Any, *arguments: Any) -> Callable[..., int]:
 
 _check = _export("check", c.c_int32, *_bytes, *_bytes)
 _check_limited = _export("check_limited", c.c_int32, *_bytes, *_bytes, c.c_uint32, c.c_uint64)
+_check_any = _export("check_any", c.c_int32, *_bytes, *_bytes, c.POINTER(Limits))
 _word = _export("word", c.c_size_t, c.c_int32, *_bytes)
 _version = _export("version", c.c_size_t, *_bytes)
 _scrypt = _export("scrypt", c.c_int32, *_bytes, *_bytes, *_cost, *_bytes)
@@ -164,6 +195,12 @@ def check_limited(password: bytes, stored: bytes, max_rounds: int, max_bytes: in
     of SHA-crypt, or of scrypt that mixes more than `max_bytes` bytes (128 r p 2^ln)."""
     return Answer(_check_limited(password, len(password), stored, len(stored), _natural(max_rounds),
                                  _natural(max_bytes, 64)))
+
+
+def check_any(password: bytes, stored: bytes, limits: Optional[Limits] = None) -> Answer:
+    """Checks a password against a stored text of every scheme, and answers OVER_COST, and hashes nothing, for a valid text
+    that asks for more than a limit. Without limits a text of another's choice may ask for hours and for gigabytes."""
+    return Answer(_check_any(password, len(password), stored, len(stored), c.byref(limits or Limits())))
 
 
 def sha_check(bits: int, password: bytes, stored: bytes) -> Answer:

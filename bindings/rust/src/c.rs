@@ -1,5 +1,7 @@
 //! The exports, as include/pwcheck.h declares them.
 
+use crate::Limits;
+
 type In = *const u8;
 type Out = *mut u8;
 type Len = *mut usize;
@@ -7,6 +9,7 @@ type Len = *mut usize;
 unsafe extern "C" {
     pub fn pwcheck_check(password: In, password_len: usize, stored: In, stored_len: usize) -> i32;
     pub fn pwcheck_check_limited(p: In, p_len: usize, s: In, s_len: usize, max_rounds: u32, max_bytes: u64) -> i32;
+    pub fn pwcheck_check_any(p: In, p_len: usize, s: In, s_len: usize, limits: *const Limits) -> i32;
     pub fn pwcheck_sha256_check(password: In, password_len: usize, stored: In, stored_len: usize) -> i32;
     pub fn pwcheck_sha512_check(password: In, password_len: usize, stored: In, stored_len: usize) -> i32;
     pub fn pwcheck_word(number: i32, out: Out, out_len: usize) -> usize;

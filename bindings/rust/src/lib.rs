@@ -2,15 +2,33 @@
 //!
 //! Each check returns an [`Answer`], of which [`Answer::Match`] alone is leave to enter. What isn't taken is an
 //! [`Error`].
+//!
+//! ```
+//! use pwcheck::{Answer, Limits, check_any};
+//!
+//! // Of the password "secret", by `htpasswd -B` with cost 5.
+//! let stored = b"$2y$05$abcdefghijklmnopqrstuuOQiyCxlgf/oeuTqixKmWdcYUh4Hjl0a";
+//! let limits = Limits { bcrypt_cost: 12, argon2_memory: 65_536, ..Limits::NONE };
+//! assert_eq!(check_any(b"secret", stored, &limits), Answer::Match);
+//! assert_eq!(check_any(b"Secret", stored, &limits), Answer::Mismatch);
+//! ```
+//!
+//! Without the feature `std`, which is on by default, the crate is `no_std` and leaves out what returns a `String` or a `Vec`.
 
+#![cfg_attr(not(any(feature = "std", test)), no_std)]
+
+#[cfg_attr(not(feature = "std"), allow(dead_code))]
 mod c;
 
-use std::fmt;
+use core::fmt;
 
 /// Room for each word and the zero behind it.
 const WORD_SIZE: usize = 18;
+#[cfg(feature = "std")]
 const SHA256_TEXT_MAX: usize = 80;
+#[cfg(feature = "std")]
 const SHA512_TEXT_MAX: usize = 123;
+#[cfg(feature = "std")]
 const SCRYPT_TEXT_MAX: usize = 93;
 
 /// What a password and a stored text are answered with: a verdict, or the first cause that there is none. A number that
@@ -49,12 +67,24 @@ pub enum Answer {
     NoHash,
     Kdf,
     OverCost,
+    NoScheme,
+    Md5Format,
+    BcryptObsolete,
+    BcryptCost,
+    BcryptB64,
+    BcryptFormat,
+    YescryptFlavor,
+    YescryptCost,
+    YescryptFormat,
+    ScryptCost,
+    ScryptFormat,
+    ZeroByte,
     /// The answer of a later library.
     Unknown(i32),
 }
 
 /// The answers by their numbers.
-pub const ANSWERS: [Answer; 31] = [
+pub const ANSWERS: [Answer; 43] = [
     Answer::Match,
     Answer::Mismatch,
     Answer::NotUtf8,
@@ -86,6 +116,18 @@ pub const ANSWERS: [Answer; 31] = [
     Answer::NoHash,
     Answer::Kdf,
     Answer::OverCost,
+    Answer::NoScheme,
+    Answer::Md5Format,
+    Answer::BcryptObsolete,
+    Answer::BcryptCost,
+    Answer::BcryptB64,
+    Answer::BcryptFormat,
+    Answer::YescryptFlavor,
+    Answer::YescryptCost,
+    Answer::YescryptFormat,
+    Answer::ScryptCost,
+    Answer::ScryptFormat,
+    Answer::ZeroByte,
 ];
 
 impl Answer {
@@ -104,11 +146,23 @@ impl Answer {
     }
 
     /// The word, empty for one that the library doesn't know.
+    #[cfg(feature = "std")]
     pub fn word(self) -> String {
+        self.to_string()
+    }
+}
+
+/// The word, as [`Answer::word`] gives it.
+///
+/// ```
+/// assert_eq!(format!("{}", pwcheck::Answer::PhcSaltShort), "phc-salt-short");
+/// ```
+impl fmt::Display for Answer {
+    fn fmt(&self, f: &mut fmt::Formatter<'_>) -> fmt::Result {
         let mut out = [0; WORD_SIZE];
         // The call writes at most the bytes that it is given.
         let n = unsafe { c::pwcheck_word(self.number(), out.as_mut_ptr(), out.len()) };
-        String::from_utf8_lossy(&out[..n]).into_owned()
+        f.write_str(out.get(..n).and_then(|word| core::str::from_utf8(word).ok()).unwrap_or(""))
     }
 }
 
@@ -139,7 +193,7 @@ impl fmt::Display for Error {
     }
 }
 
-impl std::error::Error for Error {}
+impl core::error::Error for Error {}
 
 /// The alphabets of Base64.
 #[derive(Clone, Copy, Debug, PartialEq, Eq)]
@@ -175,6 +229,7 @@ fn done(status: i32) -> Result<(), Error> {
 }
 
 /// The bytes that a call writes to the front of a buffer of `room` bytes.
+#[cfg(feature = "std")]
 fn written(room: usize, call: impl FnOnce(&mut [u8], &mut usize) -> i32) -> Result<Vec<u8>, Error> {
     let mut out = vec![0; room];
     let mut n = 0;
@@ -183,6 +238,7 @@ fn written(room: usize, call: impl FnOnce(&mut [u8], &mut usize) -> i32) -> Resu
     Ok(out)
 }
 
+#[cfg(feature = "std")]
 fn text(bytes: Vec<u8>) -> String {
     String::from_utf8_lossy(&bytes).into_owned()
 }
@@ -191,6 +247,13 @@ fn text(bytes: Vec<u8>) -> String {
 // `*const`, and writes at most the bytes of the others, which are this crate's own or lent to it alone.
 
 /// Checks a password against a stored text, SHA-crypt or a PHC record of scrypt.
+///
+/// ```
+/// use pwcheck::{Answer, check};
+///
+/// let stored = b"$5$saltstring$5B8vYYiY.CVt1RlTTf8KbXBH3hsxY/GNooZaBBGWEc5";
+/// assert_eq!(check(b"Hello world!", stored), Answer::Match);
+/// ```
 pub fn check(password: &[u8], stored: &[u8]) -> Answer {
     Answer::of(unsafe { c::pwcheck_check(password.as_ptr(), password.len(), stored.as_ptr(), stored.len()) })
 }
@@ -200,6 +263,59 @@ pub fn check(password: &[u8], stored: &[u8]) -> Answer {
 pub fn check_limited(password: &[u8], stored: &[u8], max_rounds: u32, max_bytes: u64) -> Answer {
     let (p, s) = (password, stored);
     Answer::of(unsafe { c::pwcheck_check_limited(p.as_ptr(), p.len(), s.as_ptr(), s.len(), max_rounds, max_bytes) })
+}
+
+/// The most that a valid stored text may ask for, scheme by scheme; `include/pwcheck.h` tells each number. A limit that no
+/// text reaches bounds nothing: begin with [`Limits::NONE`].
+#[derive(Clone, Copy, Debug, PartialEq, Eq)]
+#[repr(C)]
+pub struct Limits {
+    pub sha_rounds: u32,
+    pub bcrypt_cost: u32,
+    pub yescrypt_ln: u32,
+    pub yescrypt_r: u32,
+    pub yescrypt_t: u32,
+    pub pbkdf2_rounds: u32,
+    pub scrypt_ln: u32,
+    pub scrypt_r: u32,
+    pub scrypt_p: u32,
+    pub argon2_memory: u32,
+    pub argon2_passes: u32,
+    pub argon2_lanes: u32,
+}
+
+impl Limits {
+    /// No text is above these.
+    pub const NONE: Limits = Limits {
+        sha_rounds: u32::MAX,
+        bcrypt_cost: u32::MAX,
+        yescrypt_ln: u32::MAX,
+        yescrypt_r: u32::MAX,
+        yescrypt_t: u32::MAX,
+        pbkdf2_rounds: u32::MAX,
+        scrypt_ln: u32::MAX,
+        scrypt_r: u32::MAX,
+        scrypt_p: u32::MAX,
+        argon2_memory: u32::MAX,
+        argon2_passes: u32::MAX,
+        argon2_lanes: u32::MAX,
+    };
+}
+
+/// Checks a password against a stored text of every scheme, and answers [`Answer::OverCost`], and hashes nothing, for a valid
+/// text that asks for more than a limit.
+///
+/// ```
+/// use pwcheck::{Answer, Limits, check_any};
+///
+/// let costly = b"$2b$31$abcdefghijklmnopqrstuu2r9OfJnfCsdneAXAGHnS4UpFFP8WIrW";
+/// let limits = Limits { bcrypt_cost: 12, ..Limits::NONE };
+/// assert_eq!(check_any(b"secret", costly, &limits), Answer::OverCost);
+/// assert_eq!(check_any(b"secret", b"*", &limits), Answer::NoScheme);
+/// ```
+pub fn check_any(password: &[u8], stored: &[u8], limits: &Limits) -> Answer {
+    let (p, s) = (password, stored);
+    Answer::of(unsafe { c::pwcheck_check_any(p.as_ptr(), p.len(), s.as_ptr(), s.len(), limits) })
 }
 
 /// Checks a password against a text of SHA-256-crypt alone.
@@ -213,6 +329,7 @@ pub fn sha512_check(password: &[u8], stored: &[u8]) -> Answer {
 }
 
 /// The version of the library that is linked.
+#[cfg(feature = "std")]
 pub fn version() -> String {
     let mut out = [0; 32];
     let n = unsafe { c::pwcheck_version(out.as_mut_ptr(), out.len()) };
@@ -231,6 +348,7 @@ pub fn scrypt(password: &[u8], salt: &[u8], cost: Cost, out: &mut [u8]) -> Resul
 }
 
 /// The PHC text of a password of at most 4,096 bytes, for a salt that the caller draws at random.
+#[cfg(feature = "std")]
 pub fn scrypt_text(password: &str, salt: &[u8; 16], cost: Cost) -> Result<String, Error> {
     let (p, s) = (password.as_bytes(), salt);
     written(SCRYPT_TEXT_MAX, |out, n| unsafe {
@@ -254,6 +372,7 @@ macro_rules! sha_crypt {
         }
 
         #[doc = concat!("The hash field of the digest of ", $name, ".")]
+        #[cfg(feature = "std")]
         pub fn $field(password: &[u8], salt: &[u8], rounds: u32) -> Result<String, Error> {
             let (p, s, mut out) = (password, salt, [0; $field_size]);
             done(unsafe {
@@ -264,6 +383,7 @@ macro_rules! sha_crypt {
 
         #[doc = concat!("The ", $name, " text of a password of at most 4,096 bytes, for a salt of 1 to 16 characters ",
                         "of `[./0-9A-Za-z]` that the caller draws at random, and 1,000 to 999,999,999 rounds.")]
+        #[cfg(feature = "std")]
         pub fn $text(password: &str, salt: &[u8], rounds: u32) -> Result<String, Error> {
             let (p, s) = (password.as_bytes(), salt);
             written($text_max, |out, n| unsafe {
@@ -280,6 +400,7 @@ sha_crypt!("SHA-512-crypt", sha512_digest, sha512_field, sha512_text, 64, 86, SH
            pwcheck_sha512_crypt, pwcheck_sha512_crypt_b64, pwcheck_sha512_crypt_text);
 
 /// The encoding of bytes in an alphabet.
+#[cfg(feature = "std")]
 pub fn base64_encode(alphabet: Alphabet, data: &[u8]) -> Result<String, Error> {
     let alphabet = alphabet as u32;
     let room = unsafe { c::pwcheck_base64_encoded_len(alphabet, data.len()) };
@@ -290,6 +411,7 @@ pub fn base64_encode(alphabet: Alphabet, data: &[u8]) -> Result<String, Error> {
 }
 
 /// The bytes whose one encoding in an alphabet is this text.
+#[cfg(feature = "std")]
 pub fn base64_decode(alphabet: Alphabet, text: &[u8]) -> Result<Vec<u8>, Error> {
     let alphabet = alphabet as u32;
     let room = unsafe { c::pwcheck_base64_decoded_len(alphabet, text.as_ptr(), text.len()) };

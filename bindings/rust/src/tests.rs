@@ -14,6 +14,27 @@ const TEXT_SCRYPT: &str = "$scrypt$ln=4,r=8,p=1$aM15713r3Xsvxbi31lqr1Q$tRLzw8Z7a
 const SALT: &[u8; 16] = b"\x68\xcd\x79\xef\x5d\xeb\xdd\x7b\x2f\xc5\xb8\xb7\xd6\x5a\xab\xd5";
 const COST: Cost = Cost { ln: 4, r: 8, p: 1 };
 
+// Of the password `secret`: openssl, libxcrypt and the program argon2.
+const ANY: [&str; 5] = [
+    "$1$abcdefgh$cHJi5PXp/ki/ktXzqlk6I1",
+    "$2b$04$abcdefghijklmnopqrstuu2r9OfJnfCsdneAXAGHnS4UpFFP8WIrW",
+    "$argon2id$v=19$m=64,t=1,p=1$c2FsdHNhbHRzYWx0$Sm3MnLdCFk0Af+croKgebRoqqmhbKd88iiW3yUOXn78",
+    "$pbkdf2-sha256$i=1000,l=32$c2FsdHNhbHRzYWx0$sVaWem31qy3rw+Ldi3plA/XzhMSNi9/XHnnD1Ytj05o",
+    "$y$j75$0123456789ab$kb1fsIrDP1wOa4Q3gNpxZkfwQ3ce8kmPbnemuN65IT2",
+];
+
+#[test]
+fn every_scheme() {
+    for text in ANY {
+        assert_eq!(check_any(b"secret", text.as_bytes(), &Limits::NONE), Answer::Match, "{text}");
+        assert_eq!(check_any(b"Secret", text.as_bytes(), &Limits::NONE), Answer::Mismatch, "{text}");
+    }
+    let limits = Limits { argon2_memory: 63, ..Limits::NONE };
+    assert_eq!(check_any(b"secret", ANY[2].as_bytes(), &limits), Answer::OverCost);
+    assert_eq!(check_any(b"secret", b"$1$abcdefgh", &Limits::NONE).word(), "md5-format");
+    assert_eq!(check_any(b"sec\0ret", ANY[1].as_bytes(), &Limits::NONE), Answer::ZeroByte);
+}
+
 #[test]
 fn verdicts() {
     assert_eq!(check(b"", TEXT_512.as_bytes()), Answer::Match);
@@ -35,7 +56,7 @@ fn answers() {
     }
     assert_eq!(Answer::of(99), Answer::Unknown(99));
     assert_eq!(Answer::of(99).word(), "");
-    assert_eq!(version(), "1.0");
+    assert_eq!(version(), "1.1");
 }
 
 #[test]

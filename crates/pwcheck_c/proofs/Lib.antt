@@ -4,3 +4,4 @@ pub mod Matches
 pub mod MadeTexts
 pub mod StoredCosts
 pub mod ScryptTexts
+pub mod AnyWords

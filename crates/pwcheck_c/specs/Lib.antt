@@ -1,5 +1,6 @@
 pub mod Numbers
 pub mod Words
+pub mod AnyAnswers
 pub mod Verdicts
 pub mod Costs
 pub mod Coder

@@ -9,6 +9,9 @@ use Rattle.stored_check.specs.declared.error.ShaFormat.TheVariants as of_format
 use Rattle.stored_check.specs.declared.error.StoredError.TheVariants as of_stored
 use Rattle.pwcheck_c.specs.declared.answer.Answer.{Answer}
 use Rattle.pwcheck_c.specs.declared.answer.Answer.TheVariants.{NotText, OtherIdentifier, OverCost, Checked}
+use Rattle.pwcheck_c.specs.declared.answer.Answer.TheVariants.{BcryptB64, BcryptCost, BcryptFormat, BcryptObsolete}
+use Rattle.pwcheck_c.specs.declared.answer.Answer.TheVariants.{Md5Format, NoScheme, ScryptCost, ScryptFormat, YescryptCost}
+use Rattle.pwcheck_c.specs.declared.answer.Answer.TheVariants.{YescryptFlavor, YescryptFormat, ZeroByte}
 
 -- the verdicts, the causes of this library's own, and the others in the order in which they are found; what came later
 -- goes last
@@ -45,6 +48,18 @@ answers =
     ∷ Checked (Err of_stored.NoHash)
     ∷ Checked (Err of_stored.Kdf)
     ∷ OverCost
+    ∷ NoScheme
+    ∷ Md5Format
+    ∷ BcryptObsolete
+    ∷ BcryptCost
+    ∷ BcryptB64
+    ∷ BcryptFormat
+    ∷ YescryptFlavor
+    ∷ YescryptCost
+    ∷ YescryptFormat
+    ∷ ScryptCost
+    ∷ ScryptFormat
+    ∷ ZeroByte
     ∷ []
 
 -- the answer of a number, if it is one's

@@ -3,4 +3,4 @@ use Rattle.std.specs.Prelude.{ℕ, List, codes}
 
 -- the first number, a point and the second
 abbrev pub version : List ℕ
-version = codes "1.0"
+version = codes "1.1"

@@ -19,11 +19,35 @@ pub enum Answer {
     OverCost,
     /// What `check_stored` answers.
     Checked(Result<bool, StoredError>),
+    /// No scheme has the text's identifier.
+    NoScheme,
+    /// The text of md5-crypt has a fault.
+    Md5Format,
+    /// The text is of an obsolete bcrypt, `$2$` or `$2x$`.
+    BcryptObsolete,
+    /// The cost of bcrypt is outside 4 to 31.
+    BcryptCost,
+    /// The salt and the hash of bcrypt are no encoding.
+    BcryptB64,
+    /// The text of bcrypt has another fault.
+    BcryptFormat,
+    /// yescrypt has another flavor than crypt(3) writes.
+    YescryptFlavor,
+    /// A number of yescrypt is outside what is taken.
+    YescryptCost,
+    /// The text of yescrypt has another fault.
+    YescryptFormat,
+    /// A number of a text `$7$` is outside what is taken.
+    ScryptCost,
+    /// The text `$7$` has another fault.
+    ScryptFormat,
+    /// The password has a zero byte, which bcrypt can't hash.
+    ZeroByte,
 }
 
 /// The answers by their numbers: the verdicts, the causes of this library's own, and the others in the order in which
 /// they are found; what came later goes last.
-pub const ANSWERS: [Answer; 31] = [
+pub const ANSWERS: [Answer; 43] = [
     Answer::Checked(Ok(true)),
     Answer::Checked(Ok(false)),
     Answer::NotText,
@@ -55,6 +79,18 @@ pub const ANSWERS: [Answer; 31] = [
     Answer::Checked(Err(StoredError::NoHash)),
     Answer::Checked(Err(StoredError::Kdf)),
     Answer::OverCost,
+    Answer::NoScheme,
+    Answer::Md5Format,
+    Answer::BcryptObsolete,
+    Answer::BcryptCost,
+    Answer::BcryptB64,
+    Answer::BcryptFormat,
+    Answer::YescryptFlavor,
+    Answer::YescryptCost,
+    Answer::YescryptFormat,
+    Answer::ScryptCost,
+    Answer::ScryptFormat,
+    Answer::ZeroByte,
 ];
 
 // The number of a fault of the modular crypt format.
@@ -128,6 +164,18 @@ impl Answer {
             Answer::Checked(Err(StoredError::NoHash)) => 28,
             Answer::Checked(Err(StoredError::Kdf)) => 29,
             Answer::OverCost => 30,
+            Answer::NoScheme => 31,
+            Answer::Md5Format => 32,
+            Answer::BcryptObsolete => 33,
+            Answer::BcryptCost => 34,
+            Answer::BcryptB64 => 35,
+            Answer::BcryptFormat => 36,
+            Answer::YescryptFlavor => 37,
+            Answer::YescryptCost => 38,
+            Answer::YescryptFormat => 39,
+            Answer::ScryptCost => 40,
+            Answer::ScryptFormat => 41,
+            Answer::ZeroByte => 42,
         }
     }
 
@@ -149,6 +197,18 @@ impl Answer {
             Answer::NotText => "not-utf8",
             Answer::OtherIdentifier => "sha-identifier",
             Answer::OverCost => "over-cost",
+            Answer::NoScheme => "no-scheme",
+            Answer::Md5Format => "md5-format",
+            Answer::BcryptObsolete => "bcrypt-obsolete",
+            Answer::BcryptCost => "bcrypt-cost",
+            Answer::BcryptB64 => "bcrypt-b64",
+            Answer::BcryptFormat => "bcrypt-format",
+            Answer::YescryptFlavor => "yescrypt-flavor",
+            Answer::YescryptCost => "yescrypt-cost",
+            Answer::YescryptFormat => "yescrypt-format",
+            Answer::ScryptCost => "scrypt-cost",
+            Answer::ScryptFormat => "scrypt-format",
+            Answer::ZeroByte => "zero-byte",
             Answer::Checked(Err(StoredError::OutOfMemory)) => "no-memory",
             Answer::Checked(verdict) => word(&verdict),
         }

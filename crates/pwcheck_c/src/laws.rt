@@ -1,5 +1,6 @@
 //! Laws over the definitions.
 
+ghost use Rattle.pwcheck_c.specs.AnyAnswers.{HasAnyWord};
 ghost use Rattle.pwcheck_c.specs.Laws.{CostOfValid, ScryptMatches, Sha256Matches, Sha512Matches, ShaMatches};
 
 /// The text that is made of a password and a salt matches the password, as the check of its family answers and as the
@@ -14,4 +15,10 @@ pub fn made_text_matches()
 /// A stored text has a cost exactly where there is a verdict on it.
 pub fn cost_of_valid()
     ensures { CostOfValid }
+{}
+
+/// The word of an answer to a text of any scheme is the word of `any_check`, but for want of memory, which has none there,
+/// and for a cost above the bound, whose number and word were here before.
+pub fn has_any_word()
+    ensures words { HasAnyWord }
 {}

@@ -1,5 +1,6 @@
-//! What C programs call: the verdict on a password and a stored text, within a bound on its cost too, and its word; the
-//! digests and keys, the texts and hash fields made of them; Base64; a comparison of secret bytes; and the version.
+//! What C programs call: the verdict on a password and a stored text, of SHA-crypt and scrypt or of every scheme, within a
+//! bound on its cost too, and its word; the digests and keys, the texts and hash fields made of them; Base64; a comparison
+//! of secret bytes; and the version.
 //! `include/pwcheck.h` declares it.
 //!
 //! Each export calls one function of a library and states its clauses again. What the library requires is
@@ -8,6 +9,9 @@
 
 mod alphabets;
 mod answer;
+mod any;
+#[cfg(test)]
+mod any_tests;
 mod base64;
 mod check;
 mod compare;

@@ -88,7 +88,7 @@ fn family_checks(rt: HostRuntime) {
 }
 
 // The words of all answers, by their numbers.
-const WORDS: [&str; 31] = [
+const WORDS: [&str; 43] = [
     "match",
     "mismatch",
     "not-utf8",
@@ -120,6 +120,18 @@ const WORDS: [&str; 31] = [
     "no-hash",
     "kdf",
     "over-cost",
+    "no-scheme",
+    "md5-format",
+    "bcrypt-obsolete",
+    "bcrypt-cost",
+    "bcrypt-b64",
+    "bcrypt-format",
+    "yescrypt-flavor",
+    "yescrypt-cost",
+    "yescrypt-format",
+    "scrypt-cost",
+    "scrypt-format",
+    "zero-byte",
 ];
 
 #[test]
@@ -145,7 +157,7 @@ fn words(rt: HostRuntime) {
     assert_eq!(rt; &out[..7], b"match\0r".as_slice());
     assert!(rt; pwcheck_word(9, &mut out) == 14);
     assert!(rt; pwcheck_word(29, &mut out) == 3);
-    assert!(rt; pwcheck_word(31, &mut out) == 0);
+    assert!(rt; pwcheck_word(43, &mut out) == 0);
     assert!(rt; pwcheck_word(-1, &mut out) == 0);
 }
 
@@ -260,7 +272,7 @@ fn version(rt: HostRuntime) {
     let mut out = [b'x'; 5];
     assert!(rt; pwcheck_version(&mut out[..3]) == 3 && out[0] == b'x');
     assert!(rt; pwcheck_version(&mut out) == 3);
-    assert_eq!(rt; out.as_slice(), b"1.0\0x".as_slice());
+    assert_eq!(rt; out.as_slice(), b"1.1\0x".as_slice());
 }
 
 #[test]

@@ -11,5 +11,5 @@ use crate::words::put_text;
 pub extern "C" fn pwcheck_version(out: &mut [u8]) -> usize
     ensures version { IsWritten version out.old out.new result }
 {
-    put_text("1.0", out)
+    put_text("1.1", out)
 }

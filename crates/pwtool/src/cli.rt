@@ -1,5 +1,6 @@
 //! The command line.
 
+use crate::from::with_from;
 use crate::make_cli::{make, normalize, unwrap, wrap};
 use clap::{Arg, ArgAction, Command, value_parser};
 use std::alloc::{AllocError, Global};
@@ -25,8 +26,9 @@ A line is a password, a tab and a stored text: of md5-crypt ($1$, $apr1$), SHA-c
 record of scrypt ($scrypt$), PBKDF2 ($pbkdf2-sha256$) or Argon2 ($argon2d$, $argon2i$,
 $argon2id$). The word is match, mismatch, or the first cause that there is no verdict:
 no-scheme where no scheme has the text, too-costly where a number of it is above the most
-given here. pwtool(1) has all words. Status 0 is for matches alone, 1 for some other word;
-pwtool --help has the rest.";
+given here. With --from the texts are foreign ones, of which those that aren't read get a
+word that begins with unsupported- or foreign-. pwtool(1) has all words. Status 0 is for
+matches alone, 1 for some other word; pwtool --help has the rest.";
 
 /// What stands behind the options in the help of `join`.
 const USERS: &str = "\
@@ -187,7 +189,7 @@ fn check<'a>(alloc: Global) -> Result<Command<'a>, AllocError> {
         .after_help(LINES)
         .arg(file)?
         .arg(users)?;
-    with_costs(alloc, with_telling(alloc, command)?)
+    with_costs(alloc, with_telling(alloc, with_from(alloc, command)?)?)
 }
 
 // The form `join`.
@@ -208,7 +210,7 @@ fn join<'a>(alloc: Global) -> Result<Command<'a>, AllocError> {
         .arg(texts)?
         .arg(passwords)?
         .arg(no_text)?;
-    with_costs(alloc, with_telling(alloc, command)?)
+    with_costs(alloc, with_telling(alloc, with_from(alloc, command)?)?)
 }
 
 // The form `survey`.
@@ -228,7 +230,7 @@ fn survey<'a>(alloc: Global) -> Result<Command<'a>, AllocError> {
         .arg(file)?
         .arg(csv)?
         .arg(json)?;
-    with_least_costs(alloc, with_telling(alloc, command)?)
+    with_least_costs(alloc, with_telling(alloc, with_from(alloc, command)?)?)
 }
 
 /// The program's command line.

@@ -5,12 +5,15 @@ ghost use Rattle.std.specs.Prelude.{◌≡◌, ◌≢◌, ◌≤◌};
 use crate::bounds::{bound_of, least_of};
 use crate::check::{check_lines, check_users};
 use crate::fault::say;
+use crate::foreign::{check_foreign, check_foreign_users, survey_foreign};
+use crate::from::foreign_of;
 use crate::reports::{opened, progress_over, reporting_of, summarize, told};
 use crate::status::{BAD_WORDS, NO_FILE};
 use crate::survey::survey_lines;
 use crate::tally::Tally;
 use any_survey::{Format, SurveyLines};
 use clap::ArgMatches;
+use foreign_lines::{ForeignLines, LineForm};
 use line_io::{StdSink, StdSource};
 use std::io;
 use std::io::Read;
@@ -24,7 +27,14 @@ fn answer<R: Read + Drop>(rt: &HostRuntime, matches: &ArgMatches<'_>, name: &str
     let mut tally = Tally::new(io::writer(rt), progress_over(rt, reporting, name));
     let mut source = StdSource::new(reader);
     let mut sink = StdSink::new(&mut tally);
-    let status = if matches.get_flag("users") {
+    let is_of_users = matches.get_flag("users");
+    let status = if let Some(foreign) = foreign_of(matches) {
+        if is_of_users {
+            check_foreign_users(rt.alloc(), foreign, limits, &mut source, &mut sink)
+        } else {
+            check_foreign(rt.alloc(), foreign, limits, &mut source, &mut sink)
+        }
+    } else if is_of_users {
         check_users(rt.alloc(), limits, &mut source, &mut sink)
     } else {
         check_lines(rt.alloc(), limits, &mut source, &mut sink)
@@ -56,11 +66,23 @@ fn survey<R: Read + Drop>(
 ) -> u8
     ensures status { (result ≤ 6) × (result ≢ 2) }
 {
-    let mut lines = lines;
     let progress = progress_over(rt, reporting_of(rt, matches), name);
     let mut source = StdSource::new(reader);
     let mut sink = StdSink::new(Tally::new(io::writer(rt), progress));
-    let status = survey_lines(&mut lines, &mut source, &mut sink);
+    let status = match foreign_of(matches) {
+        Some(foreign) => {
+            let mut lines = ForeignLines {
+                foreign,
+                form: LineForm::Surveyed,
+                inner: lines,
+            };
+            survey_foreign(&mut lines, &mut source, &mut sink)
+        }
+        None => {
+            let mut lines = lines;
+            survey_lines(&mut lines, &mut source, &mut sink)
+        }
+    };
     told(rt, name, status)
 }
 

@@ -5,6 +5,8 @@
 //! `pwtool make SCHEME`: writes the text of a new password, with a salt from the system.
 //! `pwtool normalize`, `wrap` and `unwrap`: what `pwcheck` and `wrapstream` do under these names.
 //!
+//! With `--from` the texts are those of Django, LDAP or passlib.
+//!
 //! A file is standard input where it is `-`, and each answer goes to standard output with a line feed. Errors are one line on
 //! standard error, where the progress of a run and how many answers there were are told, too. The status says how the run
 //! ended.
@@ -14,7 +16,9 @@ mod bounds;
 mod check;
 mod cli;
 mod fault;
+mod foreign;
 mod form;
+mod from;
 mod join;
 mod make;
 mod make_cli;
@@ -39,6 +43,9 @@ use crate::status::BAD_WORDS;
 pub use check::{check_lines, check_users};
 use clap::ArgMatches;
 use clap::error::ErrorKind;
+pub use foreign::{
+    check_foreign, check_foreign_users, join_foreign, join_foreign_fewer, survey_foreign,
+};
 pub use join::{join_fewer, join_files, tell_no_text};
 use line_program::status::{ALL_GOOD, NO_MEMORY, NO_WORDS, WRITE_FAULT};
 pub use normalizer::normalize_lines;

@@ -2,13 +2,15 @@
 
 use crate::bounds::bound_of;
 use crate::fault::say;
+use crate::foreign::{join_foreign, join_foreign_fewer};
+use crate::from::foreign_of;
 use crate::join::{join_fewer, join_files, tell_no_text};
 use crate::reports::{opened, progress_over, reporting_of, summarize, told};
 use crate::status::{BAD_WORDS, NO_FILE};
 use crate::tally::Tally;
 use any_users::JoinEnd;
 use clap::ArgMatches;
-use line_io::{StdSink, StdSource};
+use line_io::{Sink, Source, StdSink, StdSource};
 use line_program::status::READ_FAULT;
 use std::fs::File;
 use std::hash::RandomState;
@@ -43,6 +45,22 @@ fn keys_of(rt: &HostRuntime) -> Option<RandomState> {
     }
 }
 
+// Answers the users of the texts by the passwords, whatever spelling the texts have.
+fn join_given<P: Source, T: Source, K: Sink>(
+    rt: &HostRuntime,
+    matches: &ArgMatches<'_>,
+    keys: RandomState,
+    passwords: &mut P,
+    texts: &mut T,
+    sink: &mut K,
+) -> JoinEnd {
+    let limits = bound_of(matches);
+    match foreign_of(matches) {
+        Some(foreign) => join_foreign(rt.alloc(), keys, foreign, limits, passwords, texts, sink),
+        None => join_files(rt.alloc(), keys, limits, passwords, texts, sink),
+    }
+}
+
 // Answers the users of one reader by the passwords of another, or tells those of the passwords who have no text.
 fn join<P: Read + Drop, T: Read + Drop>(
     rt: &HostRuntime,
@@ -68,15 +86,7 @@ fn join<P: Read + Drop, T: Read + Drop>(
     let end = if is_no_text {
         tell_no_text(rt.alloc(), keys, &mut texts, &mut passwords, &mut sink)
     } else {
-        let limits = bound_of(matches);
-        join_files(
-            rt.alloc(),
-            keys,
-            limits,
-            &mut passwords,
-            &mut texts,
-            &mut sink,
-        )
+        join_given(rt, matches, keys, &mut passwords, &mut texts, &mut sink)
     };
     let status = names.told(rt, end);
     summarize(rt, reporting, &tally.counts());
@@ -103,15 +113,27 @@ fn join_small(
     let mut passwords = StdSource::new(passwords);
     let mut texts = StdSource::new(texts);
     let mut sink = StdSink::new(&mut tally);
-    let end = join_fewer(
-        rt.alloc(),
-        keys,
-        bound_of(matches),
-        &mut users,
-        &mut passwords,
-        &mut texts,
-        &mut sink,
-    );
+    let end = match foreign_of(matches) {
+        Some(foreign) => join_foreign_fewer(
+            rt.alloc(),
+            keys,
+            foreign,
+            bound_of(matches),
+            &mut users,
+            &mut passwords,
+            &mut texts,
+            &mut sink,
+        ),
+        None => join_fewer(
+            rt.alloc(),
+            keys,
+            bound_of(matches),
+            &mut users,
+            &mut passwords,
+            &mut texts,
+            &mut sink,
+        ),
+    };
     let status = match end {
         Ok(end) => names.told(rt, end),
         Err(status) => told(rt, names.texts, status),

@@ -1,0 +1,4 @@
+mod Handing
+mod TwoFiles
+mod Joins
+mod Verdicts

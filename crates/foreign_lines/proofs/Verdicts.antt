@@ -1,0 +1,132 @@
+-- The verdict on a text of PBKDF2 that a converter makes.
+use Rattle.std.proofs.Common.{◌≡◌, ℕ, ◌+◌, ◌^◌, ◌<◌, ◌≤◌, Bool, true, false, List, [], ◌∷◌, ◌++◌, length, refl, sym, ap, ◌∙◌}
+use Rattle.std.proofs.Common.{append-nil, append_assoc, arith, Ok, Result}
+use Rattle.std.specs.Prelude.{codes, nat_le, nat_lt, Option, Some, None}
+use Rattle.std.specs.Char.{is_ascii_digit}
+use Rattle.std.specs.Fmt.{decimal}
+use Rattle.std.specs.List.{list_all}
+use Rattle.std.proofs.lemmas.Bool.Decides.{nat_tests}
+use Rattle.base64ct.specs.Encoding.{EachBelow}
+use Rattle.mcf.specs.Grammar.{Parts, fault, field_fault, first_field_fault, is_field_byte, mcf, parts, parts_text}
+use Rattle.mcf.proofs.Built.{mcf-parts_text}
+use Rattle.mcf.proofs.ValidTexts.{pieces_of_valid}
+use Rattle.mcf.proofs.Pushed.{good_field}
+use Rattle.pieces.proofs.FaultLaws.{value_found}
+use Rattle.pieces.proofs.PlainNumbers.{decimal_read}
+use Rattle.phc.specs.Encoded.{encoding}
+use Rattle.phc.specs.Grammar.{decimal_value, is_value_byte}
+use Rattle.phc.specs.Params.{pairs_text}
+use Rattle.phc.specs.Record.{phc, phc_of_pieces, phc_text, record_text}
+use Rattle.phc.specs.declared.password_hash.PasswordHash.{PasswordHash}
+use Rattle.phc.proofs.Characters.{all_weaker, decimal_digits, encoding_value}
+use Rattle.phc.proofs.EncodedBytes.{encoded_length}
+use Rattle.pbkdf2_plain.specs.Pbkdf2.{pbkdf2}
+use Rattle.pbkdf2_plain.specs.Profile.{pbkdf2_accepts, pbkdf2_key}
+use Rattle.stored_check.specs.Verdict.{phc_answer, same_text, verdict}
+use Rattle.stored_check.specs.declared.error.StoredError.{StoredError}
+use Rattle.stored_check.proofs.MadeTexts.{of_parts}
+use Rattle.any_check.specs.Records.{accepted, tag}
+use Rattle.any_check.specs.Table.{any_verdict, identifier, of_stored, scheme_answer, scheme_named, text_scheme}
+use Rattle.any_check.specs.declared.scheme.AnyScheme.{AnyScheme}
+use Rattle.any_check.specs.declared.scheme.AnyScheme.TheVariants.{Record}
+use Rattle.foreign_text.specs.Laws.{AreHeld}
+use Rattle.foreign_text.specs.Pbkdf2.{pbkdf2_record, pbkdf2_text}
+use Rattle.foreign_text.proofs.Records.{read_again}
+
+-- ---- fields
+
+digit_in_field : (b : ℕ) → is_ascii_digit b ≡ true → is_field_byte b ≡ true
+digit_in_field b h = grind (arith, nat_tests)
+
+value_in_field : (b : ℕ) → is_value_byte b ≡ true → is_field_byte b ≡ true
+value_in_field b value = grind (arith, nat_tests, value)
+
+encoded_good : (b : List ℕ) → EachBelow 256 b → 1 ≤ length b → field_fault (encoding b) ≡ None
+encoded_good b below some =
+    good_field (encoding b) (omega (arith, encoded_length b below, some))
+    (all_weaker is_value_byte is_field_byte value_in_field (encoding b) (encoding_value b below))
+
+rounds_good : (n : ℕ) → n < 2 ^ 32 → field_fault (105 ∷ 61 ∷ decimal n) ≡ None
+rounds_good n small =
+    let digits = all_weaker is_ascii_digit is_field_byte digit_in_field (decimal n) (decimal_digits n small) in
+    good_field (105 ∷ 61 ∷ decimal n) (omega arith) digits
+
+-- ---- the parts
+
+abbrev made_parts : ℕ → List ℕ → List ℕ → Parts
+made_parts rounds salt key = record {
+  id = codes "pbkdf2-sha256";
+  fields = (105 ∷ 61 ∷ decimal rounds) ∷ encoding salt ∷ encoding key ∷ [];
+}
+
+printed : (rounds : ℕ) (salt key : List ℕ) → parts_text (made_parts rounds salt key) ≡ pbkdf2_text rounds salt key
+unfolding pbkdf2_text record_text
+printed rounds salt key =
+    let params : List ℕ = 36 ∷ 105 ∷ 61 ∷ decimal rounds in
+    ap (λ (t : List ℕ). codes "$pbkdf2-sha256" ++ (params ++ ((36 ∷ encoding salt) ++ t))) (append-nil (36 ∷ encoding key))
+    ∙ ap (λ (t : List ℕ). codes "$pbkdf2-sha256" ++ t) (sym (append_assoc params (36 ∷ encoding salt) (36 ∷ encoding key)))
+
+read_phc : (text : List ℕ) (p : Parts) → mcf text ≡ Ok p → phc_text text ≡ phc p.id p.fields
+unfolding mcf phc_text
+read_phc text p h =
+    let is = value_found (parts text) p (fault text) h in
+    ap phc_of_pieces (pieces_of_valid text is.0) ∙ ap (λ (q : Parts). phc q.id q.fields) is.1
+
+named : (text : List ℕ) (p : Parts) → mcf text ≡ Ok p → text_scheme text ≡ scheme_named p.id
+unfolding mcf text_scheme
+named text p h =
+    let is = value_found (parts text) p (fault text) h in
+    ap (λ (q : Parts). scheme_named q.id) is.1
+
+module _ (rounds : ℕ) (salt key : List ℕ) (held : AreHeld rounds salt key) where
+  made_read : mcf (pbkdf2_text rounds salt key) ≡ Ok (made_parts rounds salt key)
+  made_read =
+      let of_rounds = rounds_good rounds held.rounds_below in
+      let of_salt = encoded_good salt held.salt_bytes (omega (arith, held.salt_least)) in
+      let of_key = encoded_good key held.key_bytes (omega (arith, held.key_least)) in
+      let good : first_field_fault (made_parts rounds salt key).fields ≡ None = rw (of_rounds, of_salt, of_key) refl in
+      ap mcf (sym (printed rounds salt key)) ∙ mcf-parts_text (made_parts rounds salt key) refl good
+
+  is_record : phc (codes "pbkdf2-sha256") ((105 ∷ 61 ∷ decimal rounds) ∷ encoding salt ∷ encoding key ∷ [])
+      ≡ Ok (pbkdf2_record rounds salt key)
+  is_record =
+      sym (read_phc (pbkdf2_text rounds salt key) (made_parts rounds salt key) made_read)
+      ∙ read_again rounds salt key held
+
+  number_read : decimal_value (decimal rounds) ≡ Some rounds
+  number_read = decimal_read (2 ^ 32) rounds (omega arith) held.rounds_below
+
+  accepts : 1 ≤ rounds → rounds ≤ 10000000 → accepted (pbkdf2_record rounds salt key) salt (length key) ≡ true
+  unfolding pbkdf2_accepts
+  accepts least most =
+      let some : nat_le 1 rounds ≡ true = grind (arith, nat_tests, least) in
+      let few : nat_le rounds 10000000 ≡ true = grind (arith, nat_tests, most) in
+      let long : nat_le 10 (length key) ≡ true = grind (arith, nat_tests, held.key_least) in
+      let short : nat_le (length key) 64 ≡ true = grind (arith, nat_tests, held.key_most) in
+      rw (number_read, some, few, long, short) refl
+
+  tags : (password : List ℕ)
+      → tag password (pbkdf2_record rounds salt key) salt (length key) ≡ pbkdf2 password salt rounds (length key)
+  unfolding pbkdf2_key
+  tags password = rw number_read refl
+
+  stored_verdict : (password : List ℕ) → 1 ≤ rounds → rounds ≤ 10000000 → length password ≤ 4096
+      → verdict accepted tag password (pbkdf2_text rounds salt key)
+      ≡ Ok (same_text (encoding key) (encoding (pbkdf2 password salt rounds (length key))))
+  stored_verdict password least most fits =
+      of_parts accepted tag password (pbkdf2_text rounds salt key) (made_parts rounds salt key) fits made_read
+      ∙ ap (phc_answer accepted tag password) is_record
+      ∙ rw (accepts least most)
+      (ap (λ (t : List ℕ). Ok (same_text (encoding key) (encoding t))) (tags password))
+
+  pub of_key : (password : List ℕ) → 1 ≤ rounds → rounds ≤ 10000000 → length password ≤ 4096
+      → any_verdict accepted tag password (pbkdf2_text rounds salt key)
+      ≡ Ok (same_text (encoding key) (encoding (pbkdf2 password salt rounds (length key))))
+  unfolding any_verdict
+  of_key password least most fits =
+      let test : nat_lt 4096 (length password) ≡ false = grind (arith, nat_tests, fits) in
+      let text : List ℕ = pbkdf2_text rounds salt key in
+      let scheme : text_scheme text ≡ Some Record = named text (made_parts rounds salt key) made_read in
+      rw test
+      (ap (λ (s : Option AnyScheme). scheme_answer accepted tag s password text) scheme
+      ∙ ap of_stored (stored_verdict password least most fits))

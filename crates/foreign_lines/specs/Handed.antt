@@ -1,0 +1,54 @@
+-- What a program over lines gets of a line whose stored text is converted, or what is written in its place.
+use Rattle.std.specs.Prelude.{ℕ, Bool, false, List, [], ◌∷◌, ◌++◌, length, nat_lt, Option, Some, None, Result, Ok, Err}
+use Rattle.std.specs.Prelude.{if◌then◌else◌}
+use Rattle.line_io.specs.Limits.{line_max}
+use Rattle.foreign_text.specs.Converted.{converted}
+use Rattle.foreign_text.specs.Words.{fault_word}
+use Rattle.foreign_text.specs.declared.converted.Foreign.{Foreign}
+use Rattle.foreign_text.specs.declared.fault.ForeignFault.{ForeignFault}
+use Rattle.foreign_lines.specs.Parts.{Parts, line_with, parts_in}
+use Rattle.foreign_lines.specs.declared.parts.LineForm.{LineForm}
+use Rattle.foreign_lines.specs.declared.parts.LineForm.TheVariants.{Password, Surveyed, UserPassword, UserText}
+
+-- A line for the program, or a reply that is written in its place.
+abbrev pub Handed : Type 0
+Handed = Result (List ℕ) (List ℕ)
+
+-- the word of a cause and a line feed
+abbrev pub word_line : ForeignFault → List ℕ
+word_line fault = fault_word fault ++ 10 ∷ []
+
+-- Where a text isn't converted, its cause's word is written, behind the user where there is one. A survey gets the word in
+-- the text's place, which has no scheme.
+abbrev pub refused : LineForm → Parts → ForeignFault → Handed
+refused Password p fault = Err (word_line fault)
+refused UserPassword p fault = Err (p.user ++ 9 ∷ word_line fault)
+refused UserText p fault = Err (p.user ++ 9 ∷ word_line fault)
+refused Surveyed p fault = Ok (line_with Surveyed p (fault_word fault))
+
+-- by what the converter says
+abbrev pub by_answer : LineForm → Parts → Result (List ℕ) ForeignFault → Handed
+by_answer form p (Err fault) = refused form p fault
+by_answer form p (Ok stored) = Ok (line_with form p stored)
+
+-- by the parts of the line
+abbrev pub by_parts : Foreign → LineForm → List ℕ → Option Parts → Handed
+by_parts foreign form line None = Ok line
+by_parts foreign form line (Some p) = by_answer form p (converted foreign p.text)
+
+-- of a line; one of more than 8,192 bytes is handed on as it is
+unfoldable pub handed : Foreign → LineForm → List ℕ → Handed
+handed foreign form line =
+    if nat_lt line_max (length line) then Ok line else by_parts foreign form line (parts_in form line)
+
+-- ---- by what the program does with a line
+
+-- its reply, or the one in its place
+abbrev pub by_reply : (List ℕ → List ℕ) → Handed → List ℕ
+by_reply reply (Ok line) = reply line
+by_reply reply (Err text) = text
+
+-- its answer to a test; no where it gets no line
+abbrev pub by_test : (List ℕ → Bool) → Handed → Bool
+by_test test (Ok line) = test line
+by_test test (Err text) = false

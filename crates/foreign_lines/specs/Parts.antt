@@ -1,0 +1,46 @@
+-- Where a stored text stands in a line.
+use Rattle.std.specs.Prelude.{ℕ, Bool, List, [], ◌∷◌, ◌++◌, ◌==◌, length, Option, Some, None, if◌then◌else◌}
+use Rattle.std.specs.List.{after_last, before_last, list_any}
+use Rattle.std.specs.Str.{is_utf8}
+use Rattle.pieces.specs.Characters.{is_tab}
+use Rattle.user_lines.specs.Fields.{has_user, is_locked, rest_of, text_of_line, user_of}
+use Rattle.foreign_lines.specs.declared.parts.LineForm.{LineForm}
+use Rattle.foreign_lines.specs.declared.parts.LineForm.TheVariants.{Password, Surveyed, UserPassword, UserText}
+
+-- a line's user and password, where it has them, and its stored text
+pub record Parts : Type 0 where
+  pub user : List ℕ
+  pub password : List ℕ
+  pub text : List ℕ
+
+-- a text cut at its last tab
+abbrev pub cut_parts : List ℕ → List ℕ → Option Parts
+cut_parts user text =
+    if list_any is_tab text
+    then Some (record { user = user; password = before_last is_tab text; text = after_last is_tab text }) else None
+
+-- a password, a tab and a stored text, in UTF-8
+abbrev pub password_parts : List ℕ → List ℕ → Option Parts
+password_parts user rest = if is_utf8 rest then cut_parts user rest else None
+
+-- a stored text in UTF-8
+abbrev pub utf8_parts : List ℕ → List ℕ → Option Parts
+utf8_parts user text = if is_utf8 text then Some (record { user = user; password = []; text = text }) else None
+
+-- a stored text that is there, and isn't of a locked account
+abbrev pub text_parts : List ℕ → List ℕ → Option Parts
+text_parts user text = if length text == 0 then None else if is_locked text then None else utf8_parts user text
+
+-- the parts of a line; none where no text is converted in it
+unfoldable pub parts_in : LineForm → List ℕ → Option Parts
+parts_in Password line = password_parts [] line
+parts_in UserPassword line = if has_user line then password_parts (user_of line) (rest_of line) else None
+parts_in UserText line = if has_user line then text_parts (user_of line) (text_of_line line) else None
+parts_in Surveyed line = if has_user line then text_parts (user_of line) (text_of_line line) else None
+
+-- the line with another stored text; of a line of texts no field behind it is kept
+abbrev pub line_with : LineForm → Parts → List ℕ → List ℕ
+line_with Password p stored = p.password ++ 9 ∷ stored
+line_with UserPassword p stored = (p.user ++ 58 ∷ p.password) ++ 9 ∷ stored
+line_with UserText p stored = p.user ++ 58 ∷ stored
+line_with Surveyed p stored = p.user ++ 58 ∷ stored

@@ -1,0 +1,85 @@
+//! The users of one file of foreign texts, answered by those passwords of another that they need.
+
+ghost use Rattle.std.specs.Prelude.{◌≡◌, ◌≢◌, ◌≤◌, ◌^◌, [], IfSome, Ok, Err};
+ghost use Rattle.line_io.specs.Devices.{WhereTold};
+ghost use Rattle.pieces.specs.FaultCounts.{HasRisen};
+ghost use Rattle.user_lines.specs.Wanted.{is_in};
+ghost use Rattle.any_users.specs.FewerOutcome.{fewer_status};
+ghost use Rattle.any_users.specs.JoinOutcome.{status_of};
+ghost use Rattle.foreign_lines.specs.Runs.{ForeignFewer, ForeignWanted};
+
+use crate::join::join_texts;
+use any_check::CostLimits;
+use any_users::JoinEnd;
+use foreign_text::Foreign;
+use line_io::{Sink, Source};
+use line_program::status::SOME_OTHER;
+use std::alloc::Global;
+use std::hash::RandomState;
+use user_lines::{Loading, LoadingWanted, Passwords, load_passwords, load_wanted};
+
+// Answers the lines of foreign texts by the passwords of the users in a table.
+fn join_wanted<P: Source, T: Source, K: Sink>(
+    alloc: Global,
+    foreign: Foreign,
+    limits: Option<CostLimits>,
+    loading: LoadingWanted,
+    passwords: &mut P,
+    texts: &mut T,
+    sink: &mut K,
+    max: u64,
+) -> JoinEnd
+    requires bound { max ≤ 2 ^ 40 }
+    requires empty { loading.passwords ≡ [] }
+    ensures statuses { (status_of result ≤ 6) × (status_of result ≢ 2) }
+    ensures passwords_fault { result ≡ JoinEnd.Passwords 3 → HasRisen (P.faults passwords.old) (P.faults passwords.new) }
+    ensures texts_fault { result ≡ JoinEnd.Texts 3 → HasRisen (T.faults texts.old) (T.faults texts.new) }
+    ensures write_fault { status_of result ≡ 4 → HasRisen (K.faults sink.old) (K.faults sink.new) }
+    ensures outcome { IfSome (P.left passwords.old) (λ given.
+        WhereTold (T.left texts.old) (T.left texts.new) (K.written sink.old) (K.written sink.new)
+        (λ held taken added. ForeignWanted foreign limits (is_in loading.users) result max given held taken added)) }
+{
+    let mut loading = loading;
+    let status = load_wanted(&mut loading, passwords, sink, max);
+    if status > SOME_OTHER {
+        return JoinEnd::Passwords(status);
+    }
+    JoinEnd::Texts(join_texts(alloc, foreign, limits, loading.passwords, texts, sink, max))
+}
+
+/// Answers each line of `texts` as [`run_foreign_join`](crate::run_foreign_join) does, and keeps of the passwords those alone
+/// whose users stand in `users`, a first reading of the same file, as `any_users::run_join_fewer` does.
+pub fn run_foreign_join_fewer<U: Source, P: Source, T: Source, K: Sink>(
+    alloc: Global,
+    keys: RandomState,
+    foreign: Foreign,
+    limits: Option<CostLimits>,
+    users: &mut U,
+    passwords: &mut P,
+    texts: &mut T,
+    sink: &mut K,
+    max: u64,
+) -> Result<JoinEnd, u8>
+    requires bound { max ≤ 2 ^ 40 }
+    ensures statuses { (fewer_status result ≤ 6) × (fewer_status result ≢ 2) }
+    ensures users_fault { result ≡ Err 3 → HasRisen (U.faults users.old) (U.faults users.new) }
+    ensures passwords_fault { result ≡ Ok (JoinEnd.Passwords 3) → HasRisen (P.faults passwords.old) (P.faults passwords.new) }
+    ensures texts_fault { result ≡ Ok (JoinEnd.Texts 3) → HasRisen (T.faults texts.old) (T.faults texts.new) }
+    ensures write_fault { fewer_status result ≡ 4 → HasRisen (K.faults sink.old) (K.faults sink.new) }
+    ensures outcome { IfSome (U.left users.old) (λ first. IfSome (P.left passwords.old) (λ given.
+        WhereTold (T.left texts.old) (T.left texts.new) (K.written sink.old) (K.written sink.new)
+        (λ held taken added. ForeignFewer foreign limits result max first given held taken added))) }
+{
+    let mut first = Loading {
+        passwords: Passwords::new(alloc, keys),
+    };
+    let status = load_passwords(&mut first, users, sink, max);
+    if status > SOME_OTHER {
+        return Err(status);
+    }
+    let loading = LoadingWanted {
+        passwords: Passwords::new(alloc, keys),
+        users: first.passwords,
+    };
+    Ok(join_wanted(alloc, foreign, limits, loading, passwords, texts, sink, max))
+}

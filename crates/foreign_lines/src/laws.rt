@@ -1,0 +1,8 @@
+//! A law over the definitions.
+
+ghost use Rattle.foreign_lines.specs.Laws.{PasswordOfKey};
+
+/// A password has the verdict `match` on a converted text of PBKDF2 exactly where PBKDF2 gives the text's key for it.
+pub fn password_of_key()
+    ensures key { PasswordOfKey }
+{}

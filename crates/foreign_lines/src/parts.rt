@@ -1,0 +1,124 @@
+//! The stored text of a line.
+
+ghost use Rattle.std.specs.Prelude.{◌≡◌, MatchOption, false, true};
+ghost use Rattle.std.specs.Str.{is_utf8};
+ghost use Rattle.foreign_lines.specs.Parts.{cut_parts, parts_in, password_parts, text_parts, utf8_parts};
+ghost use Rattle.foreign_lines.specs.Views.{as_parts};
+
+use line_program::cut_at_last_tab;
+use pieces::text::text_of;
+use user_lines::{cut_field, cut_user, is_locked};
+
+/// What a line is, by where its stored text stands.
+#[derive(Clone, Copy, Debug, PartialEq, Eq)]
+pub enum LineForm {
+    /// A password, a tab and a stored text.
+    Password,
+    /// A user, a colon, and the same.
+    UserPassword,
+    /// A user, a colon and a stored text, which ends at the next colon.
+    UserText,
+    /// The same, for a survey.
+    Surveyed,
+}
+
+// A line's user and password, where it has them, and its stored text.
+#[derive(Clone, Copy, Debug)]
+pub(crate) struct LineParts<'a> {
+    pub user: &'a [u8],
+    pub password: &'a [u8],
+    pub text: &'a str,
+}
+
+// The text that these bytes are.
+fn utf8_text(bytes: &[u8]) -> Option<&str>
+    ensures text { MatchOption result (is_utf8 bytes.now ≡ false)
+        (λ text. (is_utf8 bytes.now ≡ true) × (text.now ≡ bytes.now)) }
+{
+    match text_of(bytes) {
+        Some(text) => Some(text),
+        None => None,
+    }
+}
+
+// The parts of a text, cut at its last tab.
+fn cut_parts<'a>(user: &'a [u8], text: &'a str) -> Option<LineParts<'a>>
+    ensures { as_parts result ≡ cut_parts user.now text.now }
+{
+    match cut_at_last_tab(text) {
+        Some((password, text)) => Some(LineParts {
+            user,
+            password: password.as_bytes(),
+            text,
+        }),
+        None => None,
+    }
+}
+
+// The parts of a password, a tab and a stored text.
+fn password_parts<'a>(user: &'a [u8], rest: &'a [u8]) -> Option<LineParts<'a>>
+    ensures { as_parts result ≡ password_parts user.now rest.now }
+{
+    match utf8_text(rest) {
+        Some(text) => cut_parts(user, text),
+        None => None,
+    }
+}
+
+// The parts of a user and a stored text.
+fn utf8_parts<'a>(user: &'a [u8], text: &'a [u8]) -> Option<LineParts<'a>>
+    ensures { as_parts result ≡ utf8_parts user.now text.now }
+{
+    match utf8_text(text) {
+        Some(text) => Some(LineParts {
+            user,
+            password: &[],
+            text,
+        }),
+        None => None,
+    }
+}
+
+// The same for a text that is there and isn't of a locked account.
+fn text_parts<'a>(user: &'a [u8], text: &'a [u8]) -> Option<LineParts<'a>>
+    ensures { as_parts result ≡ text_parts user.now text.now }
+{
+    if text.is_empty() || is_locked(text) {
+        return None;
+    }
+    utf8_parts(user, text)
+}
+
+// The parts of a user, a colon, a password, a tab and a stored text.
+#[tactic(auto, unfolding(crate::specs::Parts::parts_in))]
+fn user_password_parts(line: &[u8]) -> Option<LineParts<'_>>
+    ensures { as_parts result ≡ parts_in LineForm.UserPassword line.now }
+{
+    match cut_user(line) {
+        Some((user, rest)) => password_parts(user, rest),
+        None => None,
+    }
+}
+
+// The parts of a user, a colon and a stored text.
+#[tactic(auto, unfolding(crate::specs::Parts::parts_in))]
+fn user_text_parts(line: &[u8]) -> Option<LineParts<'_>>
+    ensures { as_parts result ≡ parts_in LineForm.UserText line.now }
+{
+    match cut_user(line) {
+        Some((user, rest)) => text_parts(user, cut_field(rest)),
+        None => None,
+    }
+}
+
+/// The parts of a line; none where no text is converted in it.
+#[tactic(auto, unfolding(crate::specs::Parts::parts_in))]
+pub(crate) fn parts_in(form: LineForm, line: &[u8]) -> Option<LineParts<'_>>
+    ensures { as_parts result ≡ parts_in form line.now }
+{
+    match form {
+        LineForm::Password => password_parts(&[], line),
+        LineForm::UserPassword => user_password_parts(line),
+        LineForm::UserText | LineForm::Surveyed => user_text_parts(line),
+    }
+}

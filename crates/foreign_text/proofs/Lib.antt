@@ -1,0 +1,4 @@
+mod Lengths
+pub mod Records
+mod Spelled
+mod Itself

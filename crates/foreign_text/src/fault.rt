@@ -1,0 +1,87 @@
+//! Why a foreign text isn't converted.
+
+ghost use Rattle.std.specs.Prelude.{◌≡◌, ◌≤◌, length};
+ghost use Rattle.foreign_text.specs.Words.{fault_word, unread_word};
+
+/// A scheme of which no text is read.
+#[derive(Clone, Copy, Debug, PartialEq, Eq)]
+pub enum Unread {
+    /// PBKDF2 with SHA-1.
+    Pbkdf2Sha1,
+    /// PBKDF2 with SHA-512.
+    Pbkdf2Sha512,
+    /// bcrypt of a SHA-256 digest of the password, as Django and passlib make it.
+    BcryptSha256,
+    /// scrypt in Django's spelling.
+    Scrypt,
+    /// SHA-1 without a cost, with or without a salt.
+    Sha1,
+    /// MD5 without a cost, with or without a salt.
+    Md5,
+    /// SHA-2 without a cost, with or without a salt.
+    Sha2,
+    /// crypt(3) by DES.
+    DesCrypt,
+    /// The password itself.
+    Cleartext,
+    /// Another, or none.
+    Other,
+}
+
+impl Unread {
+    // The word.
+    fn word(&self) -> &'static str
+        ensures word { result.now ≡ unread_word self.now }
+        ensures short { length result.now ≤ 25 }
+    {
+        match self {
+            Unread::Pbkdf2Sha1 => "unsupported-pbkdf2-sha1",
+            Unread::Pbkdf2Sha512 => "unsupported-pbkdf2-sha512",
+            Unread::BcryptSha256 => "unsupported-bcrypt-sha256",
+            Unread::Scrypt => "unsupported-scrypt",
+            Unread::Sha1 => "unsupported-sha1",
+            Unread::Md5 => "unsupported-md5",
+            Unread::Sha2 => "unsupported-sha2",
+            Unread::DesCrypt => "unsupported-des-crypt",
+            Unread::Cleartext => "unsupported-cleartext",
+            Unread::Other => "unsupported-scheme",
+        }
+    }
+}
+
+/// The first cause that a foreign text isn't converted.
+#[derive(Clone, Copy, Debug, PartialEq, Eq)]
+pub enum ForeignFault {
+    /// It is of a scheme that isn't read.
+    Unread(Unread),
+    /// It hasn't the fields of its scheme, or what stands in it as it is isn't of that scheme.
+    Form,
+    /// The rounds are no plain decimal below 2^32.
+    Rounds,
+    /// The salt is no Base64 in the foreign alphabet, or has more than 128 characters.
+    Salt,
+    /// The salt has fewer than 8 or more than 48 bytes, which no record holds.
+    SaltLength,
+    /// The key is no Base64 in the foreign alphabet, or has more than 128 characters.
+    Hash,
+    /// The key has fewer than 10 or more than 64 bytes, which no record holds.
+    HashLength,
+}
+
+impl ForeignFault {
+    /// The word: `unsupported-` and the scheme, or `foreign-` and the part that has the fault.
+    pub fn word(&self) -> &'static str
+        ensures word { result.now ≡ fault_word self.now }
+        ensures short { length result.now ≤ 25 }
+    {
+        match self {
+            ForeignFault::Unread(scheme) => scheme.word(),
+            ForeignFault::Form => "foreign-form",
+            ForeignFault::Rounds => "foreign-rounds",
+            ForeignFault::Salt => "foreign-salt",
+            ForeignFault::SaltLength => "foreign-salt-length",
+            ForeignFault::Hash => "foreign-hash",
+            ForeignFault::HashLength => "foreign-hash-length",
+        }
+    }
+}

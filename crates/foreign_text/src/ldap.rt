@@ -1,0 +1,114 @@
+//! Texts of LDAP's `userPassword`.
+
+ghost use Rattle.std.specs.Prelude.{◌≡◌, ℕ, List};
+ghost use Rattle.pieces.specs.Pieces.{lent};
+ghost use Rattle.foreign_text.specs.Converted.{ldap, ldap_crypt};
+ghost use Rattle.foreign_text.specs.Names.{behind_tag, is_tagged, ldap_digest, ldap_pbkdf2, ldap_sha2, ldap_unread};
+ghost use Rattle.foreign_text.specs.Views.{as_answer};
+
+use crate::converted::{MadeText, adapted_pbkdf2, as_it_is};
+use crate::{ForeignFault, Unread};
+use pieces::{begins_with, behind};
+
+// Whether a text begins with a tag, in capital or in small letters.
+fn is_tagged(text: &str, capital: &str, small: &str) -> bool
+    ensures { result ≡ is_tagged text.now capital.now small.now }
+{
+    begins_with(text, capital) || begins_with(text, small)
+}
+
+// What stands behind a tag.
+fn behind_tag<'a>(text: &'a str, capital: &str, small: &str) -> Option<&'a str>
+    ensures { lent result ≡ behind_tag text.now capital.now small.now }
+{
+    match behind(text, capital) {
+        Some(rest) => Some(rest),
+        None => behind(text, small),
+    }
+}
+
+// The scheme of a digest by SHA-1 or MD5.
+fn ldap_digest(text: &str) -> Unread
+    ensures { result ≡ ldap_digest text.now }
+{
+    if is_tagged(text, "{SSHA}", "{ssha}") || is_tagged(text, "{SHA}", "{sha}") {
+        Unread::Sha1
+    } else if is_tagged(text, "{SMD5}", "{smd5}") || is_tagged(text, "{MD5}", "{md5}") {
+        Unread::Md5
+    } else {
+        Unread::Other
+    }
+}
+
+// The scheme of a digest.
+fn ldap_sha2(text: &str) -> Unread
+    ensures { result ≡ ldap_sha2 text.now }
+{
+    if is_tagged(text, "{SSHA256}", "{ssha256}")
+        || is_tagged(text, "{SSHA384}", "{ssha384}")
+        || is_tagged(text, "{SSHA512}", "{ssha512}")
+        || is_tagged(text, "{SHA256}", "{sha256}")
+        || is_tagged(text, "{SHA384}", "{sha384}")
+        || is_tagged(text, "{SHA512}", "{sha512}")
+    {
+        Unread::Sha2
+    } else {
+        ldap_digest(text)
+    }
+}
+
+// The scheme of a text of PBKDF2 or of a digest.
+fn ldap_pbkdf2(text: &str) -> Unread
+    ensures { result ≡ ldap_pbkdf2 text.now }
+{
+    if is_tagged(text, "{PBKDF2-SHA512}", "{pbkdf2-sha512}") {
+        Unread::Pbkdf2Sha512
+    } else if is_tagged(text, "{PBKDF2-SHA1}", "{pbkdf2-sha1}")
+        || is_tagged(text, "{PBKDF2}", "{pbkdf2}")
+    {
+        Unread::Pbkdf2Sha1
+    } else {
+        ldap_sha2(text)
+    }
+}
+
+// The scheme of a text that isn't read.
+fn ldap_unread(text: &str) -> Unread
+    ensures { result ≡ ldap_unread text.now }
+{
+    if !begins_with(text, "{") || is_tagged(text, "{CLEARTEXT}", "{cleartext}") {
+        return Unread::Cleartext;
+    }
+    ldap_pbkdf2(text)
+}
+
+// What crypt(3) takes.
+fn ldap_crypt(rest: &str) -> Result<Option<&str>, ForeignFault>
+    ensures { (made : List ℕ) → as_answer result made ≡ ldap_crypt rest.now }
+{
+    if begins_with(rest, "$") {
+        Ok(Some(rest))
+    } else {
+        Err(ForeignFault::Unread(Unread::DesCrypt))
+    }
+}
+
+/// The stored text of a text of LDAP.
+#[tactic(auto, unfolding(crate::specs::Converted::ldap))]
+pub(crate) fn ldap<'a>(text: &'a str, made: &mut MadeText) -> Result<Option<&'a str>, ForeignFault>
+    ensures { as_answer result made.new ≡ ldap text.now }
+{
+    if begins_with(text, "$") {
+        return Ok(Some(text));
+    }
+    if let Some(rest) = behind_tag(text, "{CRYPT}", "{crypt}") {
+        return ldap_crypt(rest);
+    }
+    if let Some(rest) = behind_tag(text, "{ARGON2}", "{argon2}") {
+        return as_it_is("$argon2", rest);
+    }
+    if let Some(rest) = behind_tag(text, "{PBKDF2-SHA256}", "{pbkdf2-sha256}") {
+        return adapted_pbkdf2(rest, made);
+    }
+    Err(ForeignFault::Unread(ldap_unread(text)))
+}

@@ -1,0 +1,65 @@
+//! Texts of passlib.
+
+ghost use Rattle.std.specs.Prelude.{◌≡◌, ℕ, List};
+ghost use Rattle.foreign_text.specs.Converted.{begins_with_digit, passlib, passlib_other, passlib_pbkdf2};
+ghost use Rattle.foreign_text.specs.Names.{passlib_unread};
+ghost use Rattle.foreign_text.specs.Views.{as_answer};
+
+use crate::converted::{MadeText, adapted_pbkdf2};
+use crate::{ForeignFault, Unread};
+use pieces::{begins_with, behind};
+
+// Whether a digit comes first.
+fn begins_with_digit(rest: &str) -> bool
+    ensures { result ≡ begins_with_digit rest.now }
+{
+    match rest.as_bytes().first() {
+        Some(b) => b.is_ascii_digit(),
+        None => false,
+    }
+}
+
+// The scheme of a text that isn't read.
+fn passlib_unread(text: &str) -> Option<Unread>
+    ensures { result ≡ passlib_unread text.now }
+{
+    if begins_with(text, "$pbkdf2-sha512$") {
+        Some(Unread::Pbkdf2Sha512)
+    } else if begins_with(text, "$pbkdf2$") {
+        Some(Unread::Pbkdf2Sha1)
+    } else if begins_with(text, "$bcrypt-sha256$") {
+        Some(Unread::BcryptSha256)
+    } else if begins_with(text, "$") {
+        None
+    } else {
+        Some(Unread::Other)
+    }
+}
+
+// A text of another scheme than PBKDF2 with SHA-256.
+fn passlib_other(text: &str) -> Result<Option<&str>, ForeignFault>
+    ensures { (made : List ℕ) → as_answer result made ≡ passlib_other text.now (passlib_unread text.now) }
+{
+    match passlib_unread(text) {
+        Some(scheme) => Err(ForeignFault::Unread(scheme)),
+        None => Ok(Some(text)),
+    }
+}
+
+/// The stored text of a text of passlib.
+#[tactic(auto, unfolding(crate::specs::Converted::passlib))]
+pub(crate) fn passlib<'a>(
+    text: &'a str,
+    made: &mut MadeText,
+) -> Result<Option<&'a str>, ForeignFault>
+    ensures { as_answer result made.new ≡ passlib text.now }
+{
+    let Some(rest) = behind(text, "$pbkdf2-sha256$") else {
+        return passlib_other(text);
+    };
+    if begins_with_digit(rest) {
+        adapted_pbkdf2(rest, made)
+    } else {
+        Ok(Some(text))
+    }
+}

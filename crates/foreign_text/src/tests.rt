@@ -1,0 +1,361 @@
+//! Texts of Django 3.2, passlib 1.7.4 and the Python module argon2 21.1. The records for those of PBKDF2 were put together by
+//! Python's base64 and passlib's `ab64_decode`.
+
+use crate::{Foreign, ForeignFault, MadeText, Unread, stored_text};
+
+// Whether the stored text is this one.
+fn is_converted(foreign: Foreign, text: &str, stored: &str) -> bool {
+    let mut made = MadeText::new();
+    match stored_text(foreign, text, &mut made) {
+        Ok(Some(held)) => held == stored,
+        Ok(None) => made.as_slice() == stored.as_bytes(),
+        Err(_) => false,
+    }
+}
+
+// The fault, if there is one.
+fn fault_of(foreign: Foreign, text: &str) -> Option<ForeignFault> {
+    stored_text(foreign, text, &mut MadeText::new()).err()
+}
+
+// Foreign texts, and the stored texts for them.
+const CONVERTED: [(Foreign, &str, &str); 15] = [
+    (
+        Foreign::Django,
+        "pbkdf2_sha256$1$seasalt2$okMx3z2N312lq0ehHCdGm1whcV9TBaPbzGwzrkepq98=",
+        "$pbkdf2-sha256$i=1$c2Vhc2FsdDI$okMx3z2N312lq0ehHCdGm1whcV9TBaPbzGwzrkepq98",
+    ),
+    (
+        Foreign::Django,
+        "pbkdf2_sha256$1000$abcdefgh$GHUbOYNfzc/1XP2MWJxQ0OB83AthJA5LJEJcJ6ahzFY=",
+        "$pbkdf2-sha256$i=1000$YWJjZGVmZ2g$GHUbOYNfzc/1XP2MWJxQ0OB83AthJA5LJEJcJ6ahzFY",
+    ),
+    (
+        Foreign::Django,
+        "pbkdf2_sha256$3$äöü€$1u0BLvqNcjmT6imfM7A9jQe10VzJa4DZK+RHSRMA2p4=",
+        "$pbkdf2-sha256$i=3$w6TDtsO84oKs$1u0BLvqNcjmT6imfM7A9jQe10VzJa4DZK+RHSRMA2p4",
+    ),
+    (
+        Foreign::Django,
+        "argon2$argon2id$v=19$m=102400,t=2,p=8$c2FsdHNhbHRzYWx0$GBes5pzD7516flSwZmb4ug",
+        "$argon2id$v=19$m=102400,t=2,p=8$c2FsdHNhbHRzYWx0$GBes5pzD7516flSwZmb4ug",
+    ),
+    (
+        Foreign::Django,
+        "bcrypt$$2b$04$IDYQiErtpPhiHsTxJJaFNeyHzoDMUA/Uj5Zel6n4M8ud0TGjMAZYC",
+        "$2b$04$IDYQiErtpPhiHsTxJJaFNeyHzoDMUA/Uj5Zel6n4M8ud0TGjMAZYC",
+    ),
+    (Foreign::Django, "$5$saltstring$x", "$5$saltstring$x"),
+    (
+        Foreign::Ldap,
+        "{PBKDF2-SHA256}7$././././././././$2q/VDzi8QUSjt4RT0dNGZrTsYeBu3sb8sszBxgEgh40",
+        "$pbkdf2-sha256$i=7$+/+/+/+/+/+/+/+/$2q/VDzi8QUSjt4RT0dNGZrTsYeBu3sb8sszBxgEgh40",
+    ),
+    (
+        Foreign::Ldap,
+        "{PBKDF2-SHA256}7$YWJjZGVmZ2g$oNzBqFb03A.goX/CUpviOBd1EZ5cZP30Ade7.vnhkhM",
+        "$pbkdf2-sha256$i=7$YWJjZGVmZ2g$oNzBqFb03A+goX/CUpviOBd1EZ5cZP30Ade7+vnhkhM",
+    ),
+    (
+        Foreign::Ldap,
+        "{CRYPT}$1$C3LmYGvw$LWNS4F1sNOhKx3fTpIH3s.",
+        "$1$C3LmYGvw$LWNS4F1sNOhKx3fTpIH3s.",
+    ),
+    (
+        Foreign::Ldap,
+        "{crypt}$1$C3LmYGvw$LWNS4F1sNOhKx3fTpIH3s.",
+        "$1$C3LmYGvw$LWNS4F1sNOhKx3fTpIH3s.",
+    ),
+    (
+        Foreign::Ldap,
+        "{ARGON2}$argon2i$v=19$m=292,t=1,p=4$WBvU1JEofQW/TdcIOMXPFA$gjbLH9jEExjvYq4nNndpww",
+        "$argon2i$v=19$m=292,t=1,p=4$WBvU1JEofQW/TdcIOMXPFA$gjbLH9jEExjvYq4nNndpww",
+    ),
+    (
+        Foreign::Passlib,
+        "$pbkdf2-sha256$7$././././././././$2q/VDzi8QUSjt4RT0dNGZrTsYeBu3sb8sszBxgEgh40",
+        "$pbkdf2-sha256$i=7$+/+/+/+/+/+/+/+/$2q/VDzi8QUSjt4RT0dNGZrTsYeBu3sb8sszBxgEgh40",
+    ),
+    (
+        Foreign::Passlib,
+        "$pbkdf2-sha256$7$AAECAwQFBgcICQoLDA0ODxAREhMUFRYXGBkaGxwdHh8gISIjJCUmJygpKissLS4v$qui.4ZHfyiWOKCdqocsBmEszyk1mPmqQ4xz7pNRvaPw",
+        "$pbkdf2-sha256$i=7$AAECAwQFBgcICQoLDA0ODxAREhMUFRYXGBkaGxwdHh8gISIjJCUmJygpKissLS4v$qui+4ZHfyiWOKCdqocsBmEszyk1mPmqQ4xz7pNRvaPw",
+    ),
+    (
+        Foreign::Passlib,
+        "$pbkdf2-sha256$i=7$YWJjZGVmZ2g$oNzBqFb03A+goX/CUpviOBd1EZ5cZP30Ade7+vnhkhM",
+        "$pbkdf2-sha256$i=7$YWJjZGVmZ2g$oNzBqFb03A+goX/CUpviOBd1EZ5cZP30Ade7+vnhkhM",
+    ),
+    (
+        Foreign::Passlib,
+        "$scrypt$ln=2,r=1,p=1$gxCiVGqNcW6t9R4jRKi1Fg$0+gitlFsCMfvpdALX7vdS308go6Qf+jgh3fjf+QhYUc",
+        "$scrypt$ln=2,r=1,p=1$gxCiVGqNcW6t9R4jRKi1Fg$0+gitlFsCMfvpdALX7vdS308go6Qf+jgh3fjf+QhYUc",
+    ),
+];
+
+#[test]
+fn converted_texts(rt: HostRuntime) {
+    for (foreign, text, stored) in CONVERTED {
+        assert!(rt; is_converted(foreign, text, stored), "{text}");
+        assert!(rt; is_converted(foreign, stored, stored), "{stored}");
+    }
+}
+
+// Texts of schemes that aren't read.
+const UNREAD: [(Foreign, &str, Unread, &str); 16] = [
+    (
+        Foreign::Django,
+        "pbkdf2_sha1$3$CQGgXkH1zxFUb$GLn5Ai20ScanjT8A5+7iI21zErE=",
+        Unread::Pbkdf2Sha1,
+        "unsupported-pbkdf2-sha1",
+    ),
+    (
+        Foreign::Django,
+        "bcrypt_sha256$$2b$04$0v2TPSqrKaDKURXtLIvyu.",
+        Unread::BcryptSha256,
+        "unsupported-bcrypt-sha256",
+    ),
+    (
+        Foreign::Django,
+        "scrypt$16384$abcdefgh$8$1$x",
+        Unread::Scrypt,
+        "unsupported-scrypt",
+    ),
+    (
+        Foreign::Django,
+        "md5$8GAF0wAwaIIN$8bbf700929d8d9746e53ad0f3bef5162",
+        Unread::Md5,
+        "unsupported-md5",
+    ),
+    (
+        Foreign::Django,
+        "unsalted_sha1$$x",
+        Unread::Sha1,
+        "unsupported-sha1",
+    ),
+    (
+        Foreign::Django,
+        "crypt$$ud03EAGigf5FA",
+        Unread::DesCrypt,
+        "unsupported-des-crypt",
+    ),
+    (
+        Foreign::Django,
+        "!1zFqYYmyw7",
+        Unread::Other,
+        "unsupported-scheme",
+    ),
+    (
+        Foreign::Ldap,
+        "{CRYPT}ud03EAGigf5FA",
+        Unread::DesCrypt,
+        "unsupported-des-crypt",
+    ),
+    (
+        Foreign::Ldap,
+        "{SSHA}w78RgX/K4KeShALYnY8MnQPuLpRG6P0/",
+        Unread::Sha1,
+        "unsupported-sha1",
+    ),
+    (
+        Foreign::Ldap,
+        "{smd5}rB2Poa+U1yCGWXrH/wG3rKP0fq8=",
+        Unread::Md5,
+        "unsupported-md5",
+    ),
+    (
+        Foreign::Ldap,
+        "{SSHA512}YRiy2WtyfPFZnm97zr4W",
+        Unread::Sha2,
+        "unsupported-sha2",
+    ),
+    (
+        Foreign::Ldap,
+        "{PBKDF2-SHA512}39$RajV.j.nNAYAgFDq3XuvVQ$x",
+        Unread::Pbkdf2Sha512,
+        "unsupported-pbkdf2-sha512",
+    ),
+    (
+        Foreign::Ldap,
+        "secret",
+        Unread::Cleartext,
+        "unsupported-cleartext",
+    ),
+    (
+        Foreign::Ldap,
+        "{SASL}ann@example.org",
+        Unread::Other,
+        "unsupported-scheme",
+    ),
+    (
+        Foreign::Passlib,
+        "$pbkdf2-sha512$30$GKP03luLsRYCYMz5P2fMGQ$x",
+        Unread::Pbkdf2Sha512,
+        "unsupported-pbkdf2-sha512",
+    ),
+    (
+        Foreign::Passlib,
+        "PQBZ.zDHBiLKY",
+        Unread::Other,
+        "unsupported-scheme",
+    ),
+];
+
+#[test]
+fn unread_schemes(rt: HostRuntime) {
+    for (foreign, text, scheme, word) in UNREAD {
+        let fault = ForeignFault::Unread(scheme);
+        assert_eq!(rt; fault_of(foreign, text), Some(fault), "{text}");
+        assert_eq!(rt; fault.word(), word);
+    }
+}
+
+// Texts with a fault, and its word. Of the spare bits of the last character of a key or a salt one is set in two of them.
+const FAULTS: [(Foreign, &str, ForeignFault, &str); 23] = [
+    (
+        Foreign::Django,
+        "pbkdf2_sha256$1$abcdefgh",
+        ForeignFault::Form,
+        "foreign-form",
+    ),
+    (
+        Foreign::Django,
+        "pbkdf2_sha256$1",
+        ForeignFault::Form,
+        "foreign-form",
+    ),
+    (
+        Foreign::Django,
+        "pbkdf2_sha256$",
+        ForeignFault::Form,
+        "foreign-form",
+    ),
+    (
+        Foreign::Django,
+        "pbkdf2_sha256$1$abcdefgh$okMx3z2N312lq0ehHCdGm1whcV9TBaPbzGwzrkepq98=$",
+        ForeignFault::Form,
+        "foreign-form",
+    ),
+    (
+        Foreign::Django,
+        "pbkdf2_sha256$01$abcdefgh$okMx3z2N312lq0ehHCdGm1whcV9TBaPbzGwzrkepq98=",
+        ForeignFault::Rounds,
+        "foreign-rounds",
+    ),
+    (
+        Foreign::Django,
+        "pbkdf2_sha256$$abcdefgh$okMx3z2N312lq0ehHCdGm1whcV9TBaPbzGwzrkepq98=",
+        ForeignFault::Rounds,
+        "foreign-rounds",
+    ),
+    (
+        Foreign::Django,
+        "pbkdf2_sha256$4294967296$abcdefgh$okMx3z2N312lq0ehHCdGm1whcV9TBaPbzGwzrkepq98=",
+        ForeignFault::Rounds,
+        "foreign-rounds",
+    ),
+    (
+        Foreign::Django,
+        "pbkdf2_sha256$1$seasalt$okMx3z2N312lq0ehHCdGm1whcV9TBaPbzGwzrkepq98=",
+        ForeignFault::SaltLength,
+        "foreign-salt-length",
+    ),
+    (
+        Foreign::Django,
+        "pbkdf2_sha256$1$xxxxxxxxxxxxxxxxxxxxxxxxxxxxxxxxxxxxxxxxxxxxxxxxx$okMx3z2N312lq0ehHCdGm1whcV9TBaPbzGwzrkepq98=",
+        ForeignFault::SaltLength,
+        "foreign-salt-length",
+    ),
+    (
+        Foreign::Django,
+        "pbkdf2_sha256$1$abcdefgh$okMx3z2N312lq0ehHCdGm1whcV9TBaPbzGwzrkepq98",
+        ForeignFault::Hash,
+        "foreign-hash",
+    ),
+    (
+        Foreign::Django,
+        "pbkdf2_sha256$1$abcdefgh$okMx3z2N312lq0ehHCdGm1whcV9TBaPbzGwzrkepq99=",
+        ForeignFault::Hash,
+        "foreign-hash",
+    ),
+    (
+        Foreign::Django,
+        "pbkdf2_sha256$1$abcdefgh$MTIzNDU2Nzg5",
+        ForeignFault::HashLength,
+        "foreign-hash-length",
+    ),
+    (
+        Foreign::Django,
+        "argon2$2b$04$IDYQiErtpPhiHsTxJJaFNe",
+        ForeignFault::Form,
+        "foreign-form",
+    ),
+    (
+        Foreign::Django,
+        "bcrypt$$1$abcdefgh$x",
+        ForeignFault::Form,
+        "foreign-form",
+    ),
+    (
+        Foreign::Ldap,
+        "{PBKDF2-SHA256}+1$YWJjZGVmZ2g$okMx3z2N312lq0ehHCdGm1whcV9TBaPbzGwzrkepq98",
+        ForeignFault::Rounds,
+        "foreign-rounds",
+    ),
+    (
+        Foreign::Ldap,
+        "{PBKDF2-SHA256}1$YWJjZGVmZ2h$okMx3z2N312lq0ehHCdGm1whcV9TBaPbzGwzrkepq98",
+        ForeignFault::Salt,
+        "foreign-salt",
+    ),
+    (
+        Foreign::Ldap,
+        "{PBKDF2-SHA256}1$AAAAAAAAAAAAAAAAAAAAAAAAAAAAAAAAAAAAAAAAAAAAAAAAAAAAAAAAAAAAAAAAAAAAAAAAAAAAAAAAAAAAAAAAAAAAAAAAAAAAAAAAAAAAAAAAAAAAAAAAAAAAAAAAAAAA$okMx3z2N312lq0ehHCdGm1whcV9TBaPbzGwzrkepq98",
+        ForeignFault::Salt,
+        "foreign-salt",
+    ),
+    (
+        Foreign::Ldap,
+        "{PBKDF2-SHA256}1$YWJjZGVmZw$okMx3z2N312lq0ehHCdGm1whcV9TBaPbzGwzrkepq98",
+        ForeignFault::SaltLength,
+        "foreign-salt-length",
+    ),
+    (
+        Foreign::Ldap,
+        "{ARGON2}$5$x$y",
+        ForeignFault::Form,
+        "foreign-form",
+    ),
+    (
+        Foreign::Passlib,
+        "$pbkdf2-sha256$1$YWJjZGVmZ2g$okMx3z2N312lq0ehHCdGm1whcV9TBaPbzGwzrkepq98=",
+        ForeignFault::Hash,
+        "foreign-hash",
+    ),
+    (
+        Foreign::Passlib,
+        "$pbkdf2-sha256$1$YWJjZGVmZ2g$AAAAAAAAAAAAAAAAAAAAAAAAAAAAAAAAAAAAAAAAAAAAAAAAAAAAAAAAAAAAAAAAAAAAAAAAAAAAAAAAAAAAAAAAAAAA",
+        ForeignFault::HashLength,
+        "foreign-hash-length",
+    ),
+    (
+        Foreign::Passlib,
+        "$pbkdf2-sha256$1$YWJjZGVmZ2g$AAAAAAAAAAAAAAAAAAAAAAAAAAAAAAAAAAAAAAAAAAAAAAAAAAAAAAAAAAAAAAAAAAAAAAAAAAAAAAAAAAAAAAAAAAAAAAAAAAAAAAAAAAAAAAAAAAAAAAAAAAAAAAAAAAAA",
+        ForeignFault::Hash,
+        "foreign-hash",
+    ),
+    (
+        Foreign::Passlib,
+        "$pbkdf2-sha256$1$+/+/+/+/+/+/+/+/$okMx3z2N312lq0ehHCdGm1whcV9TBaPbzGwzrkepq98",
+        ForeignFault::Salt,
+        "foreign-salt",
+    ),
+];
+
+#[test]
+fn faults(rt: HostRuntime) {
+    for (foreign, text, fault, word) in FAULTS {
+        assert_eq!(rt; fault_of(foreign, text), Some(fault), "{text}");
+        assert_eq!(rt; fault.word(), word);
+    }
+}

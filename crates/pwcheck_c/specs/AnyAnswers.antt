@@ -1,0 +1,108 @@
+-- The answers to a password and a stored text of every scheme, as bytes.
+use Rattle.std.specs.Prelude.{◌≡◌, ◌≢◌, ◌⊎◌, ℕ, Bool, true, false, List, Option, Some, Result, Ok, Err, if◌then◌else◌}
+use Rattle.stored_check.specs.declared.error.StoredError.TheVariants.{OutOfMemory}
+use Rattle.bcrypt_plain.specs.declared.error.BcryptFault.{BcryptFault}
+use Rattle.bcrypt_plain.specs.declared.error.BcryptFault.TheVariants as of_bcrypt
+use Rattle.yescrypt_plain.specs.declared.error.TextFault.{TextFault}
+use Rattle.yescrypt_plain.specs.declared.error.TextFault.TheVariants as of_text
+use Rattle.any_check.specs.Lines.{given_may_lack, given_verdict}
+use Rattle.any_check.specs.Words.{any_word}
+use Rattle.any_check.specs.declared.cost.CostLimits.{CostLimits}
+use Rattle.any_check.specs.declared.error.AnyError.{AnyError}
+use Rattle.any_check.specs.declared.error.AnyError.TheVariants as of_any
+use Rattle.pwcheck_c.specs.Verdicts.{are_text}
+use Rattle.pwcheck_c.specs.Words.{answer_word}
+use Rattle.pwcheck_c.specs.declared.any.Limits.{Limits}
+use Rattle.pwcheck_c.specs.declared.answer.Answer.{Answer}
+use Rattle.pwcheck_c.specs.declared.answer.Answer.TheVariants.{BcryptB64, BcryptCost, BcryptFormat, BcryptObsolete, Checked}
+use Rattle.pwcheck_c.specs.declared.answer.Answer.TheVariants.{Md5Format, NoScheme, NotText, OverCost, ScryptCost, ScryptFormat}
+use Rattle.pwcheck_c.specs.declared.answer.Answer.TheVariants.{YescryptCost, YescryptFlavor, YescryptFormat, ZeroByte}
+
+-- ---- causes: one answer for those that have one word
+
+-- a fault of a text of bcrypt; the last line is for the faults of its form
+abbrev pub bcrypt_cause : BcryptFault → Answer
+bcrypt_cause of_bcrypt.Obsolete = BcryptObsolete
+bcrypt_cause of_bcrypt.Cost = BcryptCost
+bcrypt_cause of_bcrypt.Character = BcryptB64
+bcrypt_cause of_bcrypt.SpareBits = BcryptB64
+bcrypt_cause fault = BcryptFormat
+
+-- a fault of a text `$y$`; the last line is for the faults of its form
+abbrev pub yescrypt_cause : TextFault → Answer
+yescrypt_cause of_text.Flavor = YescryptFlavor
+yescrypt_cause of_text.Parallelism = YescryptCost
+yescrypt_cause of_text.Upgrades = YescryptCost
+yescrypt_cause of_text.Rom = YescryptCost
+yescrypt_cause of_text.Memory = YescryptCost
+yescrypt_cause of_text.Cost = YescryptCost
+yescrypt_cause fault = YescryptFormat
+
+-- a fault of a text `$7$`; the last line is for the faults of its form
+abbrev pub scrypt_cause : TextFault → Answer
+scrypt_cause of_text.Memory = ScryptCost
+scrypt_cause of_text.Cost = ScryptCost
+scrypt_cause fault = ScryptFormat
+
+-- what `check_any` answers; the verdicts and the causes of `check_stored` keep their numbers
+abbrev pub cause_answer : Result Bool AnyError → Answer
+cause_answer (Ok b) = Checked (Ok b)
+cause_answer (Err (of_any.Stored e)) = Checked (Err e)
+cause_answer (Err of_any.NoScheme) = NoScheme
+cause_answer (Err (of_any.Md5 fault)) = Md5Format
+cause_answer (Err (of_any.Bcrypt fault)) = bcrypt_cause fault
+cause_answer (Err (of_any.Yescrypt fault)) = yescrypt_cause fault
+cause_answer (Err (of_any.Scrypt fault)) = scrypt_cause fault
+cause_answer (Err of_any.ZeroByte) = ZeroByte
+cause_answer (Err of_any.TooCostly) = OverCost
+
+-- ---- a password and a stored text
+
+-- the bounds under the names of `any_check`
+abbrev pub bounds_of : Limits → CostLimits
+bounds_of l = record {
+  sha_rounds = l.sha_rounds;
+  bcrypt_cost = l.bcrypt_cost;
+  yescrypt_ln = l.yescrypt_ln;
+  yescrypt_r = l.yescrypt_r;
+  yescrypt_t = l.yescrypt_t;
+  pbkdf2_rounds = l.pbkdf2_rounds;
+  scrypt_ln = l.scrypt_ln;
+  scrypt_r = l.scrypt_r;
+  scrypt_p = l.scrypt_p;
+  argon2_memory = l.argon2_memory;
+  argon2_passes = l.argon2_passes;
+  argon2_lanes = l.argon2_lanes;
+}
+
+-- the verdict on two texts, or the first cause that there is none
+abbrev pub text_answer : Limits → List ℕ → List ℕ → Answer
+text_answer limits password stored = cause_answer (given_verdict (Some (bounds_of limits)) password stored)
+
+-- the same of two lists of bytes
+unfoldable pub any_answer : Limits → List ℕ → List ℕ → Answer
+any_answer limits password stored = if are_text password stored then text_answer limits password stored else NotText
+
+-- memory may be wanting
+unfoldable pub any_may_lack : Limits → List ℕ → List ℕ → Bool
+any_may_lack limits password stored =
+    if are_text password stored then given_may_lack (Some (bounds_of limits)) password stored else false
+
+-- an answer is that one; or want of memory, where that may be
+abbrev pub IsAnyAnswer : Limits → List ℕ → List ℕ → Answer → Type 0
+IsAnyAnswer limits password stored a =
+    (a ≡ any_answer limits password stored)
+    ⊎ ((a ≡ Checked (Err OutOfMemory)) × (any_may_lack limits password stored ≡ true))
+
+-- the same of two texts
+abbrev pub IsTextAnswer : Limits → List ℕ → List ℕ → Answer → Type 0
+IsTextAnswer limits password stored a =
+    (a ≡ text_answer limits password stored)
+    ⊎ ((a ≡ Checked (Err OutOfMemory)) × (given_may_lack (Some (bounds_of limits)) password stored ≡ true))
+
+-- ---- a law: the word of an answer is the word of `any_check`, but for want of memory and a cost above the bound
+
+abbrev pub HasAnyWord : Type 0
+HasAnyWord =
+    (r : Result Bool AnyError) → r ≢ Err (of_any.Stored OutOfMemory) → r ≢ Err of_any.TooCostly
+    → answer_word (cause_answer r) ≡ any_word r

@@ -1,0 +1,143 @@
+//! The verdict for every scheme.
+
+ghost use Rattle.std.specs.Prelude.{◌≡◌, IsSomeAnd, false, true};
+ghost use Rattle.pwcheck_c.specs.Numbers.{answer_of};
+ghost use Rattle.pwcheck_c.specs.AnyAnswers.{IsAnyAnswer, IsTextAnswer, bcrypt_cause, bounds_of, cause_answer, scrypt_cause, yescrypt_cause};
+
+use crate::answer::Answer;
+use crate::check::text_of;
+use any_check::{AnyError, AnyLines, CostLimits};
+use bcrypt_plain::BcryptFault;
+use std::alloc::Global;
+use stored_check::StoredError;
+use yescrypt_plain::TextFault;
+
+/// The most that a valid stored text may ask for, scheme by scheme. C programs know it as `struct pwcheck_limits`.
+#[repr(C)]
+#[derive(Clone, Copy)]
+pub struct Limits {
+    pub sha_rounds: u32,
+    pub bcrypt_cost: u32,
+    pub yescrypt_ln: u32,
+    pub yescrypt_r: u32,
+    pub yescrypt_t: u32,
+    pub pbkdf2_rounds: u32,
+    pub scrypt_ln: u32,
+    pub scrypt_r: u32,
+    pub scrypt_p: u32,
+    pub argon2_memory: u32,
+    pub argon2_passes: u32,
+    pub argon2_lanes: u32,
+}
+
+// The bounds under the names of `any_check`.
+fn bounds_of(limits: &Limits) -> CostLimits
+    ensures { result ≡ bounds_of limits.now }
+{
+    CostLimits {
+        sha_rounds: limits.sha_rounds as usize,
+        bcrypt_cost: limits.bcrypt_cost,
+        yescrypt_ln: limits.yescrypt_ln,
+        yescrypt_r: limits.yescrypt_r,
+        yescrypt_t: limits.yescrypt_t,
+        pbkdf2_rounds: limits.pbkdf2_rounds,
+        scrypt_ln: limits.scrypt_ln,
+        scrypt_r: limits.scrypt_r,
+        scrypt_p: limits.scrypt_p,
+        argon2_memory: limits.argon2_memory,
+        argon2_passes: limits.argon2_passes,
+        argon2_lanes: limits.argon2_lanes,
+    }
+}
+
+// The answer for a fault of a text of bcrypt.
+fn bcrypt_cause(fault: BcryptFault) -> Answer
+    ensures { result ≡ bcrypt_cause fault }
+{
+    match fault {
+        BcryptFault::Obsolete => Answer::BcryptObsolete,
+        BcryptFault::Cost => Answer::BcryptCost,
+        BcryptFault::Character | BcryptFault::SpareBits => Answer::BcryptB64,
+        _ => Answer::BcryptFormat,
+    }
+}
+
+// The answer for a fault of a text `$y$`.
+fn yescrypt_cause(fault: TextFault) -> Answer
+    ensures { result ≡ yescrypt_cause fault }
+{
+    match fault {
+        TextFault::Flavor => Answer::YescryptFlavor,
+        TextFault::Parallelism
+        | TextFault::Upgrades
+        | TextFault::Rom
+        | TextFault::Memory
+        | TextFault::Cost => Answer::YescryptCost,
+        _ => Answer::YescryptFormat,
+    }
+}
+
+// The answer for a fault of a text `$7$`.
+fn scrypt_cause(fault: TextFault) -> Answer
+    ensures { result ≡ scrypt_cause fault }
+{
+    match fault {
+        TextFault::Memory | TextFault::Cost => Answer::ScryptCost,
+        _ => Answer::ScryptFormat,
+    }
+}
+
+// What `check_any` answers, as an answer with a number.
+fn cause_answer(answer: Result<bool, AnyError>) -> Answer
+    ensures { result ≡ cause_answer answer }
+{
+    match answer {
+        Ok(matches) => Answer::Checked(Ok(matches)),
+        Err(AnyError::Stored(e)) => Answer::Checked(Err(e)),
+        Err(AnyError::NoScheme) => Answer::NoScheme,
+        Err(AnyError::Md5(_)) => Answer::Md5Format,
+        Err(AnyError::Bcrypt(fault)) => bcrypt_cause(fault),
+        Err(AnyError::Yescrypt(fault)) => yescrypt_cause(fault),
+        Err(AnyError::Scrypt(fault)) => scrypt_cause(fault),
+        Err(AnyError::ZeroByte) => Answer::ZeroByte,
+        Err(AnyError::TooCostly) => Answer::OverCost,
+    }
+}
+
+// The answer to a password and a stored text.
+fn text_answer(alloc: Global, password: &str, stored: &str, limits: &Limits) -> Answer
+    ensures answer { IsTextAnswer limits.now password.now stored.now result }
+{
+    let lines = AnyLines::new(alloc, Some(bounds_of(limits)));
+    match lines.known_verdict(password, stored) {
+        Some(answer) => cause_answer(answer),
+        None => Answer::Checked(Err(StoredError::OutOfMemory)),
+    }
+}
+
+// The same where one of the two may not be UTF-8.
+#[tactic(auto, unfolding(crate::specs::AnyAnswers::any_answer, crate::specs::AnyAnswers::any_may_lack))]
+fn any_answer(alloc: Global, password: &[u8], stored: &[u8], limits: &Limits) -> Answer
+    ensures answer { IsAnyAnswer limits.now password.now stored.now result }
+{
+    match (text_of(password), text_of(stored)) {
+        (Some(password), Some(stored)) => text_answer(alloc, password, stored, limits),
+        _ => Answer::NotText,
+    }
+}
+
+/// Checks a password against a stored text of every scheme, within bounds on the cost, and answers by a number.
+///
+/// A valid text that asks for more than a bound is answered by a number of its own, and nothing is hashed for it. Only the
+/// keys of scrypt, yescrypt and Argon2 take memory, which is given back.
+#[unsafe(no_mangle)]
+pub extern "C" fn pwcheck_check_any(
+    alloc: Global,
+    password: &[u8],
+    stored: &[u8],
+    limits: &Limits,
+) -> i32
+    ensures answer { IsSomeAnd (answer_of result) (λ a. IsAnyAnswer limits.now password.now stored.now a) }
+{
+    any_answer(alloc, password, stored, limits).number()
+}

@@ -1,0 +1,182 @@
+//! The verdict for every scheme, on texts of outside programs: openssl, libxcrypt's crypt, Python's hashlib and the program
+//! argon2.
+
+use crate::any::{Limits, pwcheck_check_any};
+
+// No text is above these.
+const NONE: Limits = Limits {
+    sha_rounds: u32::MAX,
+    bcrypt_cost: u32::MAX,
+    yescrypt_ln: u32::MAX,
+    yescrypt_r: u32::MAX,
+    yescrypt_t: u32::MAX,
+    pbkdf2_rounds: u32::MAX,
+    scrypt_ln: u32::MAX,
+    scrypt_r: u32::MAX,
+    scrypt_p: u32::MAX,
+    argon2_memory: u32::MAX,
+    argon2_passes: u32::MAX,
+    argon2_lanes: u32::MAX,
+};
+
+// The least bounds under which each text below gets its verdict.
+const LEAST: Limits = Limits {
+    sha_rounds: 5_000,
+    bcrypt_cost: 5,
+    yescrypt_ln: 10,
+    yescrypt_r: 8,
+    yescrypt_t: 2,
+    pbkdf2_rounds: 1_000,
+    scrypt_ln: 6,
+    scrypt_r: 8,
+    scrypt_p: 2,
+    argon2_memory: 128,
+    argon2_passes: 2,
+    argon2_lanes: 2,
+};
+
+// Texts of the password `secret`.
+const TEXTS: [&str; 11] = [
+    "$1$abcdefgh$cHJi5PXp/ki/ktXzqlk6I1",
+    "$apr1$abcdefgh$h9FWgUz3n9YxylKLlR5SQ/",
+    "$5$abcdefgh$gruCpC7VkOTspMQTTSAR8mtlO9Upms.fwqE5y16JVM.",
+    "$6$abcdefgh$ltjgWl6579NluT/Vi1nwEvcil.G5Nbc4NiXZaNGStk8PSwGfQv72N2CKPPrVACtLtip/cZ/1GM/O6IND4WQhG.",
+    "$2b$04$abcdefghijklmnopqrstuu2r9OfJnfCsdneAXAGHnS4UpFFP8WIrW",
+    "$2y$05$abcdefghijklmnopqrstuuOQiyCxlgf/oeuTqixKmWdcYUh4Hjl0a",
+    "$scrypt$ln=4,r=8,p=1$c2FsdHNhbHRzYWx0$09/untC+3Bg44eiJQ8bqhTXgE2ali+ykLaojkJZlF9U",
+    "$pbkdf2-sha256$i=1000,l=32$c2FsdHNhbHRzYWx0$sVaWem31qy3rw+Ldi3plA/XzhMSNi9/XHnnD1Ytj05o",
+    "$argon2id$v=19$m=64,t=1,p=1$c2FsdHNhbHRzYWx0$Sm3MnLdCFk0Af+croKgebRoqqmhbKd88iiW3yUOXn78",
+    "$argon2i$v=19$m=64,t=2,p=2$c2FsdHNhbHRzYWx0$vtdpD5eGGsEQdYh52JSgUbWdj2vdH1FR/Ncvk1mmMU8",
+    "$y$j75$0123456789ab$kb1fsIrDP1wOa4Q3gNpxZkfwQ3ce8kmPbnemuN65IT2",
+];
+
+#[test]
+fn verdicts_of_every_scheme(rt: HostRuntime) {
+    for text in TEXTS {
+        let stored = text.as_bytes();
+        assert_eq!(rt;
+            pwcheck_check_any(rt.alloc(), b"secret", stored, &NONE),
+            0,
+            "{text}"
+        );
+        assert_eq!(rt;
+            pwcheck_check_any(rt.alloc(), b"secret", stored, &LEAST),
+            0,
+            "{text}"
+        );
+        assert_eq!(rt;
+            pwcheck_check_any(rt.alloc(), b"Secret", stored, &NONE),
+            1,
+            "{text}"
+        );
+    }
+}
+
+#[test]
+fn causes_by_number(rt: HostRuntime) {
+    let rows: [(&[u8], i32); 16] = [
+        (b"\xff", 2),
+        (b"*", 31),
+        (b"", 31),
+        (b"$1$abcdefgh", 32),
+        (
+            b"$2x$04$abcdefghijklmnopqrstuu2r9OfJnfCsdneAXAGHnS4UpFFP8WIrW",
+            33,
+        ),
+        (
+            b"$2b$03$abcdefghijklmnopqrstuu2r9OfJnfCsdneAXAGHnS4UpFFP8WIrW",
+            34,
+        ),
+        (
+            b"$2b$04$abcdefghijklmnopqrstuv2r9OfJnfCsdneAXAGHnS4UpFFP8WIrW",
+            35,
+        ),
+        (
+            b"$2b$04$abcdefghijklmnopqrstuu2r9OfJnfCsdneAXAGHnS4UpFFP8WIr",
+            36,
+        ),
+        (
+            b"$y$/75$0123456789ab$kb1fsIrDP1wOa4Q3gNpxZkfwQ3ce8kmPbnemuN65IT2",
+            37,
+        ),
+        (
+            b"$y$jT5$0123456789ab$kb1fsIrDP1wOa4Q3gNpxZkfwQ3ce8kmPbnemuN65IT2",
+            38,
+        ),
+        (b"$y$j75$0123456789ab", 39),
+        (
+            b"$7$T/..../....SodiumChloride$nlEbTww0ryKdVNlzWsYxiiWbBXRoFx2X8iNJtJTvzX.",
+            40,
+        ),
+        (b"$7$4/..../....SodiumChloride", 41),
+        (b"$5$rounds=1$abcdefgh$x", 15),
+        (b"$scrypt$ln=4,r=8,p=1$c2FsdHNhbHRzYWx0", 28),
+        (b"!$6$abcdefgh$x", 5),
+    ];
+    for (stored, number) in rows {
+        let got = pwcheck_check_any(rt.alloc(), b"secret", stored, &NONE);
+        assert_eq!(rt; got, number, "{stored:?}");
+    }
+    let bcrypt = TEXTS[4].as_bytes();
+    assert_eq!(rt;
+        pwcheck_check_any(rt.alloc(), b"sec\0ret", bcrypt, &NONE),
+        42
+    );
+    assert_eq!(rt;
+        pwcheck_check_any(rt.alloc(), &[b'a'; 4_097], bcrypt, &NONE),
+        4
+    );
+}
+
+// Each bound alone; a text above one is answered at once, as nothing is hashed.
+#[test]
+fn bounds(rt: HostRuntime) {
+    let rows: [(&[u8], i32); 6] = [
+        (
+            b"$5$rounds=999999999$abcdefgh$gruCpC7VkOTspMQTTSAR8mtlO9Upms.fwqE5y16JVM.",
+            30,
+        ),
+        (
+            b"$2b$31$abcdefghijklmnopqrstuu2r9OfJnfCsdneAXAGHnS4UpFFP8WIrW",
+            30,
+        ),
+        (
+            b"$y$jFT$0123456789ab$kb1fsIrDP1wOa4Q3gNpxZkfwQ3ce8kmPbnemuN65IT2",
+            30,
+        ),
+        (
+            b"$scrypt$ln=17,r=8,p=1024$c2FsdHNhbHRzYWx0$09/untC+3Bg44eiJQ8bqhTXgE2ali+ykLaojkJZlF9U",
+            30,
+        ),
+        (
+            b"$pbkdf2-sha256$i=10000000,l=32$c2FsdHNhbHRzYWx0$sVaWem31qy3rw+Ldi3plA/XzhMSNi9/XHnnD1Ytj05o",
+            30,
+        ),
+        (
+            b"$argon2id$v=19$m=2097152,t=1,p=1$c2FsdHNhbHRzYWx0$Sm3MnLdCFk0Af+croKgebRoqqmhbKd88iiW3yUOXn78",
+            30,
+        ),
+    ];
+    for (stored, number) in rows {
+        let got = pwcheck_check_any(rt.alloc(), b"secret", stored, &LEAST);
+        assert_eq!(rt; got, number, "{stored:?}");
+    }
+    let limits = Limits {
+        bcrypt_cost: 4,
+        ..NONE
+    };
+    let stored = TEXTS[5].as_bytes();
+    assert_eq!(rt;
+        pwcheck_check_any(rt.alloc(), b"secret", stored, &limits),
+        30
+    );
+    let limits = Limits {
+        argon2_lanes: 1,
+        ..NONE
+    };
+    let stored = TEXTS[9].as_bytes();
+    assert_eq!(rt;
+        pwcheck_check_any(rt.alloc(), b"secret", stored, &limits),
+        30
+    );
+}

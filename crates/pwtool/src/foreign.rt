@@ -1,0 +1,130 @@
+//! The forms over foreign texts without their command line: what the theorem is about.
+
+ghost use Rattle.std.specs.Prelude.{◌≡◌, ◌≢◌, ◌≤◌, ◌^◌, IfSome, Ok, Err};
+ghost use Rattle.line_io.specs.Devices.{WhereTold};
+ghost use Rattle.line_program.specs.Outcome.{Outcome};
+ghost use Rattle.line_state.specs.Outcome.{EndedOutcome};
+ghost use Rattle.pieces.specs.FaultCounts.{HasRisen};
+ghost use Rattle.any_survey.specs.Rows.{ending_text};
+ghost use Rattle.any_survey.specs.Rules.{survey_rules};
+ghost use Rattle.any_users.specs.FewerOutcome.{fewer_status};
+ghost use Rattle.any_users.specs.JoinOutcome.{status_of};
+ghost use Rattle.foreign_lines.specs.Rules.{foreign_state};
+ghost use Rattle.foreign_lines.specs.Runs.{ForeignFewer, ForeignJoin, foreign_rules, foreign_user_rules};
+
+use any_check::CostLimits;
+use any_survey::SurveyLines;
+use any_users::JoinEnd;
+use foreign_lines::{
+    ForeignLines, run_foreign, run_foreign_join, run_foreign_join_fewer, run_foreign_survey,
+    run_foreign_users,
+};
+use foreign_text::Foreign;
+use line_io::{INPUT_MAX, Sink, Source};
+use std::alloc::Global;
+use std::hash::RandomState;
+
+/// Answers each line of a source of at most 2^40 bytes, whose stored text is in a foreign spelling, with its word, and gives
+/// the status.
+///
+/// Answers, statuses and memory are those of [`run_foreign`].
+pub fn check_foreign<S: Source, K: Sink>(
+    alloc: Global,
+    foreign: Foreign,
+    limits: Option<CostLimits>,
+    source: &mut S,
+    sink: &mut K,
+) -> u8
+    ensures statuses { (result ≤ 6) × (result ≢ 2) }
+    ensures read_fault { result ≡ 3 → HasRisen (S.faults source.old) (S.faults source.new) }
+    ensures write_fault { result ≡ 4 → HasRisen (K.faults sink.old) (K.faults sink.new) }
+    ensures outcome { WhereTold (S.left source.old) (S.left source.new) (K.written sink.old) (K.written sink.new)
+        (λ held taken added. Outcome (foreign_rules foreign limits) result (2 ^ 40) held taken added) }
+{
+    run_foreign(alloc, foreign, limits, source, sink, INPUT_MAX)
+}
+
+/// The same of lines that begin with a user and a colon. Statuses and memory are those of [`run_foreign_users`].
+pub fn check_foreign_users<S: Source, K: Sink>(
+    alloc: Global,
+    foreign: Foreign,
+    limits: Option<CostLimits>,
+    source: &mut S,
+    sink: &mut K,
+) -> u8
+    ensures statuses { (result ≤ 6) × (result ≢ 2) }
+    ensures read_fault { result ≡ 3 → HasRisen (S.faults source.old) (S.faults source.new) }
+    ensures write_fault { result ≡ 4 → HasRisen (K.faults sink.old) (K.faults sink.new) }
+    ensures outcome { WhereTold (S.left source.old) (S.left source.new) (K.written sink.old) (K.written sink.new)
+        (λ held taken added. Outcome (foreign_user_rules foreign limits) result (2 ^ 40) held taken added) }
+{
+    run_foreign_users(alloc, foreign, limits, source, sink, INPUT_MAX)
+}
+
+/// Writes a row for each line of a source of at most 2^40 bytes, whose stored text is in a foreign spelling, and what a survey
+/// writes behind them. Statuses are those of [`run_foreign_survey`]; no memory is taken.
+pub fn survey_foreign<S: Source, K: Sink>(
+    lines: &mut ForeignLines<SurveyLines>,
+    source: &mut S,
+    sink: &mut K,
+) -> u8
+    ensures statuses { (result ≤ 6) × (result ≢ 2) }
+    ensures read_fault { result ≡ 3 → HasRisen (S.faults source.old) (S.faults source.new) }
+    ensures write_fault { result ≡ 4 → HasRisen (K.faults sink.old) (K.faults sink.new) }
+    ensures outcome { WhereTold (S.left source.old) (S.left source.new) (K.written sink.old) (K.written sink.new)
+        (λ held taken added. EndedOutcome
+        (foreign_state (λ s. s.foreign) (λ s. s.form) (λ s. s.inner) (λ s i. record s { inner = i }) survey_rules)
+        (λ s. ending_text s.inner.format s.inner.counts) lines.old result (2 ^ 40) held taken added) }
+{
+    run_foreign_survey(lines, source, sink, INPUT_MAX)
+}
+
+/// Answers each user of a file of foreign texts by the user's password in another file, each of at most 2^40 bytes.
+///
+/// Answers, statuses and memory are those of [`run_foreign_join`].
+pub fn join_foreign<P: Source, T: Source, K: Sink>(
+    alloc: Global,
+    keys: RandomState,
+    foreign: Foreign,
+    limits: Option<CostLimits>,
+    passwords: &mut P,
+    texts: &mut T,
+    sink: &mut K,
+) -> JoinEnd
+    ensures statuses { (status_of result ≤ 6) × (status_of result ≢ 2) }
+    ensures passwords_fault { result ≡ JoinEnd.Passwords 3 → HasRisen (P.faults passwords.old) (P.faults passwords.new) }
+    ensures texts_fault { result ≡ JoinEnd.Texts 3 → HasRisen (T.faults texts.old) (T.faults texts.new) }
+    ensures write_fault { status_of result ≡ 4 → HasRisen (K.faults sink.old) (K.faults sink.new) }
+    ensures outcome { IfSome (P.left passwords.old) (λ given.
+        WhereTold (T.left texts.old) (T.left texts.new) (K.written sink.old) (K.written sink.new)
+        (λ held taken added. ForeignJoin foreign limits result (2 ^ 40) given held taken added)) }
+{
+    run_foreign_join(
+        alloc, keys, foreign, limits, passwords, texts, sink, INPUT_MAX,
+    )
+}
+
+/// The same, reading the texts first for their users, as [`run_foreign_join_fewer`] does.
+pub fn join_foreign_fewer<U: Source, P: Source, T: Source, K: Sink>(
+    alloc: Global,
+    keys: RandomState,
+    foreign: Foreign,
+    limits: Option<CostLimits>,
+    users: &mut U,
+    passwords: &mut P,
+    texts: &mut T,
+    sink: &mut K,
+) -> Result<JoinEnd, u8>
+    ensures statuses { (fewer_status result ≤ 6) × (fewer_status result ≢ 2) }
+    ensures users_fault { result ≡ Err 3 → HasRisen (U.faults users.old) (U.faults users.new) }
+    ensures passwords_fault { result ≡ Ok (JoinEnd.Passwords 3) → HasRisen (P.faults passwords.old) (P.faults passwords.new) }
+    ensures texts_fault { result ≡ Ok (JoinEnd.Texts 3) → HasRisen (T.faults texts.old) (T.faults texts.new) }
+    ensures write_fault { fewer_status result ≡ 4 → HasRisen (K.faults sink.old) (K.faults sink.new) }
+    ensures outcome { IfSome (U.left users.old) (λ first. IfSome (P.left passwords.old) (λ given.
+        WhereTold (T.left texts.old) (T.left texts.new) (K.written sink.old) (K.written sink.new)
+        (λ held taken added. ForeignFewer foreign limits result (2 ^ 40) first given held taken added))) }
+{
+    run_foreign_join_fewer(
+        alloc, keys, foreign, limits, users, passwords, texts, sink, INPUT_MAX,
+    )
+}
