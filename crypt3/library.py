@@ -20,8 +20,8 @@ import library  # noqa: E402
 VERSION = "1.0"
 ARCHIVE = os.environ.get("LIBPWCRYPT_C", os.path.join(TOP, "crates", "pwcrypt_c", "out", "libpwcrypt_c.a"))
 # Those of Debian 12 with hardening=+all, and two that its later releases have. The folder stays out of what is built.
-FLAGS = [f"-ffile-prefix-map={TOP}=.", f"-ffile-prefix-map={os.getcwd()}=.",
-         "-std=c11", "-D_GNU_SOURCE", "-O2", "-g", "-Wall", "-Wextra", "-Werror", "-fPIC", "-fvisibility=default",
+FLAGS = [f"-ffile-prefix-map={TOP}=.", "-std=c11", "-D_GNU_SOURCE", "-O2", "-g", "-Wall", "-Wextra", "-Werror", "-fPIC",
+         "-fvisibility=default",
          "-fstack-protector-strong", "-fstack-clash-protection", "-fcf-protection", "-Wformat", "-Werror=format-security",
          "-D_FORTIFY_SOURCE=2"]
 LINK = ["-Wl,-z,relro", "-Wl,-z,now", "-Wl,-z,defs", "-Wl,-z,text", "-Wl,-z,noexecstack", "-Wl,-Bsymbolic",
@@ -38,11 +38,11 @@ def archives():
 
 def laid_out(folder):
     """The shared library under its full version, with its links; the answer is its path."""
-    lib = os.path.join(folder, "lib")
+    lib = os.path.join(os.path.abspath(folder), "lib")
     os.makedirs(lib, exist_ok=True)
     full, soname = "libpwcrypt.so." + VERSION, "libpwcrypt.so." + VERSION.split(".", maxsplit=1)[0]
     library.run("gcc", *FLAGS, *shlex.split(os.environ.get("CFLAGS", "")), "-shared", "-o", os.path.join(lib, full),
-                "-Wl,-soname," + soname, *LINK, os.path.join(HERE, "pwcrypt.c"), *archives())
+                "-Wl,-soname," + soname, *LINK, os.path.join(HERE, "pwcrypt.c"), *map(os.path.abspath, archives()), cwd=TOP)
     for link, target in [(soname, full), ("libpwcrypt.so", soname)]:
         path = os.path.join(lib, link)
         if os.path.lexists(path):

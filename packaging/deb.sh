@@ -21,9 +21,14 @@ crypt_tree=$(mktemp -d)
 trap 'rm -rf "$tree" "$crypt_tree"' EXIT
 chmod 755 "$crypt_tree"
 
-package() { # NAME TREE SECTION, and the description on standard input
+package() { # NAME TREE SECTION LIBRARY, and the description on standard input
   install -d "$2/DEBIAN" "$2/usr/share/doc/$1"
   python3 "$top/packaging/copyright.py" > "$2/usr/share/doc/$1/copyright"
+  gzip -9 -n < "$top/CHANGELOG.md" > "$2/usr/share/doc/$1/changelog.gz"
+  # A package has no tables of symbols that nothing needs to run.
+  find "$2/usr" -type f \( -path '*/bin/*' -o -name '*.so.*' \) -exec strip --strip-unneeded {} +
+  echo "activate-noawait ldconfig" > "$2/DEBIAN/triggers"
+  echo "$4 1 $1 (>= ${version:-0})" > "$2/DEBIAN/shlibs"
   {
     echo "Package: $1"
     echo "Version: ${version:-0}"
@@ -42,14 +47,14 @@ if [ -e "$tree/usr/lib/libpwcrypt.so.1" ]; then
   install -d "$crypt_tree/usr/lib" "$crypt_tree/usr/share/man/man3"
   mv "$tree"/usr/lib/libpwcrypt.so* "$crypt_tree/usr/lib"
   mv "$tree/usr/share/man/man3/pwcrypt.3.gz" "$crypt_tree/usr/share/man/man3"
-  package libpwcrypt1 "$crypt_tree" libs <<'TEXT'
+  package libpwcrypt1 "$crypt_tree" libs libpwcrypt <<'TEXT'
 Description: crypt(3) over proved code
  A shared library with the calls and symbol versions of libxcrypt, for programs
  that link it or preload it in libcrypt's place: md5-crypt, SHA-crypt, bcrypt,
  scrypt and yescrypt. It does not replace libcrypt.
 TEXT
 fi
-package pwcheck "$tree" admin <<'TEXT'
+package pwcheck "$tree" admin libpwcheck <<'TEXT'
 Description: verification of stored passwords, proved
  Programs that answer each line of a password file with one word (SHA-crypt,
  yescrypt, bcrypt, scrypt, PBKDF2, Argon2, md5-crypt for migration), a table of
