@@ -184,18 +184,15 @@ const OLD: u8 = 0xa5;
 fn made_by_others(rt: HostRuntime) {
     for row in ROWS {
         let mut out = [OLD; TEXT_MAX];
-        let made = make_text(
-            rt.alloc(),
-            row.cost,
-            row.password.as_bytes(),
-            row.salt,
-            &mut out,
-        );
-        let count = row.text.len();
-        assert_eq!(rt; made, Ok(count), "{}", row.text);
-        assert_eq!(rt; &out[..count], row.text.as_bytes(), "{}", row.text);
-        assert!(rt; out[count..].iter().all(|b| *b == OLD), "{}", row.text);
-        match made_text(rt.alloc(), row.cost, row.password.as_bytes(), row.salt) {
+        let password = row.password.as_bytes();
+        match make_text(rt.alloc(), row.cost, password, row.salt, &mut out) {
+            Ok(count) => {
+                assert_eq!(rt; &out[..count], row.text.as_bytes(), "{}", row.text);
+                assert!(rt; out[count..].iter().all(|b| *b == OLD), "{}", row.text);
+            }
+            Err(fault) => panic!(rt; "{}: {fault:?}", row.text),
+        }
+        match made_text(rt.alloc(), row.cost, password, row.salt) {
             Ok(text) => assert_eq!(rt; text.as_slice(), row.text.as_bytes()),
             Err(fault) => panic!(rt; "{}: {fault:?}", row.text),
         }
@@ -214,31 +211,34 @@ fn matched(rt: HostRuntime) {
     }
 }
 
+// The first bytes of a buffer, or all.
+fn front(bytes: &mut [u8], count: usize) -> &mut [u8] {
+    let count = count.min(bytes.len());
+    &mut bytes[..count]
+}
+
+// The same bytes to be read.
+fn read_front(bytes: &[u8], count: usize) -> &[u8] {
+    let count = count.min(bytes.len());
+    &bytes[..count]
+}
+
 // A buffer of just the length is room, and one that is a byte shorter is not.
 #[test]
 fn rooms(rt: HostRuntime) {
     for row in ROWS {
         let count = row.text.len();
-        let mut room = [OLD; TEXT_MAX];
-        let made = make_text(
-            rt.alloc(),
-            row.cost,
-            row.password.as_bytes(),
-            row.salt,
-            &mut room[..count],
-        );
+        let password = row.password.as_bytes();
+        let mut whole = [OLD; TEXT_MAX];
+        let room = front(&mut whole, count);
+        let made = make_text(rt.alloc(), row.cost, password, row.salt, room);
         assert_eq!(rt; made, Ok(count), "{}", row.text);
-        assert_eq!(rt; &room[..count], row.text.as_bytes(), "{}", row.text);
-        let mut room = [OLD; TEXT_MAX];
-        let made = make_text(
-            rt.alloc(),
-            row.cost,
-            row.password.as_bytes(),
-            row.salt,
-            &mut room[..count - 1],
-        );
+        assert_eq!(rt; read_front(&whole, count), row.text.as_bytes());
+        let mut whole = [OLD; TEXT_MAX];
+        let room = front(&mut whole, count.saturating_sub(1));
+        let made = make_text(rt.alloc(), row.cost, password, row.salt, room);
         assert_eq!(rt; made, Err(MakeFault::BufferShort), "{}", row.text);
-        assert!(rt; room.iter().all(|b| *b == OLD), "{}", row.text);
+        assert!(rt; whole.iter().all(|b| *b == OLD), "{}", row.text);
     }
 }
 
@@ -274,7 +274,7 @@ fn sha256(rounds: u32) -> MakeCost {
     MakeCost::ShaCrypt(Family::Sha256, rounds)
 }
 
-fn refused(
+fn no_text(
     cost: MakeCost,
     password: &'static [u8],
     salt: &'static [u8],
@@ -291,35 +291,35 @@ fn refused(
 #[test]
 fn faults(rt: HostRuntime) {
     let rows = [
-        refused(sha256(999), b"x", SHA_SALT, MakeFault::Cost),
-        refused(sha256(1_000_000_000), b"x", SHA_SALT, MakeFault::Cost),
-        refused(scrypt(0, 8, 1), b"x", SALT, MakeFault::Cost),
-        refused(scrypt(25, 8, 1), b"x", SALT, MakeFault::Cost),
-        refused(MakeCost::Bcrypt(3), b"x", SALT, MakeFault::Cost),
-        refused(MakeCost::Bcrypt(32), b"x", SALT, MakeFault::Cost),
-        refused(yescrypt(1, 8, 0), b"x", SALT, MakeFault::Cost),
-        refused(yescrypt(10, 8, 1_025), b"x", SALT, MakeFault::Cost),
-        refused(argon2(7, 1, 1), b"x", SALT, MakeFault::Cost),
-        refused(argon2(64, 0, 1), b"x", SALT, MakeFault::Cost),
-        refused(argon2(64, 1, 9), b"x", SALT, MakeFault::Cost),
-        refused(MakeCost::Pbkdf2Sha256(0), b"x", SALT, MakeFault::Cost),
-        refused(
+        no_text(sha256(999), b"x", SHA_SALT, MakeFault::Cost),
+        no_text(sha256(1_000_000_000), b"x", SHA_SALT, MakeFault::Cost),
+        no_text(scrypt(0, 8, 1), b"x", SALT, MakeFault::Cost),
+        no_text(scrypt(25, 8, 1), b"x", SALT, MakeFault::Cost),
+        no_text(MakeCost::Bcrypt(3), b"x", SALT, MakeFault::Cost),
+        no_text(MakeCost::Bcrypt(32), b"x", SALT, MakeFault::Cost),
+        no_text(yescrypt(1, 8, 0), b"x", SALT, MakeFault::Cost),
+        no_text(yescrypt(10, 8, 1_025), b"x", SALT, MakeFault::Cost),
+        no_text(argon2(7, 1, 1), b"x", SALT, MakeFault::Cost),
+        no_text(argon2(64, 0, 1), b"x", SALT, MakeFault::Cost),
+        no_text(argon2(64, 1, 9), b"x", SALT, MakeFault::Cost),
+        no_text(MakeCost::Pbkdf2Sha256(0), b"x", SALT, MakeFault::Cost),
+        no_text(
             MakeCost::Pbkdf2Sha256(10_000_001),
             b"x",
             SALT,
             MakeFault::Cost,
         ),
-        refused(sha256(1_000), b"x", SALT, MakeFault::Salt),
-        refused(sha256(1_000), b"x", b"", MakeFault::Salt),
-        refused(MakeCost::Bcrypt(4), b"x", SHA_SALT, MakeFault::Salt),
-        refused(scrypt(4, 8, 1), b"x", b"0123456789abcdefg", MakeFault::Salt),
-        refused(MakeCost::Bcrypt(3), b"\xff\0", SHA_SALT, MakeFault::Cost),
-        refused(MakeCost::Bcrypt(4), b"\xff\0", SHA_SALT, MakeFault::Salt),
-        refused(MakeCost::Bcrypt(4), b"\xff\0", SALT, MakeFault::NotUtf8),
-        refused(scrypt(4, 8, 1), b"\xc3", SALT, MakeFault::NotUtf8),
-        refused(MakeCost::Bcrypt(4), b"a\0b", SALT, MakeFault::ZeroByte),
-        refused(sha256(1_000), b"\0", SHA_SALT, MakeFault::ZeroByte),
-        refused(yescrypt(10, 8, 0), b"a\0", SALT, MakeFault::ZeroByte),
+        no_text(sha256(1_000), b"x", SALT, MakeFault::Salt),
+        no_text(sha256(1_000), b"x", b"", MakeFault::Salt),
+        no_text(MakeCost::Bcrypt(4), b"x", SHA_SALT, MakeFault::Salt),
+        no_text(scrypt(4, 8, 1), b"x", b"0123456789abcdefg", MakeFault::Salt),
+        no_text(MakeCost::Bcrypt(3), b"\xff\0", SHA_SALT, MakeFault::Cost),
+        no_text(MakeCost::Bcrypt(4), b"\xff\0", SHA_SALT, MakeFault::Salt),
+        no_text(MakeCost::Bcrypt(4), b"\xff\0", SALT, MakeFault::NotUtf8),
+        no_text(scrypt(4, 8, 1), b"\xc3", SALT, MakeFault::NotUtf8),
+        no_text(MakeCost::Bcrypt(4), b"a\0b", SALT, MakeFault::ZeroByte),
+        no_text(sha256(1_000), b"\0", SHA_SALT, MakeFault::ZeroByte),
+        no_text(yescrypt(10, 8, 0), b"a\0", SALT, MakeFault::ZeroByte),
     ];
     for row in rows {
         let mut out = [OLD; TEXT_MAX];
@@ -376,58 +376,52 @@ fn zero_bytes(rt: HostRuntime) {
 // What OWASP, RFC 9106, libxcrypt and passlib recommend, and the bytes of a salt.
 #[test]
 fn schemes(rt: HostRuntime) {
-    for (scheme, name, cost, salt, needs) in [
+    for (scheme, cost, salt, needs) in [
         (
             MakeScheme::ShaCrypt(Family::Sha256),
-            "sha256-crypt",
             sha256(535_000),
             12,
             false,
         ),
         (
             MakeScheme::ShaCrypt(Family::Sha512),
-            "sha512-crypt",
             MakeCost::ShaCrypt(Family::Sha512, 656_000),
             12,
             false,
         ),
-        (MakeScheme::Scrypt, "scrypt", scrypt(17, 8, 1), 16, true),
-        (
-            MakeScheme::Bcrypt,
-            "bcrypt",
-            MakeCost::Bcrypt(12),
-            16,
-            false,
-        ),
-        (
-            MakeScheme::Yescrypt,
-            "yescrypt",
-            yescrypt(12, 32, 0),
-            16,
-            true,
-        ),
-        (
-            MakeScheme::Argon2id,
-            "argon2id",
-            argon2(65_536, 3, 4),
-            16,
-            true,
-        ),
+        (MakeScheme::Scrypt, scrypt(17, 8, 1), 16, true),
+        (MakeScheme::Bcrypt, MakeCost::Bcrypt(12), 16, false),
+        (MakeScheme::Yescrypt, yescrypt(12, 32, 0), 16, true),
+        (MakeScheme::Argon2id, argon2(65_536, 3, 4), 16, true),
         (
             MakeScheme::Pbkdf2Sha256,
-            "pbkdf2-sha256",
             MakeCost::Pbkdf2Sha256(600_000),
             16,
             false,
         ),
     ] {
-        assert_eq!(rt; scheme_name(scheme), name);
-        assert_eq!(rt; scheme_named(name), Ok(scheme));
         assert_eq!(rt; scheme.recommended(), cost);
         assert_eq!(rt; cost.scheme(), scheme);
         assert!(rt; cost.is_taken());
-        assert_eq!(rt; scheme.salt_length(), salt, "{name}");
-        assert_eq!(rt; scheme.needs_memory(), needs, "{name}");
+        assert_eq!(rt; scheme.salt_length(), salt);
+        assert_eq!(rt; scheme.needs_memory(), needs);
+        assert_eq!(rt; scheme_named(scheme_name(scheme)), Ok(scheme));
+    }
+}
+
+#[test]
+fn names(rt: HostRuntime) {
+    for (name, scheme) in [
+        ("sha256-crypt", MakeScheme::ShaCrypt(Family::Sha256)),
+        ("sha512-crypt", MakeScheme::ShaCrypt(Family::Sha512)),
+        ("scrypt", MakeScheme::Scrypt),
+        ("bcrypt", MakeScheme::Bcrypt),
+        ("yescrypt", MakeScheme::Yescrypt),
+        ("argon2id", MakeScheme::Argon2id),
+        ("pbkdf2-sha256", MakeScheme::Pbkdf2Sha256),
+    ] {
+        assert_eq!(rt; scheme_named(name), Ok(scheme), "{name}");
+        assert_eq!(rt; scheme_name(scheme), name);
     }
     assert_eq!(rt; scheme_named("md5-crypt"), Err(NameFault::Weak));
     for name in [
