@@ -1,16 +1,16 @@
 -- Histories of one content are answered alike, from then on.
-use Rattle.std.proofs.Common.{◌≡◌, ◌⊎◌, inl, inr, ⊎_elim, ℕ, Bool, cond, List, [], ◌∷◌, ◌++◌, length, refl, sym, ap, ◌∙◌, Option, Some, None}
+use Rattle.std.proofs.Common.{◌≡◌, inl, inr, ℕ, cond, List, [], ◌++◌, length, refl, sym, ap, ◌∙◌, Option, Some, None}
 use Rattle.std.specs.Prelude.{nat_lt, fold, map, unwrap_or}
 use Rattle.std.proofs.lemmas.List.Sums.{fold-append}
 use Rattle.line_io.specs.Limits.{line_max}
 use Rattle.line_log.specs.Log.{recovered}
 use Rattle.pw_file.specs.Commands.{command}
 use Rattle.pw_file.specs.History.{History, Reply, Rows, Says, IsContentOf, change, text, text_after, users, users_after}
-use Rattle.pw_file.specs.Replies.{reply, reply_by, rows}
+use Rattle.pw_file.specs.Replies.{reply, reply_by}
 use Rattle.pw_file.specs.declared.reply.Word.TheVariants.{TooLong}
 use Rattle.pw_file.specs.Policy.{TextPolicy}
-use Rattle.pw_store.specs.Store.{taken}
-use Rattle.pw_store.specs.Laws.{SameContent, LeftBy, Counts, JudgedByLast}
+use Rattle.pw_store.specs.Store.{recovered_rows, taken}
+use Rattle.pw_store.specs.Laws.{SameContent, JudgedByLast}
 use Rattle.pw_store.proofs.Contents.{of_file}
 
 module _ {T V : Type 0} (p : TextPolicy T V) where
@@ -42,6 +42,13 @@ module _ {T V : Type 0} (p : TextPolicy T V) where
       let texts : text p h ≡ text p k = λ i user. same.texts user i in
       λ i. cond (nat_lt line_max (length line)) (Says TooLong)
       (reply_by p (texts i) (length (same.users i)) (map (λ (user : List ℕ). (user, unwrap_or (texts i user) [])) (same.users i)) (command p line))
+
+  -- a file of the same content
+  pub alike : (h : History) (table : Rows) (file : List ℕ) → IsContentOf p h table → recovered_rows p file ≡ Some table
+      → (later : History) (line : List ℕ) → reply p (h ++ later) line ≡ reply p (taken (recovered file) ++ later) line
+  alike h table file held is later line =
+      reply_same (h ++ later) (taken (recovered file) ++ later) line
+      (same_on h (taken (recovered file)) later (same_of h (taken (recovered file)) table held (of_file p file table is)))
 
   pub judged : JudgedByLast p
   judged answered under_way file left =

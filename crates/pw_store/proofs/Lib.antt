@@ -5,3 +5,9 @@ mod Lines
 mod Grouped
 mod Changing
 mod Rewritten
+mod Fates
+mod Answering
+mod Progressing
+mod Outcomes
+mod Serving
+mod CrashedRuns

@@ -1,20 +1,20 @@
 -- The line of a change that the table takes.
 use Rattle.std.proofs.Common.{◌≡◌, ℕ, ◌+◌, ◌<◌, ◌≤◌, suc, Bool, true, false, cond, List, [], ◌∷◌, ◌++◌, length, refl, sym, ap, ◌∙◌, arith, inl, Option, Some, None, Result, Ok, Err}
-use Rattle.std.specs.Prelude.{IfOk, is_ok, nat_le, nat_lt, codes}
+use Rattle.std.specs.Prelude.{IfOk, is_ok, nat_le, nat_lt}
 use Rattle.std.proofs.lemmas.Bool.Decides.{nat_tests}
 use Rattle.std.proofs.lemmas.List.{length-append}
 use Rattle.std.proofs.lemmas.List.Folds.{list_any-append}
 use Rattle.pieces.specs.Faults.{unless}
 use Rattle.pieces.proofs.FaultLaws.{first_none, unless_none, value_found}
-use Rattle.line_io.specs.Lines.{is_feed, NoFeed}
+use Rattle.line_io.specs.Lines.{is_feed}
 use Rattle.line_log.specs.Log.{IsLine}
 use Rattle.pw_file.specs.Answers.{IsAnswer, bad_text, has_room, set_answer, set_fault}
 use Rattle.pw_file.specs.Calls.{is_want, rows_after_set, with_text}
 use Rattle.pw_file.specs.Commands.{Command, command, set_line}
 use Rattle.pw_file.specs.Commands as of
-use Rattle.pw_file.specs.History.{Rows, Reply, Says, is_done, text_in}
+use Rattle.pw_file.specs.History.{Rows, Says, is_done, text_in}
 use Rattle.pw_file.specs.Lines.{AnswersLineOver, Asks, line_reply}
-use Rattle.pw_file.specs.Replies.{check_word, error_word, reply_by, set_word, upgrade_word}
+use Rattle.pw_file.specs.Replies.{check_word, error_word, reply_by, upgrade_word}
 use Rattle.pw_file.specs.Rules.{table_after, table_reply}
 use Rattle.pw_file.specs.declared.error.FileError.{FileError}
 use Rattle.pw_file.specs.declared.error.FileError.TheVariants as refused

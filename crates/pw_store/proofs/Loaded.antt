@@ -1,5 +1,5 @@
 -- A table that takes the lines of a file has the rows of that file.
-use Rattle.std.proofs.Common.{length, drop, ◌+◌, ◌≡◌, ℕ, Bool, true, false, cond, List, [], ◌∷◌, refl, sym, ap, ◌∙◌, Option, Some, None, Err}
+use Rattle.std.proofs.Common.{length, drop, ◌+◌, ◌≡◌, ℕ, Bool, true, false, cond, List, [], ◌∷◌, refl, sym, ap, ◌∙◌, Option, Some, None}
 use Rattle.std.specs.Prelude.{eqb, is_some}
 use Rattle.std.specs.List.{starts_with}
 use Rattle.std.specs.Option.{option_map}

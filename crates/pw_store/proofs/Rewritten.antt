@@ -14,7 +14,7 @@ use Rattle.pw_file.specs.Answers.{check_answer, has_room, set_answer, upgrade_an
 use Rattle.pw_file.specs.Calls.{with_text}
 use Rattle.pw_file.specs.Commands.{Command, command, set_line}
 use Rattle.pw_file.specs.Commands as of
-use Rattle.pw_file.specs.History.{Reply, Rows, Says, change_of, is_done, text_in}
+use Rattle.pw_file.specs.History.{Rows, Says, change_of, is_done, text_in}
 use Rattle.pw_file.specs.Replies.{reply_by, row_line, set_word}
 use Rattle.pw_file.specs.Rules.{changed, table_after, table_reply}
 use Rattle.pw_file.specs.declared.error.FileError.{FileError}

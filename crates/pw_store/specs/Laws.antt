@@ -1,9 +1,10 @@
 -- Laws over files and runs.
-use Rattle.std.specs.Prelude.{◌≡◌, ◌⊎◌, ℕ, List, ◌++◌, Some}
+use Rattle.std.specs.Prelude.{◌≡◌, ◌⊎◌, ◌≤◌, ℕ, ◌+◌, List, ◌++◌, length, take, Some, None}
 use Rattle.line_log.specs.Log.{recovered}
 use Rattle.pw_file.specs.History.{History, Rows, IsContentOf, text, users}
 use Rattle.pw_file.specs.Policy.{TextPolicy}
 use Rattle.pw_file.specs.Replies.{reply}
+use Rattle.pw_store.specs.Run.{Fate, IsLeftAfter, IsLeftBy, pairs, state}
 use Rattle.pw_store.specs.Store.{StandsFor, taken, recovered_rows}
 
 -- The rows of a file are the content of its lines, each answered `ok`.
@@ -31,3 +32,28 @@ abbrev pub JudgedByLast : {T V : Type 0} → TextPolicy T V → Type 0
 JudgedByLast p = (answered under_way : History) (file : List ℕ) → LeftBy p answered under_way file
     → (h : History) × Counts answered under_way h
     × ((later : History) (line : List ℕ) → reply p (h ++ later) line ≡ reply p (taken (recovered file) ++ later) line)
+
+-- ---- whole runs
+
+-- From now on each reply over a file is the one over this history: each check is judged by the user's last text in it.
+abbrev pub IsJudgedBy : {T V : Type 0} → TextPolicy T V → History → List ℕ → Type 0
+IsJudgedBy p h file = (later : History) (line : List ℕ) → reply p (h ++ later) line ≡ reply p (taken (recovered file) ++ later) line
+
+-- A run began with the content of a history. A crash at some moment of it left a file, as `any_moment` of `run_store` says. Then
+-- each later reply is the one over that history and the first k of the run's lines, each with its reply.
+abbrev pub JudgedAfterCrash : {T V : Type 0} → TextPolicy T V → Type 0
+JudgedAfterCrash p = (h : History) (rows : Rows) (size : ℕ) (asked : List (List ℕ)) (file : List ℕ) → IsContentOf p h rows
+    → IsLeftBy p rows size asked file
+    → (k : ℕ) × (k ≤ length asked) × IsJudgedBy p (h ++ pairs p (state rows size None) (take k asked)) file
+
+-- the first m + n lines count, the last n of which were under way when a write failed
+abbrev pub IsJudgedWith : {T V : Type 0} → TextPolicy T V → History → Rows → ℕ → Fate → List (List ℕ) → ℕ → List ℕ → Type 0
+IsJudgedWith p h rows size None asked n file = ⊥
+IsJudgedWith p h rows size (Some m) asked n file = IsJudgedBy p (h ++ pairs p (state rows size None) (take (m + n) asked)) file
+
+-- A crash after a run left a file, as the outcome of `run_store` says. Then each later reply is the one over the lines that were
+-- answered; or, where a write failed, over those before it and the changes that were under way.
+abbrev pub JudgedAfterRun : {T V : Type 0} → TextPolicy T V → Type 0
+JudgedAfterRun p = (h : History) (rows : Rows) (size : ℕ) (fate : Fate) (asked : List (List ℕ)) (k n : ℕ) (file : List ℕ) → IsContentOf p h rows
+    → IsLeftAfter p rows size fate asked k n file
+    → IsJudgedBy p (h ++ pairs p (state rows size fate) (take k asked)) file ⊎ IsJudgedWith p h rows size fate asked n file

@@ -1,5 +1,5 @@
 -- Changes that are in the table and not yet in the file. No clause of a public call names these words.
-use Rattle.std.specs.Prelude.{◌≡◌, ℕ, ◌+◌, ◌<◌, ◌≤◌, Bool, List, [], ◌∷◌, ◌++◌, length, Option, Some, unwrap_or}
+use Rattle.std.specs.Prelude.{◌≡◌, ℕ, ◌+◌, ◌<◌, ◌≤◌, List, [], ◌∷◌, length, Option, Some, unwrap_or}
 use Rattle.line_log.specs.Log.{AreWhole, IsSettled, file_max, group_max, open_lines}
 use Rattle.pw_file.specs.Calls.{with_text}
 use Rattle.pw_file.specs.History.{Rows, text_in}

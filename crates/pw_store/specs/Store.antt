@@ -1,5 +1,5 @@
 -- What a file stands for: users with their texts.
-use Rattle.std.specs.Prelude.{◌≡◌, ℕ, Bool, true, false, List, [], ◌∷◌, map, Option, None, Some, if◌then◌else◌}
+use Rattle.std.specs.Prelude.{◌≡◌, ℕ, Bool, List, [], ◌∷◌, map, Option, None, Some, if◌then◌else◌}
 use Rattle.line_log.specs.Log.{Stands, recovered}
 use Rattle.line_log.specs.Taker.{file_fault}
 use Rattle.line_log.specs.declared.reopen.OpenError.{OpenError}

@@ -1,6 +1,6 @@
 -- What a store holds, and what it answers to a change.
-use Rattle.std.specs.Prelude.{◌≡◌, ◌⊎◌, ℕ, ◌+◌, ◌&&◌, Bool, true, false, List, [], ◌∷◌, ◌++◌, length, map, nat_le, not, if◌then◌else◌}
-use Rattle.std.specs.Prelude.{Option, Some, None, Result, Ok, Err, unwrap_or}
+use Rattle.std.specs.Prelude.{◌≡◌, ◌⊎◌, ℕ, ◌+◌, Bool, true, false, List, length, map, nat_le, not, if◌then◌else◌}
+use Rattle.std.specs.Prelude.{Some, Result, Ok, Err}
 use Rattle.pieces.specs.FaultCounts.{HasRisen}
 use Rattle.line_log.specs.Log.{IsSettled, file_max}
 use Rattle.pw_file.specs.Answers.{set_answer, upgrade_answer}
@@ -86,6 +86,18 @@ IsStored expected may_lack done faults faults_now answer = (answer ≡ expected)
 abbrev pub is_disk_fault : {A T V : Type 0} → Result A (StoreError T V) → Bool
 is_disk_fault (Err DiskFault) = true
 is_disk_fault answer = false
+
+-- the file wasn't called for it: it is refused, and no write failed
+abbrev pub is_unwritten_set : {A T V : Type 0} → Result A (StoreError T V) → Bool
+is_unwritten_set (Ok done) = false
+is_unwritten_set (Err DiskFault) = false
+is_unwritten_set (Err e) = true
+
+-- the same of an upgrade, which changes nothing where the password doesn't match
+abbrev pub is_unwritten_upgrade : {T V : Type 0} → Result Bool (StoreError T V) → Bool
+is_unwritten_upgrade (Ok matches) = not matches
+is_unwritten_upgrade (Err DiskFault) = false
+is_unwritten_upgrade (Err e) = true
 
 -- ---- what they leave
 

@@ -9,7 +9,12 @@ mod error;
 mod group;
 pub mod laws;
 mod loading;
+mod next;
 mod recovery;
+mod replies;
+mod run;
+mod serve;
+mod stop;
 mod store;
 #[cfg(test)]
 mod tests;
@@ -17,4 +22,5 @@ mod tests;
 pub use error::StoreError;
 pub use loading::Loading;
 pub use recovery::{create, recover};
+pub use run::{DISK_FAULT, run_store};
 pub use store::Store;

@@ -13,7 +13,7 @@ ghost use Rattle.pw_file.specs.Replies.{row_line};
 ghost use Rattle.pw_file.specs.Upgraded.{upgraded_text};
 ghost use Rattle.pw_store.specs.Staged.{IsStaged, lines_of, rows_in, undo_of};
 ghost use Rattle.pw_store.specs.Store.{StandsFor, recovered_rows};
-ghost use Rattle.pw_store.specs.Stored.{IsSound, IsStored, after_store_set, after_store_upgrade, device_of, is_disk_fault, rows_after_store_set, rows_after_store_upgrade, rows_of, size_after_store_set, size_after_store_upgrade, size_of, stored_set, stored_upgrade, takes_changes};
+ghost use Rattle.pw_store.specs.Stored.{IsSound, IsStored, after_store_set, after_store_upgrade, device_of, is_disk_fault, is_unwritten_set, is_unwritten_upgrade, rows_after_store_set, rows_after_store_upgrade, rows_of, size_after_store_set, size_after_store_upgrade, size_of, stored_set, stored_upgrade, takes_changes};
 
 use crate::StoreError;
 use crate::group::Group;
@@ -59,6 +59,13 @@ impl<D: Device, P: Policy> Store<D, P> {
         self.is_open
     }
 
+    /// The device.
+    pub fn device(&self) -> &D
+        ensures { result.now ≡ device_of self.now }
+    {
+        &self.log.device
+    }
+
     /// How many users there are.
     pub fn len(&self) -> usize
         ensures { result ≡ length (rows_of self.now) }
@@ -101,6 +108,8 @@ impl<D: Device, P: Policy> Store<D, P> {
             × (is_ok (set_answer P.policy (text_in (rows_of self.old) user.now) (length (rows_of self.old)) text.now) ≡ true)) }
         ensures rows { OnOk result (rows_of self.new ≡ with_text (rows_of self.old) user.now text.now) }
         ensures lines { OnOk result (lines_of group.new ≡ lines_of group.old ++ row_line (user.now, text.now)) }
+        ensures more { OnOk result (length (undo_of group.new) ≡ length (undo_of group.old) + 1) }
+        ensures as_many { OnErr result (length (undo_of group.new) ≡ length (undo_of group.old)) }
         ensures same_rows { OnErr result (rows_of self.new ≡ rows_of self.old) }
         ensures same_lines { OnErr result (lines_of group.new ≡ lines_of group.old) }
         ensures log { self.new.log ≡ self.old.log }
@@ -142,6 +151,7 @@ impl<D: Device, P: Policy> Store<D, P> {
         ensures sound { IsSound P.policy D.seen D.may_leave self.new }
         ensures back { OnErr result (rows_of self.new ≡ rows_in P.policy (D.seen (device_of self.old))) }
         ensures failed { OnErr result (HasRisen (D.faults (device_of self.old)) (D.faults (device_of self.new))) }
+        ensures some { lines_of group.old ≡ [] → is_ok result ≡ true }
         ensures lines { lines_of group.new ≡ [] }
         ensures undo { undo_of group.new ≡ [] }
         ensures count { D.faults (device_of self.old) ≤ D.faults (device_of self.new) }
@@ -192,8 +202,9 @@ impl<D: Device, P: Policy> Store<D, P> {
         ensures any_moment { takes_changes self.old ≡ true → LeavesOnly D.moment D.left_since (device_of self.old) (device_of self.new)
             (λ c. StandsFor P.policy (rows_of self.old) c ⊎ StandsFor P.policy (with_text (rows_of self.old) user.now text.now) c) }
 
-        // Where no change is taken the device isn't called.
+        // Where no change is taken the device isn't called, and for a refusal it isn't either.
         ensures closed { takes_changes self.old ≡ false → device_of self.new ≡ device_of self.old }
+        ensures unwritten { is_unwritten_set result ≡ true → device_of self.new ≡ device_of self.old }
     {
         // That the name is one of the policy, which the prover has from this call.
         let _name = user.as_str();
@@ -233,6 +244,7 @@ impl<D: Device, P: Policy> Store<D, P> {
             (λ c. StandsFor P.policy (rows_of self.old) c
             ⊎ StandsFor P.policy (with_text (rows_of self.old) user.now (upgraded_text password.now salt.now)) c) }
         ensures closed { takes_changes self.old ≡ false → device_of self.new ≡ device_of self.old }
+        ensures unwritten { is_unwritten_upgrade result ≡ true → device_of self.new ≡ device_of self.old }
     {
         if !self.is_open {
             return Err(StoreError::DiskFault);

@@ -1,4 +1,4 @@
-use Rattle.std.proofs.Common.{◌∙◌, ap, refl, sym, Some}
+use Rattle.std.proofs.Common.{refl, sym, Some}
 use Rattle.pw_file.specs.Answers.{check_answer, upgrade_answer}
 use Rattle.pw_file.specs.Commands as of
 use Rattle.pw_file.specs.History.{text_in}

@@ -1,5 +1,5 @@
 use Rattle.std.proofs.Common.{◌⊎◌, inl, inr, ⊎_elim, ℕ, List, [], refl}
-use Rattle.line_log.specs.Log.{Stands, open_lines}
+use Rattle.line_log.specs.Log.{Stands}
 use Rattle.line_log.proofs.Moments.{weaker}
 use Rattle.pw_store.specs.Store.{StandsFor}
 use Rattle.pw_store.proofs.Grouped.{rows_of_lines, stands_as}

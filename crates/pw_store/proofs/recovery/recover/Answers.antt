@@ -1,4 +1,4 @@
-use Rattle.std.proofs.Common.{◌≡◌, [], List, ℕ, sym, ◌∙◌, ap}
+use Rattle.std.proofs.Common.{sym, ◌∙◌, ap}
 use Rattle.line_log.specs.Log.{recovered}
 use Rattle.line_log.specs.Taker.{after_all}
 use Rattle.pw_file.specs.History.{Rows}

@@ -1,6 +1,6 @@
-use Rattle.std.proofs.Common.{rules, ◌≡◌, ◌++◌, ◌∷◌, [], ℕ, List, sym, ◌∙◌, subst, Option}
+use Rattle.std.proofs.Common.{rules, ◌≡◌, ◌++◌, ◌∷◌, [], ℕ, List, sym, subst, Option}
 use Rattle.pw_file.specs.History.{Rows}
-use Rattle.pw_store.specs.Staged.{Undoes, lines_of, undo_of}
+use Rattle.pw_store.specs.Staged.{Undoes, undo_of}
 use Rattle.pw_store.proofs.Grouped.{undo_last}
 use Rattle.pw_store.proofs.group.Group.take_back.Goals as goal
 

@@ -1,4 +1,4 @@
-use Rattle.std.proofs.Common.{◌≡◌, [], length}
+use Rattle.std.proofs.Common.{◌≡◌, []}
 use Rattle.pw_file.specs.History.{Rows}
 use Rattle.pw_store.specs.Staged.{Undoes, lines_of, undo_of}
 use Rattle.pw_store.proofs.group.Group.take_back.Given as goal

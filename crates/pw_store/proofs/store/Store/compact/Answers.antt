@@ -1,11 +1,9 @@
-use Rattle.std.proofs.Common.{rules, ◌≡◌, ◌⊎◌, ⊎_elim, ℕ, List, [], true, ◌∙◌, ap, sym, subst, Some}
-use Rattle.std.specs.List.{flat_map}
-use Rattle.line_log.specs.Log.{AreWhole, Stands, open_lines, recovered}
-use Rattle.line_log.proofs.Moments.{started, weaker}
-use Rattle.pw_file.specs.Replies.{row_line}
-use Rattle.pw_store.specs.Store.{StandsFor, rows_after}
+use Rattle.std.proofs.Common.{rules, ◌≡◌, ◌⊎◌, ⊎_elim, ℕ, List, true, ◌∙◌}
+use Rattle.line_log.specs.Log.{Stands, open_lines, recovered}
+use Rattle.line_log.proofs.Moments.{weaker}
+use Rattle.pw_store.specs.Store.{StandsFor}
 use Rattle.pw_store.specs.Stored.{rows_of, takes_changes}
-use Rattle.pw_store.proofs.Grouped.{file_is, rest_left, rows_of_lines, stands_as}
+use Rattle.pw_store.proofs.Grouped.{file_is, rows_of_lines, stands_as}
 use Rattle.pw_store.proofs.Rewritten.{rewritten_as}
 use Rattle.pw_store.proofs.store.Store.compact.Goals as goal
 

@@ -1,8 +1,6 @@
-use Rattle.std.proofs.Common.{rules, true, ◌++◌, ◌≡◌, ◌⊎◌, inl, inr, ⊎_elim, ℕ, ◌+◌, List, [], length, ◌∙◌, ap, sym, subst, arith, refl, Ok}
+use Rattle.std.proofs.Common.{rules, true, ◌++◌, ◌≡◌, ◌⊎◌, inl, inr, ⊎_elim, ℕ, ◌+◌, List, length, ◌∙◌, ap, arith, refl}
 use Rattle.line_log.proofs.Moments.{started}
-use Rattle.pw_file.specs.Calls.{after_set, with_text}
-use Rattle.pw_file.specs.History.{IsContentOf, Rows}
-use Rattle.pw_file.proofs.Calls.{set_content}
+use Rattle.pw_file.specs.Calls.{with_text}
 use Rattle.line_log.specs.declared.log.LineLog.{LineLog}
 use Rattle.pw_file.specs.Replies.{row_line}
 use Rattle.pw_store.specs.Staged.{lines_of}

@@ -1,4 +1,4 @@
-use Rattle.std.proofs.Common.{◌≡◌, ◌⊎◌, inl, inr, ℕ, List, ◌++◌, ◌∙◌, ap, sym}
+use Rattle.std.proofs.Common.{◌⊎◌, inl, ℕ, List, ◌++◌, ◌∙◌, ap}
 use Rattle.line_log.specs.Log.{IsBeforeOrAfter, open_lines, recovered}
 use Rattle.line_log.proofs.Moments.{started, weaker}
 use Rattle.pw_store.specs.Staged.{lines_of, rows_in}

@@ -1,4 +1,4 @@
-use Rattle.std.proofs.Common.{◌⊎◌, inl, ℕ, List, Err, Ok, true, false, sym, ap, ◌∙◌, subst}
+use Rattle.std.proofs.Common.{◌⊎◌, inl, ℕ, List, Err, Ok, false, sym, ap, ◌∙◌, subst}
 use Rattle.line_log.proofs.Moments.{started}
 use Rattle.pw_file.specs.Calls.{with_text}
 use Rattle.pw_file.specs.History.{IsContentOf, Rows, text_in}

@@ -1,0 +1,16 @@
+use Rattle.std.proofs.Common.{sym, None, Some}
+use Rattle.pw_file.specs.Commands as of
+use Rattle.pw_store.proofs.Serving.{asks_is}
+use Rattle.pw_store.proofs.store.Store.serve_line.Goals as goal
+
+pub serve_other-requires-clause-other : goal.serve_other-requires-clause-other
+serve_other-requires-clause-other g c =
+    asks_is g.P.Policy.policy c.args.line.now (Some (of.Check c.in-Some-Check.field-0-0 c.in-Some-Check.field-0-1.now)) c.requires.short
+    (sym (rw c.in-Some-Check.field-0-is at c.in-Some-Check.ensures.command))
+
+pub serve_other-requires-in-Some-List-clause-other : goal.serve_other-requires-in-Some-List-clause-other
+serve_other-requires-in-Some-List-clause-other g c =
+    asks_is g.P.Policy.policy c.args.line.now (Some of.Listing) c.requires.short (sym (rw c.in-Some-List.field-0-is at c.in-Some-List.ensures.command))
+
+pub serve_other-requires-in-None-clause-other : goal.serve_other-requires-in-None-clause-other
+serve_other-requires-in-None-clause-other g c = asks_is g.P.Policy.policy c.args.line.now None c.requires.short (sym c.in-None.ensures.command)
