@@ -11,7 +11,7 @@ set -eu
 top=$(cd "$(dirname "$0")" && pwd)
 prefix=$(realpath -m -- "${1:-/usr/local}")
 root=${DESTDIR:-}$prefix
-programs="pwcheck pwtool wrapstream pwkdf pwlegacy pwfile"
+programs="pwcheck pwtool wrapstream pwkdf pwlegacy pwfile pwstore"
 
 fail() {
   echo "install.sh: $*" >&2

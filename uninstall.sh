@@ -14,7 +14,7 @@ take() { # FILE
 }
 
 version=$(sed -n 's/^#define PWCHECK_VERSION "\(.*\)"$/\1/p' "$top/include/pwcheck.h")
-for file in bin/pwcheck bin/pwtool bin/wrapstream bin/pwkdf bin/pwlegacy bin/pwfile include/pwcheck.h \
+for file in bin/pwcheck bin/pwtool bin/wrapstream bin/pwkdf bin/pwlegacy bin/pwfile bin/pwstore include/pwcheck.h \
   lib/pkgconfig/pwcheck.pc lib/libpwcheck.a lib/libpwcheck.so "lib/libpwcheck.so.${version%%.*}" "lib/libpwcheck.so.$version" \
   lib/libpwcrypt.so lib/libpwcrypt.so.1 lib/libpwcrypt.so.1.0; do
   take "$file"

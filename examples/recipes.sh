@@ -5,7 +5,7 @@
 #     examples/recipes.sh      (the programs are those on PATH, else crates/*/out/*)
 set -u
 top=$(cd "$(dirname "$0")/.." && pwd)
-PATH=$PATH:$top/crates/pwcheck/out:$top/crates/pwtool/out:$top/crates/pwfile/out:$top/crates/pwlegacy/out:$top/crates/pwkdf/out:/usr/sbin:/sbin
+PATH=$PATH:$top/crates/pwcheck/out:$top/crates/pwtool/out:$top/crates/pwfile/out:$top/crates/pwstore/out:$top/crates/pwlegacy/out:$top/crates/pwkdf/out:/usr/sbin:/sbin
 folder=$(mktemp -d)
 trap 'rm -rf "$folder"' EXIT
 cd "$folder" || exit 2
@@ -113,6 +113,22 @@ rm texts.new
 same 'a wrong password stops it' 'pwfile ended with 1: nothing is made' "$(migrate wrong)"
 same 'and nothing is made' 'none' "$(ls texts.new 2>/dev/null || echo none)"
 same 'the old file' "$ann" "$(sed -n 's/^ann:\([^:]*\):.*/\1/p' shadow)"
+
+# ---- a password table for a service
+if has pwstore; then
+  cut -d: -f1,2 shadow | grep -v ':$' | sed 's/:/\t/; s/^/set\t/' | pwstore table > replies || cat replies
+  same 'a table' "$(printf 'ok\n%.0s' 1 2 3 4 5 6)" "$(cat replies)"
+  same 'after a restart' "$(printf 'match\nmismatch\nlocked\nno-user\n')" \
+    "$(printf 'check\tJoe\t%s\ncheck\tJoe\tother\ncheck\troot\tx\ncheck\tnobody\tx\n' 'pass word' | pwstore table)"
+  same 'an old text upgraded' upgraded \
+    "$(printf 'upgrade\told\t%s\t%s\n' "$(head -c 16 /dev/urandom | base64 | tr -d '=')" 'legacy' | pwstore table)"
+  same 'and checked' match "$(printf 'check\told\tlegacy\n' | pwstore table)"
+  pwstore table compact
+  same 'made anew' "$(cut -d: -f1 shadow)" "$(grep ^set table | cut -f2)"
+  same 'and checked again' match "$(printf 'check\told\tlegacy\n' | pwstore table)"
+else
+  skipped 'a table' pwstore
+fi
 
 # ---- htpasswd
 if has htpasswd; then

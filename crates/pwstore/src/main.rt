@@ -1,0 +1,106 @@
+//! `pwstore FILE`: answers the commands of standard input over a table of users and their stored texts that is kept in a
+//! file, each change of which is on the disk before it is answered. A file that isn't there is made.
+//! `pwstore FILE compact`: writes the file anew, a line for each user.
+//!
+//! Each reply goes to standard output with a line feed. Errors are one line on standard error. The status says how the run
+//! ended.
+#![tactic(auto)]
+
+mod cli;
+mod fault;
+mod opened;
+mod status;
+mod table;
+#[cfg(test)]
+mod tests;
+
+use crate::cli::command;
+use crate::fault::{say, say_refused};
+use crate::opened::{compact_file, serve_file};
+use crate::status::BAD_WORDS;
+use clap::ArgMatches;
+use clap::error::ErrorKind;
+use line_program::status::{ALL_GOOD, NO_MEMORY, NO_WORDS, WRITE_FAULT};
+use std::process::ExitCode;
+use std::{env, io};
+pub use table::{compact, serve, store_of};
+
+// The words of the command line, or the status.
+fn words(rt: &HostRuntime) -> Result<Vec<String>, u8> {
+    let words = match env::args(rt) {
+        Ok(words) => words,
+        Err(error) if error.kind() == io::ErrorKind::OutOfMemory => {
+            return Err(no_memory(rt));
+        }
+        Err(_) => {
+            say(rt, "a word of the command line isn't UTF-8");
+            return Err(NO_WORDS);
+        }
+    };
+    match words.collect(rt.alloc()) {
+        Ok(words) => Ok(words),
+        Err(_) => Err(no_memory(rt)),
+    }
+}
+
+fn no_memory(rt: &HostRuntime) -> u8 {
+    say(rt, "memory is wanting for the words of the command line");
+    NO_MEMORY
+}
+
+// Does what the words ask for.
+fn run_words(rt: &HostRuntime, matches: &ArgMatches<'_>) -> u8 {
+    let Some(name) = matches.get_str("FILE") else {
+        say(rt, "no file is named");
+        return BAD_WORDS;
+    };
+    match matches.get_str("ACTION") {
+        None => serve_file(rt, name),
+        Some("compact") => compact_file(rt, name),
+        Some(_) => {
+            say(rt, "what stands behind the file isn't 'compact'");
+            BAD_WORDS
+        }
+    }
+}
+
+// Says why the words are refused, or writes the help or the version that they ask for.
+fn answer_refused(rt: &HostRuntime, error: &clap::Error) -> u8 {
+    match error.kind() {
+        ErrorKind::DisplayHelp | ErrorKind::DisplayVersion => match error.print(rt) {
+            Ok(()) => ALL_GOOD,
+            Err(_) => {
+                say(rt, "standard output: a write failed");
+                WRITE_FAULT
+            }
+        },
+        ErrorKind::OutOfMemory => no_memory(rt),
+        ErrorKind::MissingRequiredArgument => {
+            say(rt, "no file is named: see 'pwstore --help'");
+            BAD_WORDS
+        }
+        _ => {
+            say_refused(rt, error);
+            BAD_WORDS
+        }
+    }
+}
+
+fn run(rt: &HostRuntime) -> u8 {
+    let words = match words(rt) {
+        Ok(words) => words,
+        Err(status) => return status,
+    };
+    let command = match command(rt.alloc()) {
+        Ok(command) => command,
+        Err(_) => return no_memory(rt),
+    };
+    match command.try_get_matches_from(words.as_slice()) {
+        Ok(matches) => run_words(rt, &matches),
+        Err(error) => answer_refused(rt, &error),
+    }
+}
+
+fn main(rt: HostRuntime) -> ExitCode {
+    ExitCode::from(run(&rt))
+}
