@@ -6,7 +6,7 @@ a wrong one: by `pwtool check`; for SHA-crypt, bcrypt and yescrypt by libxcrypt'
 by passlib; for Argon2id by libargon2's argon2id_verify (libargon2.so.1); for PBKDF2 by Python's hashlib, since no program here
 reads its records. No two texts may have one salt. Then one text of each scheme is made of no option, and its cost compared with
 what passlib itself has as default, and what OWASP, RFC 9106 and libxcrypt name. The refusals and their statuses are tried, on a
-terminal too; and `pwtool normalize`, `wrap` and `unwrap` beside `pwcheck` and `wrapstream` on the same bytes.
+terminal too, and that no more than a line is waited for; and `pwtool normalize`, `wrap` and `unwrap` beside `pwcheck` and `wrapstream` on the same bytes.
 
 It needs the three programs, built as
     (cd crates/pwtool && rt run </dev/null); (cd crates/pwcheck && rt run </dev/null); (cd crates/wrapstream && rt run </dev/null)
@@ -207,6 +207,21 @@ def try_refusals():
             fault(f"first line of {given}: {done}")
 
 
+def try_open_pipe():
+    """The text comes once the line is there, though the pipe stays open."""
+    with subprocess.Popen([PWTOOL, "make", "bcrypt", "--cost", "4"], stdin=subprocess.PIPE, stdout=subprocess.PIPE) as done:
+        done.stdin.write(b"one\n")
+        done.stdin.flush()
+        try:
+            status = done.wait(timeout=30)
+        except subprocess.TimeoutExpired:
+            status = None
+            done.kill()
+        out = done.stdout.read().decode().strip()
+    if status != 0 or not by_crypt("one", out):
+        fault(f"an open pipe: {status} {out}")
+
+
 def on_terminal(words):
     """What the program does where its input is a terminal, on which a line is typed."""
     near, far = pty.openpty()
@@ -258,6 +273,7 @@ def main():
         try_scheme(scheme, texts, rng)
     try_defaults()
     try_refusals()
+    try_open_pipe()
     try_terminal()
     try_small_forms(rng)
     print(f"{len(FAULTS)} wrong")
