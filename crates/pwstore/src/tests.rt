@@ -1,15 +1,11 @@
 //! The program's calls over devices in memory.
 
-ghost use Rattle.std.specs.Prelude.{◌≡◌, true, IfOk};
-ghost use Rattle.any_table.specs.AnyTexts.{any_texts};
+ghost use Rattle.std.specs.Prelude.{◌≡◌, IfOk};
 ghost use Rattle.line_log.specs.MemoryBytes.{device_bytes};
-ghost use Rattle.pw_store.specs.Stored.{IsSound, takes_changes};
 
 use crate::table::{Untaken, compact, serve, store_of};
-use any_table::AnyTexts;
 use line_io::{Failed, MemorySink, MemorySource, Sink, Source};
 use line_log::{MemoryDevice, OpenError};
-use pw_store::Store;
 use std::alloc::{AllocError, Global};
 use std::cell::Cell;
 use std::test::Fail;
@@ -24,8 +20,6 @@ const THREE: &[u8] = b"#pwstore 1\nset\tann\t*\nset\tbob\t$5\nset\tann\t!\n#";
 
 // The numbers of calls: the sync of recovery is 0, and a group has three writes and two syncs.
 const NONE_FAILS: u64 = 1_000;
-
-type MemoryStore = Store<MemoryDevice, AnyTexts>;
 
 // A file in memory, whose call of the number `failing` fails, and its bytes.
 fn memory(alloc: Global, file: &[u8], failing: u64) -> Result<(MemoryDevice, Vec<u8>), AllocError>
