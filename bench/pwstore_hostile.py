@@ -10,6 +10,8 @@
    place, a link, an empty file: status 66 or 65, and one line on standard error.
 4. A second process is refused (75); one after a kill of the first isn't.
 5. A file that others may read is told on standard error, and a new file has the mode 0600.
+6. Each request for memory of a session refused in turn (bench/refuse_nth.c, preloaded; wants gcc): the status is 5, or all is as usual;
+   the replies are the first ones of a run with memory, and the table is that of them, or of one command more.
 
 usage: bench/pwstore_hostile.py      (PWSTORE names the program)
 """
@@ -146,11 +148,43 @@ def modes(folder):
     holds("a file made anew keeps its mode", os.stat(name).st_mode & 0o777 == 0o644)
 
 
+def refused_memory(folder):
+    library, name, mark = (os.path.join(folder, file) for file in ("refuse.so", "refused", "mark"))
+    if subprocess.run(["gcc", "-O2", "-shared", "-fPIC", "-o", library, os.path.join(HERE, "refuse_nth.c"), "-ldl"], check=False).returncode:
+        print("skipped: no gcc")
+        return
+    lines = [b"set\tann\t" + model.HELLO.encode(), b"set\tbob\t*", b"check\tann\t" + model.PASSWORD.encode(), b"check\tbob\tx",
+             b"upgrade\tann\tabcdabcdabc\t" + model.PASSWORD.encode(), b"set\tcleo\t" + b"x" * 1000]
+    kept, replies, tables = model.Model(), [], [{}]
+    for line in lines:
+        replies.append(kept.reply(line))
+        tables.append(dict(kept.table))
+    fives, usual, others = 0, 0, []
+    for number in range(1, 400):
+        for file in (name, mark):
+            if os.path.exists(file):
+                os.remove(file)
+        env = {**os.environ, "LD_PRELOAD": library, "REFUSE_NTH": str(number), "REFUSE_MARK": mark}
+        done = subprocess.run([PROGRAM, name], input=b"".join(line + b"\n" for line in lines), capture_output=True, check=False, env=env)
+        words = done.stdout.decode().split("\n")[:-1]
+        found = model.read(open(name, "rb").read()) if os.path.exists(name) else {}
+        right = words == replies[:len(words)] and found in tables[len(words):len(words) + 2]
+        if not os.path.exists(mark):
+            others += [] if right and done.returncode == 1 else [number]
+            break
+        fives += done.returncode == 5
+        usual += done.returncode == 1
+        told = done.stderr.decode()
+        if not right or (done.returncode, told.count("\n")) not in ((5, 1), (1, 0)):
+            others.append((number, done.returncode, told))
+    holds(f"{number - 1} requests for memory refused in turn: status 5 {fives} times, as usual {usual} times, other {others}", not others)
+
+
 def main():
     if not os.path.exists(PROGRAM):
         sys.exit("pwstore isn't built")
     with tempfile.TemporaryDirectory(prefix="pwstore_hostile_") as folder:
-        for part in (damaged, full_disk, unwritable, second_process, modes):
+        for part in (damaged, full_disk, unwritable, second_process, modes, refused_memory):
             part(folder)
     sys.exit(1 if FAILED else 0)
 
