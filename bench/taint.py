@@ -50,7 +50,7 @@ REASONS = {
     "utf8_place": (Reason("A", r"pwcheck_c::check::text_of", 8, "where bytes aren't ASCII"), OWN),
     "cuts": (Reason("J", r"pieces::.*|core::iter::words::find_ascii|sha_crypt::fields::(from_salt|text_parts)", 4,
                     "where the stored text has a `$`"), BOTH),
-    "grammar": (Reason("J", r"pwcheck_check(_limited)?|pwcheck_c::(check|cost)::.*|(mcf|phc)::.*", 12,
+    "grammar": (Reason("J", r"pwcheck_check(_limited)?|pwcheck_c::(check|cost)::.*|(mcf|phc)::.*|sha_crypt::record::ShaRecord::new", 12,
                        "the grammar of stored texts"), BOTH),
     "verdict": (Reason("J", r"stored_check::names::sha_verdict|pwcheck_check(_limited)?|pwcheck_c::(sha_)?check::.*"
                        r"|pwcheck_sha(256|512)_check", 3,
