@@ -9,7 +9,7 @@ import os
 
 TOP = os.path.join(os.path.dirname(os.path.abspath(__file__)), "..")
 FOLDERS = ("crates", "include", "bindings", "crypt3")
-BUILT = ("out", "target", "__pycache__")
+BUILT = ("out", "target", "__pycache__", "Cargo.lock")
 
 
 def files():
@@ -18,7 +18,7 @@ def files():
     for folder in FOLDERS:
         for at, folders, names in os.walk(os.path.join(TOP, folder)):
             folders[:] = sorted(name for name in folders if name not in BUILT)
-            found += [os.path.relpath(os.path.join(at, name), TOP) for name in names]
+            found += [os.path.relpath(os.path.join(at, name), TOP) for name in names if name not in BUILT]
     return sorted(found)
 
 

@@ -1,0 +1,290 @@
+/* Password verification: stored texts of every scheme checked, those of SHA-crypt and scrypt made, their keys and digests,
+ * and Base64.
+ *
+ * What holds of every call
+ * - A slice is a pointer and then a length in bytes, of at most PTRDIFF_MAX. No pointer is null, not even beside the
+ *   length 0, and behind each stand so many bytes.
+ * - What is written (`out`, `dst`, `len`) overlaps nothing else that the call is given, and no other thread touches
+ *   anything of a call while it runs. Calls with separate memory may run side by side.
+ *   No call can check these two points; every other input is answered by a number or a length.
+ * - Nothing is kept between calls, nothing is read or written but what is passed, errno is left alone where malloc
+ *   leaves it, and no call prints, exits or waits.
+ * - Only pwcheck_check, pwcheck_check_limited, pwcheck_scrypt and pwcheck_scrypt_text take memory, by malloc and free,
+ *   at most 304 MiB, and give it back; so does pwcheck_check_any, which may take more, as the stored text asks: 2 GiB
+ *   for Argon2. Bound it. They are not for signal handlers, nor for the forked child of a process with
+ *   threads.
+ * - The time of a check is told by the stored text: its rounds, or the parameters of scrypt. SHA-crypt's grows with the
+ *   square of the password's length too, so it takes passwords of at most 4,096 bytes. A stored text of another's
+ *   choice may ask for hours: bound it by pwcheck_check_limited, or by the limits of pwcheck_check_any.
+ * - The processor is x86-64-v2 or later. No call was seen to need more than 10 KB of stack beside malloc's.
+ * - Nothing is wiped: what a call has left on the stack and in freed memory may tell of the password.
+ *
+ * How to check a password
+ * - Compare the answer with PWCHECK_MATCH, and with nothing less. Every other number is no leave to enter:
+ *       if (pwcheck_check(p, n, stored, m) == PWCHECK_MATCH)    right
+ *       if (pwcheck_check(p, n, stored, m))                     wrong: true of a mismatch, false of a match
+ * - PWCHECK_OUT_OF_MEMORY is no verdict, and PWCHECK_OVER_COST is none: tell the user to try later, and an operator.
+ *   Don't count it as a wrong password.
+ * - For a user that doesn't exist check the password against a fixed text of the same scheme and cost as the others,
+ *   and throw the answer away. Else the time tells who exists.
+ * - Draw salts by getrandom(2), arc4random_buf(3) or what else the system has for secrets, never by rand(3).
+ */
+#ifndef PWCHECK_H
+#define PWCHECK_H
+
+#include <stdbool.h>
+#include <stddef.h>
+#include <stdint.h>
+
+#ifdef __cplusplus
+extern "C" {
+#endif
+
+/* The version of this interface. In a later one with the same first number each number and each call means the same;
+ * new answers get new numbers. pwcheck_version tells that of the library that is linked. */
+#define PWCHECK_VERSION "1.1"
+#define PWCHECK_VERSION_MAJOR 1
+#define PWCHECK_VERSION_MINOR 1
+
+/* A caller who drops an answer, or passes a null pointer, is warned. Define these first to have it otherwise. */
+#ifndef PWCHECK_MUST_USE
+#if defined(__GNUC__)
+#define PWCHECK_MUST_USE __attribute__((warn_unused_result))
+#else
+#define PWCHECK_MUST_USE
+#endif
+#endif
+#ifndef PWCHECK_NONNULL
+#if defined(__GNUC__)
+#define PWCHECK_NONNULL __attribute__((nonnull))
+#else
+#define PWCHECK_NONNULL
+#endif
+#endif
+
+/* What the checks answer, a verdict or the first cause that there is none. pwcheck_word tells the word. */
+enum pwcheck_answer {
+    PWCHECK_MATCH = 0,              /* the password is that of the stored text */
+    PWCHECK_MISMATCH = 1,           /* the stored text is valid, and of another password */
+
+    PWCHECK_NOT_UTF8 = 2,           /* the password or the stored text isn't UTF-8 */
+    PWCHECK_OUT_OF_MEMORY = 3,      /* no verdict: there is no memory for scrypt. Never a mismatch */
+    PWCHECK_PASSWORD_TOO_LONG = 4,  /* more than 4,096 bytes, and UTF-8: the whole password is read first */
+
+    /* 5 to 8: pwcheck_check and pwcheck_check_limited alone */
+    PWCHECK_MCF_DELIMITER = 5,      /* the stored text doesn't begin with '$', or it ends with it */
+    PWCHECK_MCF_IDENTIFIER = 6,     /* the identifier isn't of a-z, 0-9 and -, or '-' is its first or last */
+    PWCHECK_MCF_FIELD = 7,          /* a field is empty */
+    PWCHECK_MCF_ENCODING = 8,       /* a field has a character that none may have */
+
+    /* 10 to 17: identifiers 5 and 6; 9: pwcheck_sha256_check and pwcheck_sha512_check alone */
+    PWCHECK_SHA_IDENTIFIER = 9,     /* the text doesn't begin with '$' and the family's identifier, 5 or 6 */
+    PWCHECK_SHA_NO_FIELDS = 10,     /* no field behind the identifier */
+    PWCHECK_SHA_NO_SALT = 11,       /* rounds, and nothing behind them */
+    PWCHECK_SHA_ROUNDS_NOT_NUMBER = 12, /* behind "rounds=" stands no plain decimal below 2^64 */
+    PWCHECK_SHA_NO_HASH = 13,       /* no field behind the salt */
+    PWCHECK_SHA_TRAILING = 14,      /* a field behind the hash field */
+    PWCHECK_SHA_ROUNDS = 15,        /* rounds outside 1,000 to 999,999,999 */
+    PWCHECK_SHA_SALT_TOO_LONG = 16, /* more than 16 bytes */
+    PWCHECK_SHA_BASE64 = 17,        /* the hash field is that of no digest */
+
+    /* 18 to 29: other identifiers, read as PHC records; pwcheck_check and pwcheck_check_limited alone */
+    PWCHECK_PHC_NAME = 18,          /* the identifier is no name, or that of a parameter is none */
+    PWCHECK_PHC_VALUE_LONG = 19,    /* a value of more than 64 characters */
+    PWCHECK_PHC_VALUE = 20,         /* a parameter without '=', a value with a character that none may have or with a
+                                     * second '=', or a version that is no plain decimal below 2^32 */
+    PWCHECK_PHC_PARAMS_LONG = 21,   /* parameters of more than 127 characters */
+    PWCHECK_PHC_SALT_SHORT = 22,    /* fewer than 11 characters */
+    PWCHECK_PHC_SALT_LONG = 23,     /* more than 64 characters */
+    PWCHECK_PHC_B64 = 24,           /* the salt or the hash is the encoding of no bytes */
+    PWCHECK_PHC_HASH_LONG = 25,     /* more than 86 characters */
+    PWCHECK_PHC_HASH_SHORT = 26,    /* fewer than 10 bytes */
+    PWCHECK_PHC_TRAILING = 27,      /* a field behind the hash */
+    PWCHECK_NO_HASH = 28,           /* the record has no salt, or no hash */
+    PWCHECK_KDF = 29,               /* scrypt doesn't take the record: see pwcheck(5) */
+
+    PWCHECK_OVER_COST = 30,         /* no verdict: the text is valid, and its cost is above the bound;
+                                     * pwcheck_check_limited and pwcheck_check_any alone */
+
+    /* 31 to 42, from version 1.1 on: pwcheck_check_any alone */
+    PWCHECK_NO_SCHEME = 31,         /* no scheme has the identifier of the text */
+    PWCHECK_MD5_FORMAT = 32,        /* the text of md5-crypt has a fault */
+    PWCHECK_BCRYPT_OBSOLETE = 33,   /* $2$ or $2x$, which are obsolete */
+    PWCHECK_BCRYPT_COST = 34,       /* a cost outside 4 to 31 */
+    PWCHECK_BCRYPT_B64 = 35,        /* the salt and the hash of bcrypt are no encoding */
+    PWCHECK_BCRYPT_FORMAT = 36,     /* the text of bcrypt has another fault */
+    PWCHECK_YESCRYPT_FLAVOR = 37,   /* another flavor than crypt(3) writes */
+    PWCHECK_YESCRYPT_COST = 38,     /* a number of a text $y$ is outside what is taken */
+    PWCHECK_YESCRYPT_FORMAT = 39,   /* the text $y$ has another fault */
+    PWCHECK_SCRYPT_COST = 40,       /* a number of a text $7$ is outside what is taken */
+    PWCHECK_SCRYPT_FORMAT = 41,     /* the text $7$ has another fault */
+    PWCHECK_ZERO_BYTE = 42          /* the password has a zero byte, which bcrypt can't hash */
+};
+
+/* What the other calls answer. */
+enum pwcheck_status {
+    PWCHECK_DONE = 0,
+    PWCHECK_OUT_OF_RANGE = -1,      /* a number or a length isn't taken; nothing was written */
+    PWCHECK_NO_MEMORY = -2,         /* there is no memory for scrypt; nothing was written */
+    PWCHECK_NO_ROOM = -3,           /* the buffer is too short; nothing was written */
+    PWCHECK_NOT_BASE64 = -4         /* the text is the encoding of no bytes */
+};
+
+/* Alphabets of Base64. */
+enum pwcheck_alphabet {
+    PWCHECK_BASE64 = 0,             /* RFC 4648, section 4, padded */
+    PWCHECK_BASE64_UNPADDED = 1,
+    PWCHECK_BASE64_URL = 2,         /* RFC 4648, section 5, padded */
+    PWCHECK_BASE64_URL_UNPADDED = 3,
+    PWCHECK_BASE64_BCRYPT = 4,      /* "./A-Za-z0-9"; this and the next ones unpadded */
+    PWCHECK_BASE64_CRYPT = 5,       /* "./0-9A-Za-z", the high bits first */
+    PWCHECK_BASE64_PBKDF2 = 6,      /* "A-Za-z0-9./" */
+    PWCHECK_BASE64_SHA_CRYPT = 7    /* "./0-9A-Za-z", the low bits first */
+};
+
+/* Lengths in bytes: room for each word and its zero, digests, hash fields, the longest texts (without a zero), the
+ * salt of a scrypt text, and the longest password of a check. */
+#define PWCHECK_WORD_SIZE 18
+#define PWCHECK_SHA256_DIGEST_SIZE 32
+#define PWCHECK_SHA512_DIGEST_SIZE 64
+#define PWCHECK_SHA256_FIELD_SIZE 43
+#define PWCHECK_SHA512_FIELD_SIZE 86
+#define PWCHECK_SHA256_TEXT_MAX 80
+#define PWCHECK_SHA512_TEXT_MAX 123
+#define PWCHECK_SCRYPT_TEXT_MAX 93
+#define PWCHECK_SCRYPT_SALT_SIZE 16
+#define PWCHECK_PASSWORD_MAX 4096
+
+/* Checks a password against a stored text, SHA-crypt or a PHC record of scrypt. Compare the answer with
+ * PWCHECK_MATCH, and with nothing less. */
+PWCHECK_MUST_USE PWCHECK_NONNULL
+int32_t pwcheck_check(const uint8_t *password, size_t password_len, const uint8_t *stored, size_t stored_len);
+
+/* The same within a bound on the cost. A valid stored text is answered by PWCHECK_OVER_COST, and no digest or key is
+ * computed, where it is SHA-crypt of more than `max_rounds` rounds, or scrypt that mixes more than `max_bytes` bytes,
+ * which are 128 r p 2^ln: 16 MiB for ln = 14, r = 8, p = 1. Every other text is answered as by pwcheck_check. */
+PWCHECK_MUST_USE PWCHECK_NONNULL
+int32_t pwcheck_check_limited(const uint8_t *password, size_t password_len, const uint8_t *stored, size_t stored_len,
+                              uint32_t max_rounds, uint64_t max_bytes);
+
+/* The most that a valid stored text may ask for, scheme by scheme (from version 1.1 on). A number that no text reaches
+ * bounds nothing: begin with PWCHECK_LIMITS_NONE. */
+struct pwcheck_limits {
+    uint32_t sha_rounds;            /* rounds of SHA-crypt, 1,000 to 999,999,999 */
+    uint32_t bcrypt_cost;           /* cost of bcrypt, 4 to 31: 2^cost turns */
+    uint32_t yescrypt_ln;           /* yescrypt: the binary logarithm of N, 2 to 23; the table takes 128 r N bytes */
+    uint32_t yescrypt_r;
+    uint32_t yescrypt_t;            /* 0 to 1,024: so many turns more than the default */
+    uint32_t pbkdf2_rounds;         /* i of PBKDF2, 1 to 10,000,000 */
+    uint32_t scrypt_ln;             /* scrypt, of a record or of a text $7$: the table takes 128 r 2^ln bytes */
+    uint32_t scrypt_r;
+    uint32_t scrypt_p;
+    uint32_t argon2_memory;         /* m of Argon2, in KiB, 8 to 2,097,152 */
+    uint32_t argon2_passes;         /* t */
+    uint32_t argon2_lanes;          /* p */
+};
+#define PWCHECK_LIMITS_NONE                                                                                       \
+    {UINT32_MAX, UINT32_MAX, UINT32_MAX, UINT32_MAX, UINT32_MAX, UINT32_MAX, UINT32_MAX, UINT32_MAX, UINT32_MAX, \
+     UINT32_MAX, UINT32_MAX, UINT32_MAX}
+
+/* Checks a password against a stored text of every scheme: SHA-crypt ($5$, $6$), md5-crypt ($1$, $apr1$), bcrypt ($2a$,
+ * $2b$, $2y$), yescrypt ($y$), scrypt ($7$), or a PHC record of scrypt, PBKDF2 with SHA-256 or Argon2. A valid text that
+ * asks for more than a limit is answered by PWCHECK_OVER_COST, and nothing is hashed for it. Compare the answer with
+ * PWCHECK_MATCH, and with nothing less. From version 1.1 on. */
+PWCHECK_MUST_USE PWCHECK_NONNULL
+int32_t pwcheck_check_any(const uint8_t *password, size_t password_len, const uint8_t *stored, size_t stored_len,
+                          const struct pwcheck_limits *limits);
+
+/* Checks a password against a text of the one family alone. It takes an empty salt, and in a salt any characters but
+ * '$', which pwcheck_check answers by 7 and 8. Of the answers 0 to 2, 4 and 9 to 17. */
+PWCHECK_MUST_USE PWCHECK_NONNULL
+int32_t pwcheck_sha256_check(const uint8_t *password, size_t password_len, const uint8_t *stored, size_t stored_len);
+PWCHECK_MUST_USE PWCHECK_NONNULL
+int32_t pwcheck_sha512_check(const uint8_t *password, size_t password_len, const uint8_t *stored, size_t stored_len);
+
+/* Writes the word of an answer and a zero where `out_len` is greater than the word's length, else nothing; gives the
+ * word's length, or 0 for a number that is no answer's (then nothing is written). Words have at most 17 bytes. */
+PWCHECK_NONNULL
+size_t pwcheck_word(int32_t number, uint8_t *out, size_t out_len);
+
+/* Writes the version of the library, as "1.1", and a zero where `out_len` is greater than its length, else nothing;
+ * gives its length. */
+PWCHECK_NONNULL
+size_t pwcheck_version(uint8_t *out, size_t out_len);
+
+/* scrypt (RFC 7914) with N = 2^ln, for a key of 1 to 64 bytes. ln is at least 1 and below 16 r, r and p are at least
+ * 1, p is at most 1,024, r p at most 131,072, and 128 r 2^ln at most 2^28: so ln is at most 20, and at most 18 for r
+ * = 8. The password and the salt have less than 2^30 bytes. */
+PWCHECK_MUST_USE PWCHECK_NONNULL
+int32_t pwcheck_scrypt(const uint8_t *password, size_t password_len, const uint8_t *salt, size_t salt_len,
+                       uint32_t ln, uint32_t r, uint32_t p, uint8_t *out, size_t out_len);
+
+/* The whole text `$scrypt$ln=L,r=R,p=P$salt$key` with a key of 32 bytes, without a zero behind it; `*len` is its
+ * length, and is written only with PWCHECK_DONE. The salt is 16 bytes, which the caller draws at random, the
+ * password UTF-8 of at most 4,096 bytes, the numbers are those of pwcheck_scrypt. pwcheck_check answers the text
+ * with PWCHECK_MATCH. */
+PWCHECK_MUST_USE PWCHECK_NONNULL
+int32_t pwcheck_scrypt_text(const uint8_t *password, size_t password_len, const uint8_t *salt, size_t salt_len,
+                            uint32_t ln, uint32_t r, uint32_t p, uint8_t *out, size_t out_len, size_t *len);
+
+/* The digest of SHA-256-crypt (out_len = 32) and of SHA-512-crypt (out_len = 64), before it is written as a hash
+ * field. The first 16 bytes of the salt count. The rounds are 1,000 to 999,999,999, the password has at most 4,096
+ * bytes. */
+PWCHECK_MUST_USE PWCHECK_NONNULL
+int32_t pwcheck_sha256_crypt(const uint8_t *password, size_t password_len, const uint8_t *salt, size_t salt_len,
+                             uint32_t rounds, uint8_t *out, size_t out_len);
+PWCHECK_MUST_USE PWCHECK_NONNULL
+int32_t pwcheck_sha512_crypt(const uint8_t *password, size_t password_len, const uint8_t *salt, size_t salt_len,
+                             uint32_t rounds, uint8_t *out, size_t out_len);
+
+/* The hash field of that digest (out_len = 43 and 86), without a zero behind it. */
+PWCHECK_MUST_USE PWCHECK_NONNULL
+int32_t pwcheck_sha256_crypt_b64(const uint8_t *password, size_t password_len, const uint8_t *salt, size_t salt_len,
+                                 uint32_t rounds, uint8_t *out, size_t out_len);
+PWCHECK_MUST_USE PWCHECK_NONNULL
+int32_t pwcheck_sha512_crypt_b64(const uint8_t *password, size_t password_len, const uint8_t *salt, size_t salt_len,
+                                 uint32_t rounds, uint8_t *out, size_t out_len);
+
+/* The whole text, `$5$[rounds=N$]salt$hash` and the same with 6, without a zero behind it; `*len` is its length, and
+ * is written only with PWCHECK_DONE. The salt has 1 to 16 characters of [./0-9A-Za-z] (this library's own choice),
+ * which the caller draws at random; the password is UTF-8 of at most 4,096 bytes. `rounds=N$` stands there for other
+ * rounds than 5,000. The check of the family and pwcheck_check answer the text with PWCHECK_MATCH. */
+PWCHECK_MUST_USE PWCHECK_NONNULL
+int32_t pwcheck_sha256_crypt_text(const uint8_t *password, size_t password_len, const uint8_t *salt, size_t salt_len,
+                                  uint32_t rounds, uint8_t *out, size_t out_len, size_t *len);
+PWCHECK_MUST_USE PWCHECK_NONNULL
+int32_t pwcheck_sha512_crypt_text(const uint8_t *password, size_t password_len, const uint8_t *salt, size_t salt_len,
+                                  uint32_t rounds, uint8_t *out, size_t out_len, size_t *len);
+
+/* How many characters encode n bytes, with their padding; 0 for more than SIZE_MAX / 4 bytes and for another
+ * alphabet. */
+PWCHECK_MUST_USE
+size_t pwcheck_base64_encoded_len(uint32_t alphabet, size_t n);
+
+/* How many bytes a text stands for without its padding, which is the room that decoding it wants; 0 for another
+ * alphabet. It says nothing of whether the text is an encoding. */
+PWCHECK_MUST_USE PWCHECK_NONNULL
+size_t pwcheck_base64_decoded_len(uint32_t alphabet, const uint8_t *src, size_t src_len);
+
+/* Decodes the text to the front of `dst` and sets `*len` to the number of bytes. Strict: a text is decoded exactly
+ * where it is the one encoding of some bytes. After PWCHECK_NOT_BASE64 the first bytes of `dst`, as many as the text
+ * stands for, are unspecified. `*len` is written only with PWCHECK_DONE. Another alphabet is PWCHECK_OUT_OF_RANGE. */
+PWCHECK_MUST_USE PWCHECK_NONNULL
+int32_t pwcheck_base64_decode(uint32_t alphabet, const uint8_t *src, size_t src_len, uint8_t *dst, size_t dst_len,
+                              size_t *len);
+
+/* Encodes to the front of `dst`, without a zero behind it, and sets `*len`, with PWCHECK_DONE alone, to the number of
+ * characters. More than SIZE_MAX / 4 bytes are PWCHECK_NO_ROOM too, another alphabet is PWCHECK_OUT_OF_RANGE. */
+PWCHECK_MUST_USE PWCHECK_NONNULL
+int32_t pwcheck_base64_encode(uint32_t alphabet, const uint8_t *src, size_t src_len, uint8_t *dst, size_t dst_len,
+                              size_t *len);
+
+/* Whether two lists of bytes are the same, by steps that depend on their lengths alone. */
+PWCHECK_MUST_USE PWCHECK_NONNULL
+bool pwcheck_same_bytes(const uint8_t *a, size_t a_len, const uint8_t *b, size_t b_len);
+
+#ifdef __cplusplus
+}
+#endif
+
+#endif
