@@ -123,7 +123,7 @@ def compare_any(pwcheck):
         need(pwcheck.check_any(b"Secret", text) == answer.MISMATCH, f"no mismatch for {text}")
         if limits:
             need(pwcheck.check_any(b"secret", text, pwcheck.Limits(**limits)) == answer.OVER_COST, f"no bound for {text}")
-    for text, word in [(b"*", "no-scheme"), (b"$1$abcdefgh", "md5-format"), (b"$2b$03$x", "bcrypt-format"),
+    for text, word in [(b"*", "no-scheme"), (b"$1$abcdefgh", "md5-format"), (b"$2b$03$x", "bcrypt-cost"), (b"$2b$04$x", "bcrypt-format"),
                        (b"$y$j75$0123456789ab", "yescrypt-format"), (b"$5$a", "sha-format"), (b"\xff", "not-utf8")]:
         need(pwcheck.word(pwcheck.check_any(b"secret", text)) == word, f"another word than {word} for {text}")
 
@@ -306,7 +306,7 @@ def compare_python(lib):
     need(pwcheck.same(b"abc", b"abc") and not pwcheck.same(b"abc", b"abd") and not pwcheck.same(b"abc", b"ab"), "same")
     for number in (-1, max(pwcheck.Answer) + 1, 1 << 30, 1 << 32, -1 << 31):
         refused(pwcheck.word, number)
-    need(len({pwcheck.word(answer) for answer in pwcheck.Answer}) == 25, "not the words of the header")
+    need(len({pwcheck.word(answer) for answer in pwcheck.Answer}) == 37, "not the words of the header")
     print("Python: scrypt, Base64 and SHA-crypt as its own library has them")
     compare_memory(pwcheck)
     print("Python: want of memory is told")

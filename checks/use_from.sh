@@ -59,7 +59,7 @@ run_sh() { # FILE
 try() { # LANGUAGE SED-COMMAND THAT CHANGES IT
   local answer
   block "$1" >"$work/$1"
-  answer=$("run_$1" "$work/$1") || fail "$1: it ends with $?"
+  answer=$("run_$1" "$work/$1" 2>"$work/log") || fail "$1: it ends with $?: $(tail -n 1 "$work/log")"
   [ "$answer" = match ] || fail "$1: it prints $answer"
   sed "$2" "$work/$1" >"$work/changed"
   cmp -s "$work/$1" "$work/changed" && fail "$1: nothing is there to be changed"
