@@ -13,7 +13,6 @@ It needs the library and Debian's python3-passlib and libargon2:
 """
 import os
 import random
-import secrets
 import sys
 
 from made_any import FAULTS, LETTERS, SCHEMES, costs, fault, named, salt_of
@@ -47,7 +46,7 @@ def try_text(scheme, rng):
     front, taken = SCHEMES[scheme]
     password = "".join(rng.choice(LETTERS) for _ in range(rng.randint(0, 18)))
     options = costs(scheme, rng)
-    numbers, salt, data = numbers_of(options), secrets.token_bytes(12 if scheme.startswith("sha") else 16), password.encode()
+    numbers, salt, data = numbers_of(options), os.urandom(12 if scheme.startswith("sha") else 16), password.encode()
     text = pwcheck.make(scheme, data, salt, **numbers)
     told = text.decode()
     if not told.startswith(front) or not named(scheme, options, told) or len(text) > pwcheck.TEXT_MAX:
