@@ -8,14 +8,12 @@ A fact is a number, where it comes from, and the sentences that state it: patter
 macros of manual pages, comment marks and line ends count as blanks. A fact without a source is stated by pages alone: these have to agree.
 """
 import csv
-import glob
 import os
 import re
 import sys
 
-TOP = os.path.dirname(os.path.dirname(os.path.abspath(__file__)))
-PAGES = (["README.md", "CONTRIBUTING.md", "SECURITY.md", "CHANGELOG.md"]
-         + sorted(glob.glob("docs/*.md", root_dir=TOP)) + sorted(glob.glob("man/*", root_dir=TOP)) + sorted(glob.glob("include/*.h", root_dir=TOP)))
+from page_texts import TOP, page_texts
+
 CLI = "crates/pwtool/src/cli.rt"
 BOUNDS = "crates/pwtool/src/bounds.rt"
 
@@ -139,10 +137,7 @@ def unseen(fact, pages, stated):
 
 
 def main():
-    pages = {}
-    for page in PAGES:
-        with open(os.path.join(TOP, page), encoding="utf-8") as file:
-            pages[page] = plain(page, file.read())
+    pages = {page: plain(page, text) for page, text in page_texts().items()}
     faults, count = list(speeds(pages)), 0
     for fact in FACTS:
         found, stated = faults_of(fact, pages)
