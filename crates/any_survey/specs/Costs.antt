@@ -1,5 +1,5 @@
 -- What a stored text is, and what it asks for.
-use Rattle.std.specs.Prelude.{ℕ, Bool, List, length, Option, Some, None, Result, Ok, Err, is_ok, unwrap_or, if◌then◌else◌, codes}
+use Rattle.std.specs.Prelude.{ℕ, List, length, Option, Some, None, Result, Ok, Err, is_ok, unwrap_or, if◌then◌else◌, codes}
 use Rattle.mcf.specs.Grammar.{mcf}
 use Rattle.phc.specs.Record.{phc_text}
 use Rattle.phc.specs.declared.error.Error as phc_error
