@@ -6,7 +6,8 @@ version where it stands.
     bindings/numbers.py swaps        swaps each two numbers of the header in turn, and finds each such header refused
 
 An enumerator's number is the place of its answer in the table `answers` of pwcheck_c/specs/Numbers, its status in
-specs/Statuses, or the place of its alphabet in specs/Coder; a #define is a length that the definitions give. Each name
+specs/Statuses, or the place of its alphabet in specs/Coder; a #define is a length that the definitions give, or a cost that
+any_make recommends. Each name
 of the header has to be known here, and each answer, status and alphabet there has to have a name. It ends with 1 where
 two differ.
 """
@@ -131,6 +132,34 @@ def digits_in_bounds():
     return most
 
 
+# The names of the header for the costs that any_make recommends: the call that makes the text, and its number.
+RECOMMENDED = {"(ShaCrypt Sha256)": "SHA256_CRYPT_ROUNDS", "(ShaCrypt Sha512)": "SHA512_CRYPT_ROUNDS", "Bcrypt": "BCRYPT_COST",
+               "Pbkdf2Sha256": "PBKDF2_SHA256_ROUNDS", "Scrypt": "SCRYPT_", "Yescrypt": "YESCRYPT_", "Argon2id": "ARGON2ID_"}
+
+
+def recommended():
+    """What a new text should cost, number by number."""
+    text, found = specs("any_make", "Costs"), {}
+    rows = re.findall(r"^recommended (\(\w+ \w+\)|\w+) = cost\.(.*)$", text, re.M)
+    need(sorted(scheme for scheme, _ in rows) == sorted(RECOMMENDED), "other schemes have a recommended cost")
+    for scheme, cost in rows:
+        name = "RECOMMENDED_" + RECOMMENDED[scheme]
+        if name.endswith("_"):
+            found.update((name + number.upper(), int(n)) for number, n in re.findall(r"(\w+) = ([0-9]+)", cost))
+        else:
+            found[name] = int(cost.split()[-1])
+    return found
+
+
+def longest_text(table):
+    """The most characters of a text of any scheme, each number as long as its bound, if not as all bounds together."""
+    salt, key = encoded(16), encoded(32)
+    return max(table["SHA512_TEXT_MAX"], table["SCRYPT_TEXT_MAX"], len("$2b$04$") + encoded(16) + encoded(23),
+               len("$y$j") + 4 * 6 + len("$$") + salt + key,
+               len("$argon2id$v=19$m=,t=,p=$$") + len(f"{1 << 21}{1 << 21}{1 << 18}") + salt + key,
+               len("$pbkdf2-sha256$i=10000000,l=32$$") + salt + key)
+
+
 def lengths():
     sha, stored, table = specs("sha_crypt", "Limits"), specs("stored_check", "Limits"), {}
     salt, rounds = number(sha, "salt_max_len"), len(f"rounds={number(sha, 'rounds_max')}$")
@@ -144,6 +173,12 @@ def lengths():
     table["SCRYPT_SALT_SIZE"] = int(re.search(r"\(length salt == ([0-9]+)\)", inputs).group(1))
     table["SCRYPT_TEXT_MAX"] = (len("$scrypt$ln=,r=,p=$$") + digits_in_bounds() + encoded(table["SCRYPT_SALT_SIZE"])
                                 + encoded(32))
+    costs = specs("any_make", "Costs")
+    sizes = set(re.findall(r"^salt_length (?!\(ShaCrypt)\w+ = ([0-9]+)$", costs, re.M))
+    need(len(sizes) == 1, f"the salts have {sizes} bytes")
+    table["SALT_SIZE"] = int(sizes.pop())
+    table["TEXT_MAX"] = longest_text(table)
+    table["BCRYPT_PASSWORD_MAX"] = number(costs, "password_length Bcrypt")
     table["PASSWORD_MAX"] = number(stored, "password_max")
     table["WORD_SIZE"] = longest_word() + 1
     return table
@@ -189,7 +224,7 @@ def limits_agree(header):
 
 
 def wanted_numbers():
-    return {**places(ANSWERS, entries(specs("pwcheck_c", "Numbers"), "answers")), **statuses(), **lengths(),
+    return {**places(ANSWERS, entries(specs("pwcheck_c", "Numbers"), "answers")), **statuses(), **lengths(), **recommended(),
             **places(ALPHABETS, entries(specs("pwcheck_c", "Coder"), "alphabets")), **versions()}
 
 
@@ -204,7 +239,7 @@ def python_numbers():
 
 def rust_numbers():
     """The numbers of the Rust binding, by the same names: answers by their places, alphabets and lengths as written."""
-    text = read("bindings", "rust", "src", "lib.rs")
+    text = read("bindings", "rust", "src", "lib.rs") + read("bindings", "rust", "src", "texts.rs")
     table = re.search(r"^pub const ANSWERS: .* = \[\n(.*?)^\];$", text, re.M | re.S).group(1)
 
     def upper(name):
@@ -215,7 +250,10 @@ def rust_numbers():
     found = {upper(name): place for place, name in enumerate(re.findall(r"Answer::([A-Za-z0-9]+),", table))}
     found.update((upper(name), int(n)) for name, n in re.findall(r"^    (Base64\w*) = ([0-9]+),$", text, re.M))
     found.update((upper(name), int(n)) for n, name in re.findall(r"^ +(-[0-9]) => Err\(Error::(\w+)\),$", text, re.M))
-    found.update((name, int(n)) for name, n in re.findall(r"^const ([A-Z0-9_]+): usize = ([0-9]+);$", text, re.M))
+    found.update((name, int(n)) for name, n in re.findall(r"^(?:pub )?const ([A-Z0-9_]+): usize = ([0-9]+);$", text, re.M))
+    for name, numbers in re.findall(r"^    pub const ([A-Z0-9_]+): Scheme = Scheme::.*\{ (.*?) \}\)?;$", text, re.M):
+        found.update((f"RECOMMENDED_{name}_{number.upper()}", int(n.replace("_", "")))
+                     for number, n in re.findall(r"(\w+): ([0-9_]+)", numbers))
     return found
 
 

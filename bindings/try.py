@@ -6,9 +6,9 @@
 What is missing is built by `rt lib` and `rt run`. The library is laid out (bindings/library.py) in a new folder, or in
 the one that is named. Each line of examples/passwords.txt and of the lines below is answered by `pwcheck check`, by the
 C caller (static and shared, by pkg-config), by Python and by Rust, and the words have to be the same. What Python's own
-library knows, scrypt, Base64 and texts by `crypt`, is compared too; what is refused has to be refused, and leave `out`
-as it was; scrypt under too little memory has to be answered by want of memory. What this machine lacks is said and left
-out.
+library knows, scrypt, Base64 and texts by `crypt`, is compared too, and texts that others made of every other scheme; what is
+refused has to be refused, and leave `out` as it was; a key under too little memory has to be answered by want of memory. What this
+machine lacks is said and left out.
 """
 import base64
 import ctypes
@@ -59,7 +59,7 @@ def callers(folder, lib):
                        {"LIBPWCHECK": os.path.join(lib, "libpwcheck.so")})
     if shutil.which("cargo"):
         crate, target = os.path.join(HERE, "rust"), os.path.join(folder, "target")
-        for work in (["test", "--quiet"], ["build", "--quiet", "--release"]):
+        for work in (["test", "--quiet"], ["check", "--quiet", "--lib", "--no-default-features"], ["build", "--quiet", "--release"]):
             run("cargo", *work, "--offline", "--target-dir", target, cwd=crate, stdout=subprocess.DEVNULL,
                 env={**os.environ, "PWCHECK_LIB": os.path.abspath(lib)})
         found["Rust"] = ([os.path.join(target, "release", "check_lines")], {})
@@ -128,12 +128,45 @@ def compare_any(pwcheck):
         need(pwcheck.word(pwcheck.check_any(b"secret", text)) == word, f"another word than {word} for {text}")
 
 
-def refused(call, *arguments):
+def refused(call, *arguments, **more):
     try:
-        call(*arguments)
+        call(*arguments, **more)
     except ValueError:
         return
-    sys.exit(f"try: {call.__name__} took {arguments}")
+    sys.exit(f"try: {call.__name__} took {arguments} {more}")
+
+
+# Texts of the password "correct horse" and the salt "0123456789abcdef", by libxcrypt (crypt_gensalt and crypt), Python's hashlib and the
+# program argon2, and the numbers that each is made of.
+MADE = {
+    "bcrypt": ({"cost": 4}, b"$2b$04$KBCwKxOzLha2MUDgW0PjXexGfB5dmDvvvgEVjeeXiTo87i0yXWYau"),
+    "yescrypt": ({"ln": 10, "r": 8, "t": 0}, b"$y$j75$k2XAnEHBqQ1Ct2aMXFKNa/$E9XAySfP6N2THWdzNKesSVmhpcmhNusa8y5TMfT668."),
+    "argon2id": ({"memory": 64, "passes": 2, "lanes": 2},
+                 b"$argon2id$v=19$m=64,t=2,p=2$MDEyMzQ1Njc4OWFiY2RlZg$ehqGRlXhNY90u1mXokuaGpor9OaG4WSZVb4jCfev4ys"),
+    "pbkdf2-sha256": ({"rounds": 1000},
+                      b"$pbkdf2-sha256$i=1000,l=32$MDEyMzQ1Njc4OWFiY2RlZg$cBg8D2DungRB9k76szThf5ehfyBz991ay6PT8Srwk4M"),
+}
+
+
+def compare_made(pwcheck):
+    """Texts of each scheme, beside those of others; and what is refused, by its status. bench/made_c.py makes more of them."""
+    for scheme, (numbers, text) in MADE.items():
+        need(pwcheck.make(scheme, b"correct horse", b"0123456789abcdef", **numbers) == text, f"another text of {scheme}")
+        for name, number in numbers.items():
+            refused(pwcheck.make, scheme, b"a", **{**numbers, name: (1 << 32) + number})
+            refused(pwcheck.make, scheme, b"a", **{**numbers, name: -1})
+        for password, status in [(b"a" * 4097, "REFUSED_LENGTH"), (b"\xff", "REFUSED_UTF8"), (b"a\0", "REFUSED_ZERO")]:
+            try:
+                made = pwcheck.make(scheme, password, **numbers)
+                need(status == "REFUSED_ZERO" and scheme in ("argon2id", "pbkdf2-sha256"), f"{scheme} took {password[:9]}")
+                need(pwcheck.check_any(password, made) == pwcheck.Answer.MATCH, f"no match of {scheme} with a zero byte")
+            except pwcheck.PasswordRefused as why:
+                need(why.status.name == status, f"{scheme} refuses {password[:9]} by {why.status!r}")
+    need(pwcheck.make("scrypt", b"a", bytes(16), ln=4, r=8, p=1) == pwcheck.scrypt_text(b"a", bytes(16), 4, 8, 1), "another text of scrypt")
+    need(pwcheck.make("sha512-crypt", b"a", b"\xff" * 12, rounds=1000) == pwcheck.sha_text(512, b"a", b"z" * 16, 1000), "another salt")
+    need(len({pwcheck.make("pbkdf2-sha256", b"a", rounds=1) for _ in range(100)}) == 100, "a salt is drawn twice")
+    refused(pwcheck.make, "md5-crypt", b"a")
+    refused(pwcheck.make, "scrypt", b"a", bytes(15))
 
 
 def compare_scrypt(pwcheck):
@@ -245,10 +278,14 @@ def compare_memory(pwcheck):
     answers = [pwcheck.check(b"password", big), pwcheck.check_limited(b"password", big, 0, 1 << 40)]
     statuses = [pwcheck._scrypt(b"password", 8, b"salt", 4, 16, 8, 1, ctypes.cast(out, ctypes.c_char_p), 64),
                 call.pwcheck_scrypt_text(b"password", 8, bytes(16), 16, 16, 8, 1, ctypes.cast(out, ctypes.c_char_p), 96,
-                                         ctypes.byref(n))]
+                                         ctypes.byref(n)),
+                call.pwcheck_yescrypt_text(b"password", 8, bytes(16), 16, 14, 32, 0, ctypes.cast(out, ctypes.c_char_p), 96,
+                                           ctypes.byref(n)),
+                call.pwcheck_argon2id_text(b"password", 8, bytes(16), 16, 65536, 1, 1, ctypes.cast(out, ctypes.c_char_p), 96,
+                                           ctypes.byref(n))]
     resource.setrlimit(resource.RLIMIT_AS, (soft, hard))
     need([pwcheck.word(answer) for answer in answers] == ["no-memory"] * 2, "want of memory isn't told")
-    need(statuses == [-2, -2], "want of memory isn't told")
+    need(statuses == [-2] * 4, "want of memory isn't told")
     need(bytes(out) == bytes(range(96)) and n.value == 77, "want of memory leaves something in `out`")
     need(pwcheck.check_limited(b"password", big, 0, 1) == pwcheck.Answer.OVER_COST, "a bound on bytes isn't kept")
 
@@ -264,9 +301,10 @@ def compare_python(lib):
     compare_scrypt_texts(pwcheck)
     compare_limits(pwcheck)
     compare_any(pwcheck)
+    compare_made(pwcheck)
     need(pwcheck.version() == pwcheck.VERSION == version(), "another version")
     need(pwcheck.same(b"abc", b"abc") and not pwcheck.same(b"abc", b"abd") and not pwcheck.same(b"abc", b"ab"), "same")
-    for number in (-1, 31, 1 << 30, 1 << 32, -1 << 31):
+    for number in (-1, max(pwcheck.Answer) + 1, 1 << 30, 1 << 32, -1 << 31):
         refused(pwcheck.word, number)
     need(len({pwcheck.word(answer) for answer in pwcheck.Answer}) == 25, "not the words of the header")
     print("Python: scrypt, Base64 and SHA-crypt as its own library has them")

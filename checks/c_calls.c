@@ -184,6 +184,120 @@ static void make_scrypt(const uint8_t *password, size_t n, int is_text)
     give_back(salt, 16);
 }
 
+/* The makers of the other schemes, by their numbers, which are cheap here. */
+typedef int32_t maker(const uint8_t *, size_t, const uint8_t *, size_t, uint8_t *, size_t, size_t *);
+
+static int32_t bcrypt(const uint8_t *p, size_t n, const uint8_t *s, size_t m, uint8_t *out, size_t room, size_t *len)
+{
+    return pwcheck_bcrypt_text(p, n, s, m, 4, out, room, len);
+}
+
+static int32_t yescrypt(const uint8_t *p, size_t n, const uint8_t *s, size_t m, uint8_t *out, size_t room, size_t *len)
+{
+    return pwcheck_yescrypt_text(p, n, s, m, 2, 1, 0, out, room, len);
+}
+
+static int32_t argon2id(const uint8_t *p, size_t n, const uint8_t *s, size_t m, uint8_t *out, size_t room, size_t *len)
+{
+    return pwcheck_argon2id_text(p, n, s, m, 8, 1, 1, out, room, len);
+}
+
+static int32_t pbkdf2(const uint8_t *p, size_t n, const uint8_t *s, size_t m, uint8_t *out, size_t room, size_t *len)
+{
+    return pwcheck_pbkdf2_sha256_text(p, n, s, m, 1, out, room, len);
+}
+
+static const struct maker_row {
+    maker *make;
+    const char *front;
+    size_t longest;     /* the most bytes of a password */
+    int takes_zero;
+} MAKERS[] = {
+    {bcrypt, "$2b$04$", PWCHECK_BCRYPT_PASSWORD_MAX, 0},
+    {yescrypt, "$y$j/.$", PWCHECK_PASSWORD_MAX, 0},
+    {argon2id, "$argon2id$v=19$m=8,t=1,p=1$", PWCHECK_PASSWORD_MAX, 1},
+    {pbkdf2, "$pbkdf2-sha256$i=1,l=32$", PWCHECK_PASSWORD_MAX, 1},
+};
+
+/* What a maker answers a password: too long first, then UTF-8, then a zero byte. */
+static int make_wanted(const struct maker_row *row, const uint8_t *password, size_t n, int is_text)
+{
+    if (n > row->longest) return PWCHECK_REFUSED_LENGTH;
+    if (!is_text) return PWCHECK_REFUSED_UTF8;
+    if (!row->takes_zero && n && memchr(password, 0, n)) return PWCHECK_REFUSED_ZERO;
+    return PWCHECK_DONE;
+}
+
+static int untouched(const uint8_t *out, size_t n, size_t len)
+{
+    for (size_t i = 0; i < n; i++)
+        if (out[i] != 'x') return 0;
+    return len == 77;
+}
+
+static void make_by(const struct maker_row *row, const uint8_t *password, size_t n, int is_text)
+{
+    int wanted_status = make_wanted(row, password, n, is_text);
+    uint8_t *salt = copy("\0\1\2\3\4\5\6\7\x80\xff\x81\xfe\n\r\t ", 16), *out = room(PWCHECK_TEXT_MAX);
+    size_t len = 77;
+    memset(out, 'x', PWCHECK_TEXT_MAX);
+    NEED(row->make(password, n, salt, 15, out, PWCHECK_TEXT_MAX, &len) == PWCHECK_OUT_OF_RANGE);
+    NEED(untouched(out, PWCHECK_TEXT_MAX, len));
+    NEED(row->make(password, n, salt, 16, out, PWCHECK_TEXT_MAX, &len) == wanted_status);
+    if (wanted_status == PWCHECK_DONE) {
+        struct pwcheck_limits limits = PWCHECK_LIMITS_NONE;
+        uint8_t *tight = room(len), *short_of = room(len - 1);
+        size_t again = 77;
+        memset(short_of, 'x', len - 1);
+        NEED(len > strlen(row->front) && !memcmp(out, row->front, strlen(row->front)));
+        NEED(row->make(password, n, salt, 16, short_of, len - 1, &again) == PWCHECK_NO_ROOM);
+        NEED(untouched(short_of, len - 1, again));
+        NEED(row->make(password, n, salt, 16, tight, len, &again) == PWCHECK_DONE && again == len);
+        NEED(!memcmp(tight, out, len));
+        NEED(pwcheck_check_any(password, n, tight, len, &limits) == PWCHECK_MATCH);
+        give_back(tight, len);
+        give_back(short_of, len - 1);
+    } else {
+        NEED(untouched(out, PWCHECK_TEXT_MAX, len));
+    }
+    give_back(out, PWCHECK_TEXT_MAX);
+    give_back(salt, 16);
+}
+
+static void make_every(const uint8_t *password, size_t n, int is_text)
+{
+    for (size_t i = 0; i < sizeof MAKERS / sizeof *MAKERS; i++) make_by(&MAKERS[i], password, n, is_text);
+}
+
+/* Numbers that no text is made of, each beside others that are taken. */
+static void make_refused(void)
+{
+    uint8_t *salt = room(16), *out = room(PWCHECK_TEXT_MAX), *p = copy("secret", 6);
+    size_t len = 77, most = PWCHECK_TEXT_MAX;
+    memset(out, 'x', most);
+    memset(salt, 's', 16);
+    for (uint32_t cost = 0; cost < 4; cost++)
+        NEED(pwcheck_bcrypt_text(p, 6, salt, 16, cost, out, most, &len) == PWCHECK_OUT_OF_RANGE);
+    NEED(pwcheck_bcrypt_text(p, 6, salt, 16, 32, out, most, &len) == PWCHECK_OUT_OF_RANGE);
+    NEED(pwcheck_bcrypt_text(p, 6, salt, 16, UINT32_MAX, out, most, &len) == PWCHECK_OUT_OF_RANGE);
+    NEED(pwcheck_yescrypt_text(p, 6, salt, 16, 1, 8, 0, out, most, &len) == PWCHECK_OUT_OF_RANGE);
+    NEED(pwcheck_yescrypt_text(p, 6, salt, 16, 8, 0, 0, out, most, &len) == PWCHECK_OUT_OF_RANGE);
+    NEED(pwcheck_yescrypt_text(p, 6, salt, 16, 8, 8, 1025, out, most, &len) == PWCHECK_OUT_OF_RANGE);
+    NEED(pwcheck_yescrypt_text(p, 6, salt, 16, 24, 1, 0, out, most, &len) == PWCHECK_OUT_OF_RANGE);
+    NEED(pwcheck_yescrypt_text(p, 6, salt, 16, 2, 1 << 19, 0, out, most, &len) == PWCHECK_OUT_OF_RANGE);
+    NEED(pwcheck_argon2id_text(p, 6, salt, 16, 7, 1, 1, out, most, &len) == PWCHECK_OUT_OF_RANGE);
+    NEED(pwcheck_argon2id_text(p, 6, salt, 16, (1 << 21) + 1, 1, 1, out, most, &len) == PWCHECK_OUT_OF_RANGE);
+    NEED(pwcheck_argon2id_text(p, 6, salt, 16, 8, 0, 1, out, most, &len) == PWCHECK_OUT_OF_RANGE);
+    NEED(pwcheck_argon2id_text(p, 6, salt, 16, 8, 1, 0, out, most, &len) == PWCHECK_OUT_OF_RANGE);
+    NEED(pwcheck_argon2id_text(p, 6, salt, 16, 8, (1 << 21) + 1, 1, out, most, &len) == PWCHECK_OUT_OF_RANGE);
+    NEED(pwcheck_pbkdf2_sha256_text(p, 6, salt, 16, 0, out, most, &len) == PWCHECK_OUT_OF_RANGE);
+    NEED(pwcheck_pbkdf2_sha256_text(p, 6, salt, 16, 10000001, out, most, &len) == PWCHECK_OUT_OF_RANGE);
+    NEED(untouched(out, most, len));
+    give_back(out, most);
+    give_back(salt, 16);
+    give_back(p, 6);
+}
+
 /* Digests and fields, which take passwords of any bytes. */
 static void digests(const uint8_t *password, size_t n)
 {
@@ -251,6 +365,7 @@ int main(void)
 {
     words();
     check_every_scheme();
+    make_refused();
     for (size_t n = 0; n <= 5000; n++)
         for (int is_text = NO_TEXT; is_text <= TEXT; is_text++) {
             uint8_t *password = room(n);
@@ -261,6 +376,7 @@ int main(void)
             check_all(password, n, text, all);
             if (all || !text || n > PWCHECK_PASSWORD_MAX) make_sha(password, n, text);
             make_scrypt(password, n, text);
+            if (all || n > PWCHECK_PASSWORD_MAX) make_every(password, n, text);
             if (all || n > PWCHECK_PASSWORD_MAX) digests(password, n);
             if (n <= 300 || n % 97 == 0) coder(password, n);
             keys(password, n);

@@ -3,7 +3,7 @@
 #
 #     checks/run.sh quick    the numbers of the header and of the bindings, and what the pages name, and the pictures, in a second, without
 #                            any build: for each push
-#     checks/run.sh          that, and the C library, its callers, a run under sanitizers, the installation
+#     checks/run.sh          that, and the C library, its callers, a run under sanitizers, the installation, the programs of README.md
 #
 # The second needs gcc, binutils and pkg-config, and builds the library and the programs by rt, which proves what no
 # check in this clone has proved. It is for releases and for changes of pwcheck_c, bindings, include or install.sh.
@@ -37,4 +37,5 @@ if [ -e /usr/include/crypt.h ]; then
 fi
 # The programs are built once; the prefixes take what is built.
 ./install.sh "$work/first" >&2
+checks/use_from.sh "$work/first"
 PWCHECK_AS_BUILT=1 checks/prefixes.sh "$work/prefixes"

@@ -1,16 +1,21 @@
 """The exports of libpwcheck.so by ctypes. The file is named by LIBPWCHECK, or found as the loader finds libraries.
 
 Each check returns an `Answer`, of which `MATCH` alone is leave to enter: compare with it, since `MATCH` is 0 and false.
-A number or a length that is out of range raises ValueError, want of memory in `scrypt` and `scrypt_text` MemoryError.
+A number or a length that is out of range raises ValueError, want of memory for a key MemoryError.
 Passwords, stored texts and salts are bytes, of which the library keeps none.
+
+    stored = pwcheck.make("argon2id", b"correct horse")
+    if pwcheck.check_any(b"correct horse", stored, pwcheck.Limits(argon2_memory=65536)) == pwcheck.Answer.MATCH: ...
 """
 import ctypes as c
 import enum
 import os
-from typing import Any, Callable, Optional
+import secrets
+from typing import Any, Callable, Dict, Optional
 
-__all__ = ["Answer", "Alphabet", "Limits", "VERSION", "check", "check_any", "check_limited", "sha_check", "word", "version", "scrypt",
-           "scrypt_text", "sha_digest", "sha_field", "sha_text", "b64encode", "b64decode", "same"]
+__all__ = ["Answer", "Alphabet", "Limits", "PasswordRefused", "RECOMMENDED", "Status", "VERSION", "check", "check_any", "check_limited",
+           "make", "sha_check", "word", "version", "scrypt", "scrypt_text", "sha_digest", "sha_field", "sha_text", "b64encode",
+           "b64decode", "same"]
 
 
 class Answer(enum.IntEnum):
@@ -82,6 +87,18 @@ class Status(enum.IntEnum):
     NO_MEMORY = -2
     NO_ROOM = -3
     NOT_BASE64 = -4
+    REFUSED_LENGTH = -5
+    REFUSED_UTF8 = -6
+    REFUSED_ZERO = -7
+
+
+class PasswordRefused(ValueError):
+    """No text is made of a password; `status` says why, REFUSED_LENGTH, REFUSED_UTF8 or REFUSED_ZERO."""
+
+    def __init__(self, status: Status) -> None:
+        super().__init__({Status.REFUSED_LENGTH: "the password is too long", Status.REFUSED_UTF8: "the password isn't UTF-8",
+                          Status.REFUSED_ZERO: "the password has a zero byte"}[status])
+        self.status = status
 
 
 class Limits(c.Structure):
@@ -107,6 +124,12 @@ SHA256_DIGEST_SIZE, SHA512_DIGEST_SIZE = 32, 64
 SHA256_FIELD_SIZE, SHA512_FIELD_SIZE = 43, 86
 SHA256_TEXT_MAX, SHA512_TEXT_MAX, SCRYPT_TEXT_MAX = 80, 123, 93
 SCRYPT_SALT_SIZE, PASSWORD_MAX = 16, 4096
+TEXT_MAX, SALT_SIZE, BCRYPT_PASSWORD_MAX = 123, 16, 72
+RECOMMENDED_SHA256_CRYPT_ROUNDS, RECOMMENDED_SHA512_CRYPT_ROUNDS = 535000, 656000
+RECOMMENDED_SCRYPT_LN, RECOMMENDED_SCRYPT_R, RECOMMENDED_SCRYPT_P = 17, 8, 1
+RECOMMENDED_BCRYPT_COST, RECOMMENDED_PBKDF2_SHA256_ROUNDS = 12, 600000
+RECOMMENDED_YESCRYPT_LN, RECOMMENDED_YESCRYPT_R, RECOMMENDED_YESCRYPT_T = 12, 32, 0
+RECOMMENDED_ARGON2ID_MEMORY, RECOMMENDED_ARGON2ID_PASSES, RECOMMENDED_ARGON2ID_LANES = 65536, 3, 4
 VERSION_MAJOR, VERSION_MINOR = 1, 1
 VERSION = f"{VERSION_MAJOR}.{VERSION_MINOR}"
 
@@ -134,6 +157,12 @@ _checks = {bits: _export(f"sha{bits}_check", c.c_int32, *_bytes, *_bytes) for bi
 _digests = {bits: _export(f"sha{bits}_crypt", c.c_int32, *_sha) for bits in (256, 512)}
 _fields = {bits: _export(f"sha{bits}_crypt_b64", c.c_int32, *_sha) for bits in (256, 512)}
 _texts = {bits: _export(f"sha{bits}_crypt_text", c.c_int32, *_sha, _len) for bits in (256, 512)}
+_makers = {
+    "bcrypt": _export("bcrypt_text", c.c_int32, *_bytes, *_bytes, c.c_uint32, *_bytes, _len),
+    "yescrypt": _export("yescrypt_text", c.c_int32, *_bytes, *_bytes, *_cost, *_bytes, _len),
+    "argon2id": _export("argon2id_text", c.c_int32, *_bytes, *_bytes, *_cost, *_bytes, _len),
+    "pbkdf2-sha256": _export("pbkdf2_sha256_text", c.c_int32, *_bytes, *_bytes, c.c_uint32, *_bytes, _len),
+}
 _encoded_len = _export("base64_encoded_len", c.c_size_t, c.c_uint32, c.c_size_t)
 _decoded_len = _export("base64_decoded_len", c.c_size_t, c.c_uint32, *_bytes)
 _decode = _export("base64_decode", c.c_int32, c.c_uint32, *_bytes, *_bytes, _len)
@@ -143,6 +172,20 @@ _same = _export("same_bytes", c.c_bool, *_bytes, *_bytes)
 _DIGEST_SIZES = {256: SHA256_DIGEST_SIZE, 512: SHA512_DIGEST_SIZE}
 _FIELD_SIZES = {256: SHA256_FIELD_SIZE, 512: SHA512_FIELD_SIZE}
 _TEXT_MAX = {256: SHA256_TEXT_MAX, 512: SHA512_TEXT_MAX}
+
+# What a new text should cost, by the names of the schemes and of the numbers that `make` takes; `include/pwcheck.h` names the sources.
+RECOMMENDED: Dict[str, Dict[str, int]] = {
+    "argon2id": {"memory": RECOMMENDED_ARGON2ID_MEMORY, "passes": RECOMMENDED_ARGON2ID_PASSES, "lanes": RECOMMENDED_ARGON2ID_LANES},
+    "yescrypt": {"ln": RECOMMENDED_YESCRYPT_LN, "r": RECOMMENDED_YESCRYPT_R, "t": RECOMMENDED_YESCRYPT_T},
+    "bcrypt": {"cost": RECOMMENDED_BCRYPT_COST},
+    "scrypt": {"ln": RECOMMENDED_SCRYPT_LN, "r": RECOMMENDED_SCRYPT_R, "p": RECOMMENDED_SCRYPT_P},
+    "pbkdf2-sha256": {"rounds": RECOMMENDED_PBKDF2_SHA256_ROUNDS},
+    "sha512-crypt": {"rounds": RECOMMENDED_SHA512_CRYPT_ROUNDS},
+    "sha256-crypt": {"rounds": RECOMMENDED_SHA256_CRYPT_ROUNDS},
+}
+_SHA_BITS = {"sha256-crypt": 256, "sha512-crypt": 512}
+# SHA-crypt's 16 characters of a salt stand for so many bytes.
+_SHA_SALT_SIZE = 16 * 6 // 8
 
 
 def _natural(n: int, bits: int = 32) -> int:
@@ -162,7 +205,9 @@ def _of(calls: dict, bits: int) -> Any:
 def _done(number: int) -> None:
     status = Status(number)
     if status == Status.NO_MEMORY:
-        raise MemoryError("no memory for scrypt")
+        raise MemoryError("no memory for the key")
+    if status in (Status.REFUSED_LENGTH, Status.REFUSED_UTF8, Status.REFUSED_ZERO):
+        raise PasswordRefused(status)
     if status != Status.DONE:
         raise ValueError(status.name.lower().replace("_", " "))
 
@@ -249,6 +294,47 @@ def sha_text(bits: int, password: bytes, salt: bytes, rounds: int = 5000) -> byt
     """The text `$5$..` or `$6$..` of a password of at most 4,096 bytes of UTF-8, for a salt of 1 to 16 characters of
     [./0-9A-Za-z] that the caller draws, as by `secrets.choice`."""
     return _written(_of(_TEXT_MAX, bits), _texts[bits], password, len(password), salt, len(salt), _natural(rounds))
+
+
+def _fit(password: bytes, zero: bool) -> None:
+    """Refuses a password as the library's newer calls do, for SHA-crypt and scrypt, whose older ones say out of range."""
+    if len(password) > PASSWORD_MAX:
+        raise PasswordRefused(Status.REFUSED_LENGTH)
+    try:
+        password.decode()
+    except UnicodeDecodeError:
+        raise PasswordRefused(Status.REFUSED_UTF8) from None
+    if not zero and b"\0" in password:
+        raise PasswordRefused(Status.REFUSED_ZERO)
+
+
+def _made(scheme: str, password: bytes, salt: bytes, numbers: Dict[str, int]) -> bytes:
+    if scheme in _makers:
+        return _written(TEXT_MAX, _makers[scheme], password, len(password), salt, len(salt), *map(_natural, numbers.values()))
+    _fit(password, zero=scheme == "scrypt")
+    if scheme == "scrypt":
+        return scrypt_text(password, salt, **numbers)
+    return sha_text(_SHA_BITS[scheme], password, b64encode(Alphabet.BASE64_SHA_CRYPT, salt), **numbers)
+
+
+def make(scheme: str, password: bytes, salt: Optional[bytes] = None, **costs: int) -> bytes:
+    """The text to store of a password, which `check_any` answers with MATCH.
+
+    The scheme is one of `RECOMMENDED`, which says what the text costs where a number is left out: `make("bcrypt", password,
+    cost=13)`. The salt is drawn by `secrets` unless it is given: 16 bytes, for SHA-crypt 12. A password of more than 4,096 bytes
+    (bcrypt: 72), that isn't UTF-8, or has a zero byte (SHA-crypt, bcrypt, yescrypt) raises PasswordRefused.
+    """
+    if scheme not in RECOMMENDED:
+        raise ValueError(f"no texts of {scheme} are made")
+    numbers = {**RECOMMENDED[scheme], **costs}
+    if len(numbers) > len(RECOMMENDED[scheme]):
+        raise TypeError(f"{scheme} costs {', '.join(RECOMMENDED[scheme])}")
+    size = _SHA_SALT_SIZE if scheme in _SHA_BITS else SALT_SIZE
+    if salt is None:
+        salt = secrets.token_bytes(size)
+    if len(salt) != size:
+        raise ValueError("out of range")
+    return _made(scheme, password, salt, numbers)
 
 
 def b64encode(alphabet: int, data: bytes) -> bytes:

@@ -34,6 +34,18 @@ unsafe extern "C" {
     pub fn pwcheck_sha512_crypt_text(
         p: In, p_len: usize, s: In, s_len: usize, rounds: u32, out: Out, out_len: usize, len: Len,
     ) -> i32;
+    pub fn pwcheck_bcrypt_text(
+        p: In, p_len: usize, s: In, s_len: usize, cost: u32, out: Out, out_len: usize, len: Len,
+    ) -> i32;
+    pub fn pwcheck_yescrypt_text(
+        p: In, p_len: usize, s: In, s_len: usize, ln: u32, r: u32, t: u32, out: Out, out_len: usize, len: Len,
+    ) -> i32;
+    pub fn pwcheck_argon2id_text(
+        p: In, p_len: usize, s: In, s_len: usize, memory: u32, passes: u32, lanes: u32, out: Out, out_len: usize, len: Len,
+    ) -> i32;
+    pub fn pwcheck_pbkdf2_sha256_text(
+        p: In, p_len: usize, s: In, s_len: usize, rounds: u32, out: Out, out_len: usize, len: Len,
+    ) -> i32;
     pub fn pwcheck_base64_encoded_len(alphabet: u32, n: usize) -> usize;
     pub fn pwcheck_base64_decoded_len(alphabet: u32, src: In, src_len: usize) -> usize;
     pub fn pwcheck_base64_decode(alphabet: u32, src: In, src_len: usize, dst: Out, dst_len: usize, len: Len) -> i32;

@@ -1,7 +1,7 @@
 //! Stored passwords checked and made by the C library pwcheck.
 //!
 //! Each check returns an [`Answer`], of which [`Answer::Match`] alone is leave to enter. What isn't taken is an
-//! [`Error`].
+//! [`Error`]. [`make`] and [`make_into`] give the text to store of a new password.
 //!
 //! ```
 //! use pwcheck::{Answer, Limits, check_any};
@@ -19,6 +19,11 @@
 
 #[cfg_attr(not(feature = "std"), allow(dead_code))]
 mod c;
+mod texts;
+
+#[cfg(feature = "std")]
+pub use texts::make;
+pub use texts::{BCRYPT_PASSWORD_MAX, SALT_SIZE, Scheme, TEXT_MAX, make_into};
 
 use core::fmt;
 
@@ -171,12 +176,18 @@ impl fmt::Display for Answer {
 pub enum Error {
     /// A number or a length is outside what is taken.
     OutOfRange,
-    /// There is no memory for scrypt.
+    /// There is no memory for the key.
     NoMemory,
     /// The buffer is too short.
     NoRoom,
     /// The text is the encoding of no bytes.
     NotBase64,
+    /// The password has more bytes than the scheme takes.
+    RefusedLength,
+    /// The password isn't UTF-8.
+    RefusedUtf8,
+    /// The password has a zero byte, which the scheme doesn't take.
+    RefusedZero,
     /// The status of a later library.
     Unknown(i32),
 }
@@ -185,9 +196,12 @@ impl fmt::Display for Error {
     fn fmt(&self, f: &mut fmt::Formatter<'_>) -> fmt::Result {
         match self {
             Error::OutOfRange => write!(f, "a number or a length is out of range"),
-            Error::NoMemory => write!(f, "there is no memory for scrypt"),
+            Error::NoMemory => write!(f, "there is no memory for the key"),
             Error::NoRoom => write!(f, "the buffer is too short"),
             Error::NotBase64 => write!(f, "the text is the encoding of no bytes"),
+            Error::RefusedLength => write!(f, "the password is too long"),
+            Error::RefusedUtf8 => write!(f, "the password isn't UTF-8"),
+            Error::RefusedZero => write!(f, "the password has a zero byte"),
             Error::Unknown(number) => write!(f, "the library answers {number}"),
         }
     }
@@ -224,6 +238,9 @@ fn done(status: i32) -> Result<(), Error> {
         -2 => Err(Error::NoMemory),
         -3 => Err(Error::NoRoom),
         -4 => Err(Error::NotBase64),
+        -5 => Err(Error::RefusedLength),
+        -6 => Err(Error::RefusedUtf8),
+        -7 => Err(Error::RefusedZero),
         other => Err(Error::Unknown(other)),
     }
 }

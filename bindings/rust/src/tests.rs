@@ -76,6 +76,52 @@ fn made() {
     assert_eq!(key[..4], *b"\x77\xd6\x57\x62");
 }
 
+// Of libxcrypt's crypt_gensalt(3) and crypt(3), Python's hashlib and the program argon2, for one password and one salt.
+const SALT_16: &[u8] = b"0123456789abcdef";
+const MADE: [(Scheme, &str); 4] = [
+    (Scheme::Bcrypt { cost: 4 }, "$2b$04$KBCwKxOzLha2MUDgW0PjXexGfB5dmDvvvgEVjeeXiTo87i0yXWYau"),
+    (Scheme::Yescrypt { ln: 10, r: 8, t: 0 }, "$y$j75$k2XAnEHBqQ1Ct2aMXFKNa/$E9XAySfP6N2THWdzNKesSVmhpcmhNusa8y5TMfT668."),
+    (
+        Scheme::Argon2id { memory: 64, passes: 2, lanes: 2 },
+        "$argon2id$v=19$m=64,t=2,p=2$MDEyMzQ1Njc4OWFiY2RlZg$ehqGRlXhNY90u1mXokuaGpor9OaG4WSZVb4jCfev4ys",
+    ),
+    (
+        Scheme::Pbkdf2Sha256 { rounds: 1_000 },
+        "$pbkdf2-sha256$i=1000,l=32$MDEyMzQ1Njc4OWFiY2RlZg$cBg8D2DungRB9k76szThf5ehfyBz991ay6PT8Srwk4M",
+    ),
+];
+
+#[test]
+fn texts() {
+    for (scheme, text) in MADE {
+        assert_eq!(make(scheme, b"correct horse", SALT_16).as_deref(), Ok(text));
+        assert_eq!(make(scheme, b"correct horse", &SALT_16[1..]), Err(Error::OutOfRange));
+        let mut out = [b'x'; TEXT_MAX];
+        assert_eq!(make_into(scheme, b"correct horse", SALT_16, &mut out[..text.len() - 1]), Err(Error::NoRoom));
+        assert_eq!(make_into(scheme, b"\xff", SALT_16, &mut out), Err(Error::RefusedUtf8));
+        assert_eq!(make_into(scheme, &[b'a'; 4_097], SALT_16, &mut out), Err(Error::RefusedLength));
+        assert_eq!(out, [b'x'; TEXT_MAX]);
+        assert_eq!(make_into(scheme, b"correct horse", SALT_16, &mut out), Ok(text));
+    }
+    assert_eq!(make(MADE[0].0, b"a\0", SALT_16), Err(Error::RefusedZero));
+    assert_eq!(make(Scheme::Bcrypt { cost: 3 }, b"a\0", SALT_16), Err(Error::OutOfRange));
+    assert_eq!(make(Scheme::Scrypt(COST), b"password", SALT).as_deref(), Ok(TEXT_SCRYPT));
+    assert_eq!(make(Scheme::Scrypt(COST), b"\xff", SALT), Err(Error::RefusedUtf8));
+    // libxcrypt, by crypt_gensalt(3) of twelve bytes.
+    let made = make(Scheme::Sha256Crypt { rounds: 5_000 }, b"secret", b"\0\x01\x02\x03\x04\x05\x06\x07\x08\x09\x0a\x0b");
+    assert_eq!(made.as_deref(), Ok("$5$.2U.1EE/4Q.07ck0$CzGJZOHQDllUMYGxhIcFqR.3b3ZjuC1RO5x8IBkm0D1"));
+    assert_eq!(make(Scheme::Sha512Crypt { rounds: 1_000 }, b"a\0b", &SALT_16[..12]), Err(Error::RefusedZero));
+    assert_eq!(make(Scheme::Sha512Crypt { rounds: 1_000 }, b"a", SALT_16), Err(Error::OutOfRange));
+}
+
+// Each recommended cost is taken: a cost that isn't would be refused before the password.
+#[test]
+fn recommended() {
+    for scheme in [Scheme::BCRYPT, Scheme::YESCRYPT, Scheme::ARGON2ID, Scheme::PBKDF2_SHA256] {
+        assert_eq!(make(scheme, b"\xff", SALT_16), Err(Error::RefusedUtf8));
+    }
+}
+
 #[test]
 fn coder() {
     assert_eq!(base64_encode(Alphabet::Base64, b"fo").as_deref(), Ok("Zm8="));

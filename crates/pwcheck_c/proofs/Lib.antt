@@ -5,3 +5,4 @@ pub mod MadeTexts
 pub mod StoredCosts
 pub mod ScryptTexts
 pub mod AnyWords
+pub mod MadeUtf8

@@ -9,4 +9,5 @@ pub mod Texts
 pub mod Statuses
 pub mod Written
 pub mod Version
+pub mod Made
 pub mod Laws

@@ -20,3 +20,15 @@ status_no_room = negsuc 2
 -- -4: the text is the encoding of no bytes
 abbrev pub status_not_base64 : ℤ
 status_not_base64 = negsuc 3
+
+-- -5: the password has more bytes than the scheme takes
+abbrev pub status_refused_length : ℤ
+status_refused_length = negsuc 4
+
+-- -6: the password is not UTF-8
+abbrev pub status_refused_utf8 : ℤ
+status_refused_utf8 = negsuc 5
+
+-- -7: the password has a zero byte, which the scheme doesn't take
+abbrev pub status_refused_zero : ℤ
+status_refused_zero = negsuc 6

@@ -4,7 +4,7 @@
 use crate::any::{Limits, pwcheck_check_any};
 
 // No text is above these.
-const NONE: Limits = Limits {
+pub(crate) const NONE: Limits = Limits {
     sha_rounds: u32::MAX,
     bcrypt_cost: u32::MAX,
     yescrypt_ln: u32::MAX,

@@ -20,6 +20,9 @@ mod digests;
 mod keys;
 pub mod laws;
 mod lengths;
+mod makers;
+#[cfg(test)]
+mod makers_tests;
 mod put;
 mod scrypt_text;
 mod sha_check;

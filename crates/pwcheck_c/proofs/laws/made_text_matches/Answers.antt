@@ -1,6 +1,7 @@
 use Rattle.std.proofs.Common.{ap, ◌∙◌}
 use Rattle.sha_crypt.proofs.MadeTexts.{made_answer}
 use Rattle.sha_crypt.specs.declared.errors.Family.{Family}
+use Rattle.pwcheck_c.proofs.MadeUtf8.{any_matches}
 use Rattle.pwcheck_c.proofs.MadeTexts.{scrypt_matches, sha_matches, sha256_matches, sha512_matches}
 use Rattle.pwcheck_c.proofs.laws.made_text_matches.Goals as goal
 
@@ -15,3 +16,6 @@ returns-clause-any c = sha_matches
 
 pub returns-clause-scrypt : goal.returns-clause-scrypt
 returns-clause-scrypt c = scrypt_matches
+
+pub returns-clause-every : goal.returns-clause-every
+returns-clause-every c = any_matches
