@@ -21,7 +21,7 @@ STYLE = (
 LAYERS = [
     ("programs, C libraries", ["pwtool", "pwcheck", "pwfile", "pwstore", "pwkdf", "pwlegacy", "wrapstream", "pwcheck_c", "pwcrypt_c"]),
     ("lines of users", ["any_users", "any_survey", "user_lines"]),
-    ("tables of users", ["pw_store", "any_table", "pw_file"]),
+    ("tables of users", ["table_program", "pw_store", "any_table", "pw_file"]),
     ("loops over lines", ["line_state", "line_program", "wrap_stream"]),
     ("verdicts, crypt(3)'s texts", ["any_check", "stored_check", "crypt_text", "crypt_law"]),
     ("schemes", ["sha_crypt", "yescrypt_plain", "bcrypt_plain", "argon2_plain", "scrypt_plain", "pbkdf2_plain", "md5_crypt"]),
