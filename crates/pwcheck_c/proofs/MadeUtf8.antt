@@ -1,14 +1,13 @@
 -- Texts that are made are ASCII, and so UTF-8.
-use Rattle.std.proofs.Common.{◌≡◌, ℕ, zero, suc, ◌+◌, ◌-◌, ◌*◌, ◌/◌, ◌%◌, ◌^◌, ◌<◌, ◌≤◌, Bool, true, false, List, [], ◌∷◌, ◌++◌}
+use Rattle.std.proofs.Common.{◌≡◌, ℕ, zero, suc, ◌+◌, ◌-◌, ◌/◌, ◌%◌, ◌^◌, ◌<◌, ◌≤◌, Bool, true, false, List, [], ◌∷◌, ◌++◌}
 use Rattle.std.proofs.Common.{length, refl, sym, subst, ap, ◌∙◌, arith, inl, inr, Ok, Err, Some, None}
-use Rattle.std.specs.Prelude.{◌⊎◌, ◌&&◌, ◌==◌, IsAscii, Option, Result, codes, nat_le, nat_lt, not, if◌then◌else◌}
+use Rattle.std.specs.Prelude.{◌==◌, IsAscii, Option, Result, codes, nat_le, nat_lt, if◌then◌else◌}
 use Rattle.std.specs.List.{list_all}
 use Rattle.std.specs.Str.{is_utf8}
 use Rattle.std.proofs.lemmas.Bool.{and_parts}
 use Rattle.std.proofs.lemmas.Bool.Decides.{nat_tests}
 use Rattle.std.proofs.lemmas.Str.{IsAscii-append, IsUtf8-from_ascii, is_utf8-from_IsUtf8}
 use Rattle.std.proofs.lemmas.Str.Ascii.{IsAscii-cons, IsAscii-nil}
-use Rattle.std.proofs.Math.Nat.{le-mul_of_pos_right}
 use Rattle.base64ct.specs.Alphabets.{base64_bcrypt, base64_sha_crypt}
 use Rattle.base64ct.proofs.Ascii.{encoding_ascii}
 use Rattle.mcf.specs.Grammar.{fault}
@@ -16,7 +15,6 @@ use Rattle.mcf.specs.declared.error.Error as mcf_error
 use Rattle.mcf.proofs.Ascii.{valid_ascii}
 use Rattle.pieces.specs.Pieces.{pieces_at}
 use Rattle.pieces.proofs.ByteTests.{all_append, all_ascii}
-use Rattle.phc.specs.declared.password_hash.PasswordHash.{PasswordHash}
 use Rattle.phc.specs.Record.{record_text}
 use Rattle.bcrypt_plain.specs.Bcrypt.{bcrypt}
 use Rattle.bcrypt_plain.specs.Field.{bcrypt_field}
@@ -35,14 +33,12 @@ use Rattle.yescrypt_plain.specs.Params.{in_bounds, time_text, yescrypt_params_te
 use Rattle.yescrypt_plain.specs.Yescrypt.{yescrypt}
 use Rattle.yescrypt_plain.specs.declared.params.YescryptParams.{YescryptParams}
 use Rattle.any_check.specs.Records.{accepted, needs_memory, tag}
-use Rattle.any_check.specs.Table.{any_verdict, of_stored, row, text_scheme}
-use Rattle.any_check.specs.declared.error.AnyError.{AnyError}
-use Rattle.any_check.specs.declared.scheme.AnyScheme.{AnyScheme}
+use Rattle.any_check.specs.Table.{any_verdict, of_stored, text_scheme}
 use Rattle.any_check.specs.declared.scheme.AnyScheme.TheVariants as scheme
 use Rattle.any_check.specs.Cost.{verdict_within}
 use Rattle.any_check.proofs.Causes.{within}
 use Rattle.any_make.specs.Costs.{is_taken, password_length, scheme_of}
-use Rattle.any_make.specs.Made.{hash_text, made}
+use Rattle.any_make.specs.Made.{hash_text}
 use Rattle.any_make.specs.Records.{argon2_record, pbkdf2_record, scrypt_record}
 use Rattle.any_make.specs.declared.scheme.Argon2Cost.{Argon2Cost}
 use Rattle.any_make.specs.declared.scheme.MakeScheme.{MakeScheme}

@@ -1,33 +1,31 @@
 -- The scrypt text of a password is the text of a record in bounds.
-use Rattle.std.proofs.Common.{◌≡◌, ℕ, zero, suc, ◌+◌, ◌*◌, ◌^◌, ◌<◌, ◌≤◌, Bool, true, false, List, [], ◌∷◌, ◌++◌, length}
+use Rattle.std.proofs.Common.{◌≡◌, ℕ, ◌*◌, ◌^◌, ◌<◌, ◌≤◌, Bool, true, List, ◌∷◌, ◌++◌, length}
 use Rattle.std.proofs.Common.{refl, sym, ap, ◌∙◌, arith, append_assoc, inl, inr, Ok}
-use Rattle.std.specs.Prelude.{◌⊎◌, ◌&&◌, ◌==◌, codes, nat_le, nat_lt, Some, None}
+use Rattle.std.specs.Prelude.{◌⊎◌, ◌&&◌, codes, nat_le, nat_lt, Some}
 use Rattle.std.specs.Char.{is_ascii_digit}
 use Rattle.std.specs.Fmt.{decimal}
 use Rattle.std.specs.List.{list_all}
-use Rattle.std.specs.Str.{is_utf8}
 use Rattle.std.proofs.lemmas.Bool.{and_parts}
 use Rattle.std.proofs.lemmas.Bool.Decides.{nat_tests}
 use Rattle.std.proofs.lemmas.List.{length-append}
 use Rattle.std.proofs.Math.Nat.{le-mul_of_pos_right}
 use Rattle.pieces.proofs.PlainNumbers.{decimal_read}
 use Rattle.base64ct.specs.Encoding.{EachBelow, longest_input}
-use Rattle.mcf.specs.Grammar.{field_fault, is_field_byte}
+use Rattle.mcf.specs.Grammar.{is_field_byte}
 use Rattle.mcf.proofs.Pushed.{good_field}
 use Rattle.phc.specs.Encoded.{encoding}
 use Rattle.phc.specs.Grammar.{decimal_value, is_value_byte}
 use Rattle.phc.specs.Params.{pairs_text}
-use Rattle.phc.specs.Record.{is_pair, record_text}
+use Rattle.phc.specs.Record.{record_text}
 use Rattle.phc.proofs.Characters.{all_append, all_weaker, decimal_digits}
 use Rattle.phc.proofs.EncodedBytes.{encoded_length}
 use Rattle.phc.proofs.ValueBytes.{decimal_length}
 use Rattle.scrypt_plain.specs.Bounds.{in_bounds}
-use Rattle.scrypt_plain.specs.Profile.{accepted, cost_of, key}
+use Rattle.scrypt_plain.specs.Profile.{accepted, key}
 use Rattle.scrypt_plain.specs.Scrypt.{scrypt}
-use Rattle.scrypt_plain.proofs.MadeRecord.{IsWritten, made_params, made_record, made_text, scrypt_made}
+use Rattle.scrypt_plain.proofs.MadeRecord.{IsWritten, made_params, made_record, scrypt_made}
 use Rattle.stored_check.specs.Verdict.{verdict}
-use Rattle.pwcheck_c.specs.Inputs.{is_password, scrypt_text_takes}
-use Rattle.pwcheck_c.specs.Texts.{scrypt_record, scrypt_text}
+use Rattle.pwcheck_c.specs.Texts.{scrypt_text}
 
 -- ---- numbers in bounds
 

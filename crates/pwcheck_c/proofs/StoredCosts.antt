@@ -8,7 +8,7 @@ use Rattle.mcf.proofs.Ascii.{mcf_of_valid}
 use Rattle.mcf.proofs.ValidTexts.{pieces_of_valid}
 use Rattle.phc.specs.Record.{phc, phc_text}
 use Rattle.sha_crypt.specs.Check.{text_fields}
-use Rattle.sha_crypt.specs.Families.{Scheme, scheme_fields}
+use Rattle.sha_crypt.specs.Families.{scheme_fields}
 use Rattle.sha_crypt.specs.Records.{family_id, family_scheme, record_of}
 use Rattle.sha_crypt.specs.declared.errors.Family.{Family}
 use Rattle.stored_check.specs.Verdict.{named_family, same_text}

@@ -1,5 +1,5 @@
 -- The answers by number.
-use Rattle.std.specs.Prelude.{ℤ, pos, negsuc, Bool, true, false, List, [], ◌∷◌, Ok, Err, Option, None}
+use Rattle.std.specs.Prelude.{ℤ, pos, negsuc, true, false, List, [], ◌∷◌, Ok, Err, Option, None}
 use Rattle.std.specs.List.{slice_get}
 use Rattle.base64ct.specs.declared.errors.Error.TheVariants as of_base64
 use Rattle.stored_check.specs.declared.error.McfFault.TheVariants as of_mcf

@@ -1,6 +1,3 @@
-use Rattle.std.proofs.Common.{ap, ◌∙◌}
-use Rattle.sha_crypt.proofs.MadeTexts.{made_answer}
-use Rattle.sha_crypt.specs.declared.errors.Family.{Family}
 use Rattle.pwcheck_c.proofs.MadeUtf8.{any_matches}
 use Rattle.pwcheck_c.proofs.MadeTexts.{scrypt_matches, sha_matches, sha256_matches, sha512_matches}
 use Rattle.pwcheck_c.proofs.laws.made_text_matches.Goals as goal
