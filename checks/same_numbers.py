@@ -61,7 +61,7 @@ FACTS = [
     ("the status of a file that can't be opened", ("crates/pwtool/src/status.rt", r"NO_FILE: u8 = (\d+)"),
      [r"(\d+) \|? ?a file can't be opened", r"It (\d+) a file can't"], 2),
 ]
-for name in ("sha-rounds", "bcrypt-cost", "yescrypt-ln", "scrypt-ln", "pbkdf2-rounds", "argon2-memory"):
+for name in ("sha-rounds", "bcrypt-cost", "yescrypt-ln", "scrypt-ln", "pbkdf2-rounds", "pbkdf2-sha512-rounds", "argon2-memory"):
     FACTS.append((f"--least-{name}", (BOUNDS, r"const LEAST: .*?\b" + name.replace("-", "_") + r": ([\d_]+)"),
                   [r"\| `--least-" + name + r"` N \|[^|]*\| ([\d,]+) \|", r"-least-" + name + r" \(([\d,]+)\)"], 2))
 for name in ("sha-rounds", "bcrypt-cost", "yescrypt-ln", "yescrypt-r", "yescrypt-t", "pbkdf2-rounds", "scrypt-ln", "scrypt-r", "scrypt-p",
