@@ -131,14 +131,17 @@ def of_hashlib():
         key = hashlib.scrypt(password.encode(), salt=salt, n=1 << ln, r=r, p=p, dklen=32, maxmem=1 << 26)
         return f"$scrypt$ln={ln},r={r},p={p}${field(salt)}${field(key)}"
 
-    def pbkdf2(password, rounds):
+    def pbkdf2(name, password, rounds):
         salt = os.urandom(16)
-        return f"$pbkdf2-sha256$i={rounds}${field(salt)}${field(hashlib.pbkdf2_hmac('sha256', password.encode(), salt, rounds))}"
+        return f"$pbkdf2-{name}$i={rounds}${field(salt)}${field(hashlib.pbkdf2_hmac(name, password.encode(), salt, rounds))}"
 
     for cost in ((4, 8, 1), (10, 8, 1), (8, 4, 3)):
         yield "hashlib.scrypt ln={},r={},p={}".format(*cost), VERDICT, lambda password, cost=cost: scrypt(password, *cost)
-    for rounds in (1, 1000, 20000):
-        yield f"hashlib.pbkdf2_hmac i={rounds}", VERDICT, lambda password, rounds=rounds: pbkdf2(password, rounds)
+    for name in ("sha256", "sha512"):
+        for rounds in (1, 1000, 20000):
+            yield (f"hashlib.pbkdf2_hmac {name} i={rounds}", VERDICT,
+                   lambda password, name=name, rounds=rounds: pbkdf2(name, password, rounds))
+    yield "hashlib.pbkdf2_hmac sha1", NO_SCHEME, lambda password: pbkdf2("sha1", password, 1000)
 
 
 def of_crypt():
@@ -174,10 +177,10 @@ def of_passlib():
         return
     rows = [("md5_crypt", {}, VERDICT), ("apr_md5_crypt", {}, VERDICT), ("sha256_crypt", {"rounds": 1000}, VERDICT),
             ("sha512_crypt", {"rounds": 5000}, VERDICT), ("bcrypt", {"rounds": 5}, VERDICT), ("scrypt", {"rounds": 6}, VERDICT),
-            ("pbkdf2_sha256", {"rounds": 1000}, "phc-salt-short")]
+            ("pbkdf2_sha256", {"rounds": 1000}, "phc-salt-short"), ("pbkdf2_sha512", {"rounds": 1000}, "phc-salt-short")]
     rows += [(name, {}, NO_SCHEME) for name in (
         "des_crypt", "bsdi_crypt", "bigcrypt", "sun_md5_crypt", "sha1_crypt", "phpass", "nthash", "bsd_nthash", "ldap_sha1",
-        "ldap_salted_sha1", "ldap_md5", "pbkdf2_sha1", "pbkdf2_sha512", "bcrypt_sha256", "cta_pbkdf2_sha1", "grub_pbkdf2_sha512",
+        "ldap_salted_sha1", "ldap_md5", "pbkdf2_sha1", "bcrypt_sha256", "cta_pbkdf2_sha1", "grub_pbkdf2_sha512",
         "django_pbkdf2_sha256", "fshp", "mysql41", "hex_sha256", "unix_disabled")]
     for name, settings, wanted in rows:
         def make(password, name=name, settings=settings):
@@ -249,7 +252,7 @@ def costs(text):
     found = re.match(r"\$7\$(.)", text)
     if found:
         return {"--max-scrypt-ln": CHARACTERS.index(found[1])}
-    found = re.match(r"\$(scrypt|pbkdf2-sha256|argon2[a-z]+)\$(?:v=19\$)?([a-z]+=[a-z0-9=,]+)\$", text)
+    found = re.match(r"\$(scrypt|pbkdf2-sha(?:256|512)|argon2[a-z]+)\$(?:v=19\$)?([a-z]+=[a-z0-9=,]+)\$", text)
     if not found:
         return {}
     scheme = re.match("[a-z]+2?", found[1])[0]

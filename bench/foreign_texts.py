@@ -130,6 +130,8 @@ def of_ldap():
     return [
         passlib_maker("{PBKDF2-SHA256}", "pbkdf2-sha256", h.ldap_pbkdf2_sha256,
                       lambda rng: {"rounds": rng.randint(1, 3000), "salt_size": rng.randint(8, 48)}),
+        passlib_maker("{PBKDF2-SHA512}", "pbkdf2-sha512", h.ldap_pbkdf2_sha512,
+                      lambda rng: {"rounds": rng.randint(1, 3000), "salt_size": rng.randint(8, 48)}),
         ("{ARGON2}", "argon2", argon2_text, argon2_verify),
         passlib_maker("{CRYPT}$5$", "sha256-crypt", h.ldap_sha256_crypt, rounds(1000, 3000)),
         passlib_maker("{CRYPT}$6$", "sha512-crypt", h.ldap_sha512_crypt, rounds(1000, 3000)),
@@ -142,7 +144,6 @@ def of_ldap():
         passlib_maker("{SSHA256}", "unsupported-sha2", h.ldap_salted_sha256),
         passlib_maker("{SSHA512}", "unsupported-sha2", h.ldap_salted_sha512),
         passlib_maker("{PBKDF2}", "unsupported-pbkdf2-sha1", h.ldap_pbkdf2_sha1, rounds(1, 100)),
-        passlib_maker("{PBKDF2-SHA512}", "unsupported-pbkdf2-sha512", h.ldap_pbkdf2_sha512, rounds(1, 100)),
     ]
 
 
@@ -151,6 +152,8 @@ def of_others():
     h.argon2.set_backend()
     return [
         passlib_maker("pbkdf2_sha256", "pbkdf2-sha256", h.pbkdf2_sha256,
+                      lambda rng: {"rounds": rng.randint(1, 3000), "salt_size": rng.randint(8, 48)}),
+        passlib_maker("pbkdf2_sha512", "pbkdf2-sha512", h.pbkdf2_sha512,
                       lambda rng: {"rounds": rng.randint(1, 3000), "salt_size": rng.randint(8, 48)}),
         passlib_maker("argon2", "argon2", h.argon2,
                       lambda rng: {"rounds": rng.randint(1, 3), "memory_cost": rng.randint(64, 300),
@@ -162,7 +165,6 @@ def of_others():
         passlib_maker("sha512_crypt", "sha512-crypt", h.sha512_crypt, rounds(1000, 3000)),
         passlib_maker("md5_crypt", "md5-crypt", h.md5_crypt),
         passlib_maker("apr_md5_crypt", "md5-crypt", h.apr_md5_crypt),
-        passlib_maker("pbkdf2_sha512", "unsupported-pbkdf2-sha512", h.pbkdf2_sha512, rounds(1, 100)),
         passlib_maker("pbkdf2_sha1", "unsupported-pbkdf2-sha1", h.pbkdf2_sha1, rounds(1, 100)),
         passlib_maker("bcrypt_sha256", "unsupported-bcrypt-sha256", h.bcrypt_sha256, rounds(4, 5)),
         passlib_maker("des_crypt", "unsupported-scheme", h.des_crypt),

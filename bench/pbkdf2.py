@@ -1,12 +1,12 @@
 #!/usr/bin/env python3
-"""Times PBKDF2 with HMAC-SHA-256 beside OpenSSL and Python's hashlib, in one run.
+"""Times PBKDF2 with HMAC-SHA-256 and with HMAC-SHA-512 beside OpenSSL and Python's hashlib, in one run.
 
-Each batch derives one key of 32 bytes with 2,000 rounds, some 1.5 ms: short enough that on a loaded machine some batch
+Each batch derives one key of 32 bytes with 2,000 rounds, some 1 to 2 ms: short enough that on a loaded machine some batch
 runs undisturbed. The batches are interleaved by sixties, and of each the least time counts. All keys must agree.
 
-Ours is bench/pbkdf2_time.txt, the source of a program that calls `pbkdf2_plain::pbkdf2`; the script proves and builds
-it under bench/out/, over the repository's crates. The peers are PKCS5_PBKDF2_HMAC of libcrypto.so.3, through ctypes,
-and Python's hashlib. The goal is at most 0.92 of the time of each. It installs nothing.
+Ours is bench/pbkdf2_time.txt, the source of a program that calls `pbkdf2_sha256` and `pbkdf2_sha512` of `pbkdf2_plain`; the
+script proves and builds it under bench/out/, over the repository's crates. The peers are PKCS5_PBKDF2_HMAC of libcrypto.so.3, through ctypes,
+and Python's hashlib. The goal is at most 0.92 of the time of each, with either hash function. It installs nothing.
 
 usage: bench/pbkdf2.py [ROUNDS]      (8 if left out)
 """
@@ -24,16 +24,18 @@ SALT = b"saltsalt"
 COUNT = 2000
 BATCHES = 60
 GOAL = 0.92
+HASHES = ("sha256", "sha512")
 
 
-def openssl():
-    """PKCS5_PBKDF2_HMAC of OpenSSL's library."""
+def openssl(name):
+    """PKCS5_PBKDF2_HMAC of OpenSSL's library, with a hash function."""
     library = ctypes.CDLL("libcrypto.so.3")
-    library.EVP_sha256.restype = ctypes.c_void_p
+    of_name = getattr(library, "EVP_" + name)
+    of_name.restype = ctypes.c_void_p
     call = library.PKCS5_PBKDF2_HMAC
     call.argtypes = [ctypes.c_char_p, ctypes.c_int, ctypes.c_char_p, ctypes.c_int, ctypes.c_int,
                      ctypes.c_void_p, ctypes.c_int, ctypes.c_char_p]
-    digest = library.EVP_sha256()
+    digest = of_name()
     key = ctypes.create_string_buffer(32)
 
     def derive():
@@ -43,40 +45,43 @@ def openssl():
 
 
 def ours(program):
-    """The times of the batches of a run of the program, and their keys."""
+    """The hash function, the time and the key of each batch of a run of the program."""
     out = subprocess.run([program], capture_output=True, text=True, check=True).stdout
-    return [(int(took), bytes.fromhex(key)) for took, key in (line.split() for line in out.splitlines())]
+    return [(name, int(took), bytes.fromhex(key)) for name, took, key in (line.split() for line in out.splitlines())]
 
 
 def batches(derive):
+    """The same of a function for each hash function."""
     made = []
     for _ in range(BATCHES):
-        begin = time.perf_counter_ns()
-        key = derive()
-        made.append((time.perf_counter_ns() - begin, key))
+        for name in HASHES:
+            begin = time.perf_counter_ns()
+            key = derive[name]()
+            made.append((name, time.perf_counter_ns() - begin, key))
     return made
 
 
 def main():
     rounds = int(sys.argv[1]) if len(sys.argv) > 1 else 8
     program = built("pbkdf2_time", "pbkdf2_time.txt", "pbkdf2_plain")
-    peer = openssl()
-    calls = {"ours": lambda: ours(program), "OpenSSL": lambda: batches(peer),
-             "hashlib": lambda: batches(lambda: hashlib.pbkdf2_hmac("sha256", PASSWORD, SALT, COUNT, 32))}
-    key = hashlib.pbkdf2_hmac("sha256", PASSWORD, SALT, COUNT, 32)
-    least = {name: float("inf") for name in calls}
+    peer = {name: openssl(name) for name in HASHES}
+    by_hashlib = {name: lambda name=name: hashlib.pbkdf2_hmac(name, PASSWORD, SALT, COUNT, 32) for name in HASHES}
+    calls = {"ours": lambda: ours(program), "OpenSSL": lambda: batches(peer), "hashlib": lambda: batches(by_hashlib)}
+    keys = {name: by_hashlib[name]() for name in HASHES}
+    least = {(who, name): float("inf") for who in calls for name in HASHES}
     for _ in range(rounds):
-        for name, call in calls.items():
-            for took, made in call():
-                need(made == key, name + "'s key is another")
-                least[name] = min(least[name], took / COUNT)
-    print(f"nanoseconds a round of PBKDF2-HMAC-SHA-256, least of {rounds * BATCHES} interleaved batches of {COUNT}"
-          f" rounds, load {os.getloadavg()[0]:.1f}")
-    for name, took in least.items():
-        print(f"{name:8}  {took:6.0f}" + ("" if name == "ours" else f"  ours to it {least['ours'] / took:.2f}"))
-    for name in ["OpenSSL", "hashlib"]:
-        met = least["ours"] <= GOAL * least[name]
-        print(f"goal, at most {GOAL} of {name}'s: {'met' if met else 'not met'}")
+        for who, call in calls.items():
+            for name, took, key in call():
+                need(key == keys[name], f"{who}'s key of {name} is another")
+                least[who, name] = min(least[who, name], took / COUNT)
+    print(f"nanoseconds a round of PBKDF2, least of {rounds * BATCHES} interleaved batches of {COUNT} rounds,"
+          f" load {os.getloadavg()[0]:.1f}")
+    for (who, name), took in least.items():
+        print(f"{name}  {who:8}  {took:6.0f}" + ("" if who == "ours" else f"  ours to it {least['ours', name] / took:.2f}"))
+    for name in HASHES:
+        for who in ["OpenSSL", "hashlib"]:
+            met = least["ours", name] <= GOAL * least[who, name]
+            print(f"{name}: goal, at most {GOAL} of {who}'s: {'met' if met else 'not met'}")
 
 
 main()

@@ -20,12 +20,12 @@ STYLE = (
 # The layers of the first picture, from what people run down to what all stands on.
 LAYERS = [
     ("programs, C libraries", ["pwtool", "pwcheck", "pwfile", "pwstore", "pwkdf", "pwlegacy", "wrapstream", "pwcheck_c", "pwcrypt_c"]),
-    ("lines of users", ["any_users", "any_survey", "user_lines"]),
-    ("tables of users", ["pw_store", "any_table", "pw_file"]),
+    ("lines of users", ["any_users", "any_survey", "foreign_lines", "user_lines"]),
+    ("tables of users", ["table_program", "pw_store", "any_table", "pw_file"]),
     ("loops over lines", ["line_state", "line_program", "wrap_stream"]),
-    ("verdicts, crypt(3)'s texts", ["any_check", "stored_check", "crypt_text", "crypt_law"]),
+    ("verdicts, texts made", ["any_check", "stored_check", "any_make", "crypt_text", "crypt_law"]),
     ("schemes", ["sha_crypt", "yescrypt_plain", "bcrypt_plain", "argon2_plain", "scrypt_plain", "pbkdf2_plain", "md5_crypt"]),
-    ("texts", ["phc", "mcf", "base64ct", "pieces"]),
+    ("texts", ["phc", "mcf", "foreign_text", "base64ct", "pieces"]),
     ("ground", ["subtle", "blake2b", "line_io", "line_log", "file_device"]),
 ]
 
@@ -48,6 +48,10 @@ def crates():
 def parts_picture():
     drawn = []
     known = crates()
+    named = {name for _, names in LAYERS for name in names}
+    left_out = sorted(name for name in known - named if not name.endswith("_tests"))
+    if left_out:
+        sys.exit(f"pictures.py: no layer has {', '.join(left_out)}")
     for row, (title, names) in enumerate(LAYERS):
         y = 20 + 62 * row
         drawn.append(text(10, y + 22, title, "small"))
@@ -57,7 +61,7 @@ def parts_picture():
             x = 180 + 118 * place
             drawn.append(f'<rect class="box" x="{x}" y="{y}" width="110" height="36" rx="5"/>')
             drawn.append(text(x + 55, y + 23, name, anchor="middle"))
-    return picture(1134, 20 + 62 * len(LAYERS), drawn)
+    return picture(190 + 118 * max(len(names) for _, names in LAYERS), 20 + 62 * len(LAYERS), drawn)
 
 
 def speeds():
@@ -67,23 +71,25 @@ def speeds():
 
 def speeds_picture():
     rows = speeds()
-    left, unit = 300, 400
+    left, unit, most_drawn = 300, 280, 1.5
     height = 60 + 26 * len(rows)
     drawn = [text(10, 20, "our time, where the other's is 1 (least and most of the cases measured)")]
-    for part in (0, 0.25, 0.5, 0.75, 1):
+    for part in (0, 0.25, 0.5, 0.75, 1, 1.25, most_drawn):
         x = left + unit * part
         drawn.append(f'<line class="line" x1="{x}" y1="34" x2="{x}" y2="{height - 20}" stroke-width="{2 if part == 1 else 0.5}"/>')
         drawn.append(text(x, height - 5, f"{part:g}", "small", "middle"))
     for place, row in enumerate(rows):
         y = 42 + 26 * place
         least, most = float(row["least"]), float(row["most"])
+        if most > most_drawn:
+            sys.exit(f"pictures.py: {row['what']} is above {most_drawn}")
         drawn.append(text(10, y + 13, row["what"]))
         drawn.append(f'<rect class="bar" x="{left}" y="{y}" width="{unit * least:.0f}" height="16"/>')
         if most > least:
             drawn.append(f'<rect class="bar" opacity="0.5" x="{left + unit * least:.0f}" y="{y}" width="{unit * (most - least):.0f}" height="16"/>')
         told = row["least"] if least == most else f"{row['least']} to {row['most']}"
-        drawn.append(text(left + unit + 12, y + 13, f"{told} of {row['peer']}"))
-    return picture(900, height, drawn)
+        drawn.append(text(left + unit * most_drawn + 12, y + 13, f"{told} of {row['peer']}"))
+    return picture(920, height, drawn)
 
 
 def main():

@@ -13,10 +13,11 @@
 6. Each request for memory of a session refused in turn (bench/refuse_nth.c, preloaded; wants gcc): the status is 5, or all is as usual;
    the replies are the first ones of a run with memory, and the table is that of them, or of one command more.
 
-usage: bench/pwstore_hostile.py      (PWSTORE names the program)
+usage: bench/pwstore_hostile.py      (PWSTORE is the program, with words behind it where it has other forms: "PATH/pwtool table")
 """
 import os
 import re
+import shlex
 import subprocess
 import sys
 import tempfile
@@ -25,7 +26,7 @@ sys.path.insert(0, os.path.dirname(os.path.abspath(__file__)))
 import pwstore_model as model  # noqa: E402
 
 HERE = os.path.dirname(os.path.abspath(__file__))
-PROGRAM = os.environ.get("PWSTORE", os.path.join(HERE, "..", "crates", "pwstore", "out", "pwstore"))
+PROGRAM = shlex.split(os.environ.get("PWSTORE", "")) or [os.path.join(HERE, "..", "crates", "pwstore", "out", "pwstore")]
 FAILED = []
 
 
@@ -36,7 +37,7 @@ def holds(what, test):
 
 
 def run(name, data=b"list\n", words=()):
-    done = subprocess.run([PROGRAM, name, *words], input=data, capture_output=True, check=False)
+    done = subprocess.run([*PROGRAM, name, *words], input=data, capture_output=True, check=False)
     return done.returncode, done.stdout, done.stderr.decode()
 
 
@@ -124,7 +125,7 @@ def unwritable(folder):
 
 def second_process(folder):
     name = os.path.join(folder, "locked")
-    first = subprocess.Popen([PROGRAM, name], stdin=subprocess.PIPE, stdout=subprocess.PIPE)
+    first = subprocess.Popen([*PROGRAM, name], stdin=subprocess.PIPE, stdout=subprocess.PIPE)
     first.stdin.write(b"set\tann\t$\n")
     first.stdin.flush()
     first.stdout.readline()
@@ -160,12 +161,12 @@ def refused_memory(folder):
         replies.append(kept.reply(line))
         tables.append(dict(kept.table))
     fives, usual, others = 0, 0, []
-    for number in range(1, 400):
+    for number in range(1, 4000):
         for file in (name, mark):
             if os.path.exists(file):
                 os.remove(file)
         env = {**os.environ, "LD_PRELOAD": library, "REFUSE_NTH": str(number), "REFUSE_MARK": mark}
-        done = subprocess.run([PROGRAM, name], input=b"".join(line + b"\n" for line in lines), capture_output=True, check=False, env=env)
+        done = subprocess.run([*PROGRAM, name], input=b"".join(line + b"\n" for line in lines), capture_output=True, check=False, env=env)
         words = done.stdout.decode().split("\n")[:-1]
         found = model.read(open(name, "rb").read()) if os.path.exists(name) else {}
         right = words == replies[:len(words)] and found in tables[len(words):len(words) + 2]
@@ -181,8 +182,8 @@ def refused_memory(folder):
 
 
 def main():
-    if not os.path.exists(PROGRAM):
-        sys.exit("pwstore isn't built")
+    if not os.path.exists(PROGRAM[0]):
+        sys.exit(f"{PROGRAM[0]} isn't built")
     with tempfile.TemporaryDirectory(prefix="pwstore_hostile_") as folder:
         for part in (damaged, full_disk, unwritable, second_process, modes, refused_memory):
             part(folder)

@@ -9,11 +9,12 @@ is a `compact`, which is killed too.
 
 A kill takes no bytes of the page cache away: what a power cut may take is what the proofs and the device in memory are for.
 
-usage: bench/pwstore_kills.py [RUNS] [SEED]      (1,000 runs, seed 1; PWSTORE names the program)
+usage: bench/pwstore_kills.py [RUNS] [SEED]      (1,000 runs, seed 1; PWSTORE is the program, as of bench/pwstore_hostile.py)
 """
 import binascii
 import os
 import random
+import shlex
 import subprocess
 import sys
 import tempfile
@@ -24,7 +25,7 @@ sys.path.insert(0, os.path.dirname(os.path.abspath(__file__)))
 import pwstore_model as model  # noqa: E402
 
 HERE = os.path.dirname(os.path.abspath(__file__))
-PROGRAM = os.environ.get("PWSTORE", os.path.join(HERE, "..", "crates", "pwstore", "out", "pwstore"))
+PROGRAM = shlex.split(os.environ.get("PWSTORE", "")) or [os.path.join(HERE, "..", "crates", "pwstore", "out", "pwstore")]
 COUNTS = {"killed": 0, "ended before": 0, "answered": 0, "found beyond the answers": 0, "compactions": 0}
 
 
@@ -58,7 +59,7 @@ def feed(child, data, chance):
 
 def killed(words, data, chance, most):
     """What a run wrote before it was killed, and whether it was."""
-    child = subprocess.Popen([PROGRAM, *words], stdin=subprocess.PIPE, stdout=subprocess.PIPE)
+    child = subprocess.Popen([*PROGRAM, *words], stdin=subprocess.PIPE, stdout=subprocess.PIPE)
     read = []
     threads = [threading.Thread(target=lambda: read.append(child.stdout.read())),
                threading.Thread(target=feed, args=(child, data, random.Random(chance.random())))]
@@ -93,7 +94,7 @@ def check_run(name, before, chance):
     fits = [k for k in range(len(answers), len(tables)) if tables[k] == found]
     if not fits:
         sys.exit(f"a table that {len(answers)} answers of {len(commands)} commands don't leave: kept as {name}")
-    listed = subprocess.run([PROGRAM, name], input=b"list\n", capture_output=True, check=False)
+    listed = subprocess.run([*PROGRAM, name], input=b"list\n", capture_output=True, check=False)
     if listed.returncode != 0 or listed.stdout != model.listing(found):
         sys.exit(f"another listing, or status {listed.returncode}: {listed.stderr.decode()}")
     COUNTS["killed" if was_killed else "ended before"] += 1
@@ -114,7 +115,7 @@ def main():
     chance = random.Random(int(sys.argv[2]) if len(sys.argv) > 2 else 1)
     folder = tempfile.mkdtemp(prefix="pwstore_kills_")
     name = os.path.join(folder, "table")
-    subprocess.run([PROGRAM, name], input=b"", check=True)
+    subprocess.run([*PROGRAM, name], input=b"", check=True)
     table = {}
     for number in range(runs):
         if number % 10 == 9:

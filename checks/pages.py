@@ -9,8 +9,8 @@ import os
 import re
 import sys
 
-TOP = os.path.dirname(os.path.dirname(os.path.abspath(__file__)))
-PAGES = ["README.md", "CONTRIBUTING.md", "SECURITY.md", "CHANGELOG.md", "NOTICE"] + sorted(glob.glob("docs/*.md", root_dir=TOP)) + sorted(glob.glob("man/*", root_dir=TOP))
+from page_texts import TOP, page_texts
+
 ROOTS = ("crates", "docs", "bench", "examples", "bindings", "include", "man", "scale", "packaging", "checks", "crypt3")
 
 
@@ -49,15 +49,14 @@ def dead_edits(text):
 
 def main():
     faults = []
-    for page in PAGES:
-        with open(os.path.join(TOP, page), encoding="utf-8") as file:
-            text = file.read()
+    pages = page_texts()
+    for page, text in pages.items():
         faults += dead_paths(page, text)
         if page == "docs/ARCHITECTURE.md":
             faults += dead_edits(text)
     for fault in faults:
         print(fault)
-    print(f"pages: {len(PAGES)} read, {len(faults)} faults")
+    print(f"pages: {len(pages)} read, {len(faults)} faults")
     sys.exit(1 if faults else 0)
 
 

@@ -8,14 +8,12 @@ A fact is a number, where it comes from, and the sentences that state it: patter
 macros of manual pages, comment marks and line ends count as blanks. A fact without a source is stated by pages alone: these have to agree.
 """
 import csv
-import glob
 import os
 import re
 import sys
 
-TOP = os.path.dirname(os.path.dirname(os.path.abspath(__file__)))
-PAGES = (["README.md", "CONTRIBUTING.md", "SECURITY.md", "CHANGELOG.md"]
-         + sorted(glob.glob("docs/*.md", root_dir=TOP)) + sorted(glob.glob("man/*", root_dir=TOP)) + sorted(glob.glob("include/*.h", root_dir=TOP)))
+from page_texts import TOP, page_texts
+
 CLI = "crates/pwtool/src/cli.rt"
 BOUNDS = "crates/pwtool/src/bounds.rt"
 
@@ -55,13 +53,15 @@ FACTS = [
     ("the words that the first command prints", ("examples/passwords.txt", len), [r"prints (\d+) words"], 1),
     ("the lines of 81 makers", None, [r"([\d,]+) lines(?: of 81 makers|, every answer as the maker says)"], 1),
     ("the minutes of the gate", None, [r"it took (\d+) minutes from nothing on four cores", r"GHz\): (\d+) minutes by the clock"], 2),
-    ("the processor minutes of the gate", None, [r"on four cores, (\d+) of processor time", r"so (\d+) of processor time"], 2),
+    ("the processor minutes of the gate", None, [r"from nothing on four cores, (\d+) of processor time", r"so (\d+) of processor time"], 2),
+    ("the minutes of the first answer", None, [r"prints the same: (\d+) minutes on four cores", r"first\.sh` took (\d+) minutes by the clock"], 2),
+    ("the processor minutes of the first answer", None, [r"minutes on four cores and (\d+) of processor time", r"first answer (\d+) of processor time"], 2),
     ("the status of bad words", ("crates/pwtool/src/status.rt", r"BAD_WORDS: u8 = (\d+)"),
      [r"(\d+) \|? ?the words of the command line are no form of the program"], 2),
     ("the status of a file that can't be opened", ("crates/pwtool/src/status.rt", r"NO_FILE: u8 = (\d+)"),
      [r"(\d+) \|? ?a file can't be opened", r"It (\d+) a file can't"], 2),
 ]
-for name in ("sha-rounds", "bcrypt-cost", "yescrypt-ln", "scrypt-ln", "pbkdf2-rounds", "argon2-memory"):
+for name in ("sha-rounds", "bcrypt-cost", "yescrypt-ln", "scrypt-ln", "pbkdf2-rounds", "pbkdf2-sha512-rounds", "argon2-memory"):
     FACTS.append((f"--least-{name}", (BOUNDS, r"const LEAST: .*?\b" + name.replace("-", "_") + r": ([\d_]+)"),
                   [r"\| `--least-" + name + r"` N \|[^|]*\| ([\d,]+) \|", r"-least-" + name + r" \(([\d,]+)\)"], 2))
 for name in ("sha-rounds", "bcrypt-cost", "yescrypt-ln", "yescrypt-r", "yescrypt-t", "pbkdf2-rounds", "scrypt-ln", "scrypt-r", "scrypt-p",
@@ -139,10 +139,7 @@ def unseen(fact, pages, stated):
 
 
 def main():
-    pages = {}
-    for page in PAGES:
-        with open(os.path.join(TOP, page), encoding="utf-8") as file:
-            pages[page] = plain(page, file.read())
+    pages = {page: plain(page, text) for page, text in page_texts().items()}
     faults, count = list(speeds(pages)), 0
     for fact in FACTS:
         found, stated = faults_of(fact, pages)

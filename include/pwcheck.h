@@ -222,9 +222,9 @@ struct pwcheck_limits {
      UINT32_MAX, UINT32_MAX, UINT32_MAX}
 
 /* Checks a password against a stored text of every scheme: SHA-crypt ($5$, $6$), md5-crypt ($1$, $apr1$), bcrypt ($2a$,
- * $2b$, $2y$), yescrypt ($y$), scrypt ($7$), or a PHC record of scrypt, PBKDF2 with SHA-256 or Argon2. A valid text that
- * asks for more than a limit is answered by PWCHECK_OVER_COST, and nothing is hashed for it. Compare the answer with
- * PWCHECK_MATCH, and with nothing less. From version 1.1 on. */
+ * $2b$, $2y$), yescrypt ($y$), scrypt ($7$), or a PHC record of scrypt, PBKDF2 (with SHA-256 or SHA-512) or Argon2. A valid
+ * text that asks for more than a limit is answered by PWCHECK_OVER_COST, and nothing is hashed for it. Compare the answer
+ * with PWCHECK_MATCH, and with nothing less. From version 1.1 on. */
 PWCHECK_MUST_USE PWCHECK_NONNULL
 int32_t pwcheck_check_any(const uint8_t *password, size_t password_len, const uint8_t *stored, size_t stored_len,
                           const struct pwcheck_limits *limits);

@@ -10,7 +10,7 @@ use Rattle.argon2_plain.specs.declared.variant.Variant.{Variant}
 use Rattle.argon2_plain.specs.declared.variant.Variant.TheVariants.{D, I, Id}
 use Rattle.any_check.specs.Laws.{TakesRecordsHere}
 use Rattle.any_check.specs.Records.{accepted}
-use Rattle.any_check.specs.Table.{is_record}
+use Rattle.any_check.specs.Table.{is_pbkdf2, is_record}
 
 taken_first : (a b c d e : Bool) → a && b && c && d && e ≡ true → a ≡ true
 taken_first true b c d e h = refl
@@ -35,19 +35,21 @@ module _ (r : PasswordHash) (salt : List ℕ) (n : ℕ) where
   argon2_named : argon2_accepts r n ≡ true → is_record r.algorithm ≡ true
   unfolding argon2_accepts
   argon2_named h =
-      by_names (same_text r.algorithm (codes "scrypt")) (same_text r.algorithm (codes "pbkdf2-sha256"))
+      by_names (same_text r.algorithm (codes "scrypt")) (is_pbkdf2 r.algorithm)
       (same_text r.algorithm (codes "argon2d")) (same_text r.algorithm (codes "argon2i"))
       (same_text r.algorithm (codes "argon2id"))
       (λ none. no_params (variant_of r.algorithm) (number r (codes "m")) (number r (codes "t")) (number r (codes "p"))
       none (taken_first (are_taken (params_of r)) _ _ _ _ h))
 
-  by_tests : (scrypt pbkdf2 : Bool) → same_text r.algorithm (codes "scrypt") ≡ scrypt
-      → same_text r.algorithm (codes "pbkdf2-sha256") ≡ pbkdf2 → accepted r salt n ≡ true
-      → is_record r.algorithm ≡ true
-  by_tests true pbkdf2 is is' h = rw is refl
-  by_tests false true is is' h = rw (is, is') refl
-  by_tests false false is is' h = argon2_named (rw (is, is') at h)
+  by_tests : (scrypt sha256 sha512 : Bool) → same_text r.algorithm (codes "scrypt") ≡ scrypt
+      → same_text r.algorithm (codes "pbkdf2-sha256") ≡ sha256 → same_text r.algorithm (codes "pbkdf2-sha512") ≡ sha512
+      → accepted r salt n ≡ true → is_record r.algorithm ≡ true
+  by_tests true sha256 sha512 is is' is'' h = rw is refl
+  by_tests false true sha512 is is' is'' h = rw (is, is') refl
+  by_tests false false true is is' is'' h = rw (is, is', is'') refl
+  by_tests false false false is is' is'' h = argon2_named (rw (is, is', is'') at h)
 
 pub takes_records : TakesRecordsHere
 takes_records r salt n h =
-    by_tests r salt n (same_text r.algorithm (codes "scrypt")) (same_text r.algorithm (codes "pbkdf2-sha256")) refl refl h
+    by_tests r salt n (same_text r.algorithm (codes "scrypt")) (same_text r.algorithm (codes "pbkdf2-sha256"))
+    (same_text r.algorithm (codes "pbkdf2-sha512")) refl refl refl h

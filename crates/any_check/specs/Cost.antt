@@ -23,7 +23,7 @@ use Rattle.any_check.specs.declared.error.AnyError.{AnyError}
 use Rattle.any_check.specs.declared.error.AnyError.TheVariants.{Stored, TooCostly}
 use Rattle.any_check.specs.declared.scheme.AnyScheme.{AnyScheme}
 use Rattle.any_check.specs.declared.scheme.AnyScheme.TheVariants.{Bcrypt, Md5Crypt, Record, Scrypt, ShaCrypt, Yescrypt}
-use Rattle.any_check.specs.Table.{any_may_lack, any_verdict, text_scheme}
+use Rattle.any_check.specs.Table.{any_may_lack, any_verdict, is_pbkdf2, text_scheme}
 
 -- ---- records, by their identifier
 
@@ -44,11 +44,11 @@ argon2_record_costs limits r =
     is_above limits.argon2_memory (number r (codes "m")) || is_above limits.argon2_passes (number r (codes "t"))
     || is_above limits.argon2_lanes (number r (codes "p"))
 
--- by the identifier: scrypt's, the rounds `i` of PBKDF2 (RFC 8018), else Argon2's
+-- by the identifier: scrypt's, the rounds `i` of PBKDF2 (RFC 8018) with either hash function, else Argon2's
 abbrev pub record_costs : CostLimits → PasswordHash → Bool
 record_costs limits r =
     if same_text r.algorithm (codes "scrypt") then scrypt_record_costs limits r
-    else if same_text r.algorithm (codes "pbkdf2-sha256") then is_above limits.pbkdf2_rounds (number r (codes "i"))
+    else if is_pbkdf2 r.algorithm then is_above limits.pbkdf2_rounds (number r (codes "i"))
     else argon2_record_costs limits r
 
 -- ---- texts that are valid and cost more

@@ -3,24 +3,36 @@ use Rattle.std.specs.Prelude.{ℕ, Bool, true, false, List, codes}
 use Rattle.phc.specs.declared.password_hash.PasswordHash.{PasswordHash}
 use Rattle.pbkdf2_plain.specs.Either.{Accepted, Needs, Tag, either_accepted, either_needs, either_tag}
 use Rattle.pbkdf2_plain.specs.Profile.{pbkdf2_accepts, pbkdf2_key}
+use Rattle.pbkdf2_plain.specs.declared.profile.Pbkdf2Hash.TheVariants.{Sha256, Sha512}
 use Rattle.scrypt_plain.specs.Profile as scrypt
 use Rattle.argon2_plain.specs.Profile.{argon2_accepts, argon2_key}
 
--- which records PBKDF2 or Argon2 takes, by the identifier
+-- which records PBKDF2 with SHA-512 or Argon2 takes, by the identifier
+abbrev pub sha512_or_argon2_accepted : Accepted
+sha512_or_argon2_accepted =
+    either_accepted (codes "pbkdf2-sha512") (λ parsed salt n. pbkdf2_accepts Sha512 parsed n)
+    (λ parsed salt n. argon2_accepts parsed n)
+
+-- which records PBKDF2 with either hash function or Argon2 takes
 abbrev pub pbkdf2_or_argon2_accepted : Accepted
 pbkdf2_or_argon2_accepted =
-    either_accepted (codes "pbkdf2-sha256") (λ parsed salt n. pbkdf2_accepts parsed n)
-    (λ parsed salt n. argon2_accepts parsed n)
+    either_accepted (codes "pbkdf2-sha256") (λ parsed salt n. pbkdf2_accepts Sha256 parsed n) sha512_or_argon2_accepted
 
 -- which records scrypt, PBKDF2 or Argon2 takes
 abbrev pub accepted : Accepted
 accepted = either_accepted (codes "scrypt") scrypt.accepted pbkdf2_or_argon2_accepted
 
--- the key of PBKDF2 or of Argon2
+-- the key of PBKDF2 with SHA-512 or of Argon2
+abbrev pub sha512_or_argon2_tag : Tag
+sha512_or_argon2_tag =
+    either_tag (codes "pbkdf2-sha512") (λ password parsed salt n. pbkdf2_key Sha512 password parsed salt n)
+    (λ password parsed salt n. argon2_key password parsed salt n)
+
+-- the key of PBKDF2 with either hash function or of Argon2
 abbrev pub pbkdf2_or_argon2_tag : Tag
 pbkdf2_or_argon2_tag =
-    either_tag (codes "pbkdf2-sha256") (λ password parsed salt n. pbkdf2_key password parsed salt n)
-    (λ password parsed salt n. argon2_key password parsed salt n)
+    either_tag (codes "pbkdf2-sha256") (λ password parsed salt n. pbkdf2_key Sha256 password parsed salt n)
+    sha512_or_argon2_tag
 
 -- the key of a record
 abbrev pub tag : Tag
@@ -30,4 +42,5 @@ tag = either_tag (codes "scrypt") scrypt.key pbkdf2_or_argon2_tag
 abbrev pub needs_memory : Needs
 needs_memory =
     either_needs (codes "scrypt") (λ parsed. true)
-    (either_needs (codes "pbkdf2-sha256") (λ parsed. false) (λ parsed. true))
+    (either_needs (codes "pbkdf2-sha256") (λ parsed. false)
+    (either_needs (codes "pbkdf2-sha512") (λ parsed. false) (λ parsed. true)))

@@ -28,11 +28,15 @@ use Rattle.any_check.specs.declared.scheme.AnyScheme.TheVariants.{Bcrypt, Md5Cry
 abbrev pub identifier : List ℕ → List ℕ
 identifier stored = (parts stored).id
 
+-- PBKDF2 with HMAC-SHA-256 or HMAC-SHA-512
+abbrev pub is_pbkdf2 : List ℕ → Bool
+is_pbkdf2 id = same_text id (codes "pbkdf2-sha256") || same_text id (codes "pbkdf2-sha512")
+
 -- records in the PHC string format: scrypt, PBKDF2 and Argon2
 abbrev pub is_record : List ℕ → Bool
 is_record id =
-    same_text id (codes "scrypt") || same_text id (codes "pbkdf2-sha256") || same_text id (codes "argon2d")
-    || same_text id (codes "argon2i") || same_text id (codes "argon2id")
+    same_text id (codes "scrypt") || is_pbkdf2 id || same_text id (codes "argon2d") || same_text id (codes "argon2i")
+    || same_text id (codes "argon2id")
 
 -- md5-crypt (crypt(5)), and its twin of Apache's htpasswd
 abbrev pub is_md5 : List ℕ → Bool

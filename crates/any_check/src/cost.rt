@@ -11,6 +11,7 @@ ghost use Rattle.yescrypt_plain.specs.Text.{scrypt_costs, yescrypt_costs};
 ghost use Rattle.any_check.specs.Cost.{argon2_record_costs, bcrypt_costs, is_above, is_costly, phc_costs, record_costs, row_costs, salted_costs};
 ghost use Rattle.any_check.specs.Cost.{scrypt_record_costs, scrypt_text_costs, sha_costs, yescrypt_text_costs};
 
+use crate::scheme::is_pbkdf2;
 use crate::{AnyScheme, scheme_of_text};
 use bcrypt_plain::text_cost;
 use mcf::PasswordHashRef;
@@ -32,7 +33,7 @@ pub struct CostLimits {
     pub yescrypt_r: u32,
     /// `t` of yescrypt (0 to 1,024): so many turns more than the default.
     pub yescrypt_t: u32,
-    /// Rounds `i` of PBKDF2 (1 to 10,000,000).
+    /// Rounds `i` of PBKDF2 with either hash function (1 to 10,000,000).
     pub pbkdf2_rounds: u32,
     /// `ln` of scrypt (1 to 24), of a record or of a text `$7$`: the table takes `128 * r * 2^ln` bytes.
     pub scrypt_ln: u32,
@@ -82,7 +83,7 @@ fn record_costs(limits: &CostLimits, parsed: &PasswordHash) -> bool
     if id == "scrypt" {
         return scrypt_record_costs(limits, parsed);
     }
-    if id == "pbkdf2-sha256" {
+    if is_pbkdf2(id) {
         return is_above(limits.pbkdf2_rounds, parsed, "i");
     }
     argon2_record_costs(limits, parsed)

@@ -6,6 +6,7 @@ ghost use Rattle.line_io.specs.Output.{Puts};
 ghost use Rattle.pieces.specs.FaultCounts.{HasRisen};
 ghost use Rattle.line_program.specs.Outcome.{Outcome};
 ghost use Rattle.stored_check.specs.declared.error.StoredError.TheVariants.{OutOfMemory};
+ghost use Rattle.pbkdf2_plain.specs.declared.profile.Pbkdf2Hash.TheVariants.{Sha256, Sha512};
 ghost use Rattle.any_check.specs.Table.{IsAnyVerdict};
 ghost use Rattle.any_check.specs.Lines.{IsLineAnswer, IsTextAnswer, answer_word, any_line_rules, given_may_lack, given_verdict, has_verdict, is_match, line_answer, line_is_good, line_may_lack, line_output};
 
@@ -13,7 +14,7 @@ use crate::{AnyError, CostLimits, any_word, check_any, check_any_within};
 use argon2_plain::Argon2Kept;
 use line_io::{LINE_MAX, OutputBuffer, Sink, Source};
 use line_program::{Responder, cut_at_last_tab, run_lines};
-use pbkdf2_plain::{EitherKdf, Pbkdf2Plain};
+use pbkdf2_plain::{EitherKdf, Pbkdf2Hash, Pbkdf2Plain};
 use phc::Ident;
 use pieces::text::text_of;
 use scrypt_plain::ScryptKept;
@@ -69,23 +70,37 @@ fn put_word<K: Sink>(out: &mut OutputBuffer, sink: &mut K, answer: &LineAnswer)
     out.put_line(sink, answer.word().as_bytes());
 }
 
-/// scrypt for the identifier `scrypt`, PBKDF2 for `pbkdf2-sha256`, and Argon2 for all others.
-pub type RecordKdf = EitherKdf<ScryptKept, EitherKdf<Pbkdf2Plain, Argon2Kept>>;
+/// scrypt for the identifier `scrypt`, PBKDF2 with SHA-256 for `pbkdf2-sha256` and with SHA-512 for `pbkdf2-sha512`, and
+/// Argon2 for all others.
+pub type RecordKdf = EitherKdf<
+    ScryptKept,
+    EitherKdf<Pbkdf2Plain, EitherKdf<Pbkdf2Plain, Argon2Kept>>,
+>;
 
 /// The derivation of keys for all records that have a verdict. The largest table of scrypt and that of Argon2 so far are
 /// kept until it is dropped.
 pub fn record_kdf(alloc: Global) -> RecordKdf
     ensures first { result.first ≡ codes "scrypt" }
     ensures second { result.b.first ≡ codes "pbkdf2-sha256" }
+    ensures third { result.b.b.first ≡ codes "pbkdf2-sha512" }
+    ensures sha256 { result.b.a.hash ≡ Sha256 }
+    ensures sha512 { result.b.b.a.hash ≡ Sha512 }
 {
+    let sha256 = Pbkdf2Plain {
+        hash: Pbkdf2Hash::Sha256,
+    };
+    let sha512 = Pbkdf2Plain {
+        hash: Pbkdf2Hash::Sha512,
+    };
+    let sha512_or_argon2 = EitherKdf::new(
+        Ident::new_unwrap("pbkdf2-sha512"),
+        sha512,
+        Argon2Kept::new(alloc),
+    );
     EitherKdf::new(
         Ident::new_unwrap("scrypt"),
         ScryptKept::new(alloc),
-        EitherKdf::new(
-            Ident::new_unwrap("pbkdf2-sha256"),
-            Pbkdf2Plain,
-            Argon2Kept::new(alloc),
-        ),
+        EitherKdf::new(Ident::new_unwrap("pbkdf2-sha256"), sha256, sha512_or_argon2),
     )
 }
 
@@ -100,6 +115,9 @@ fn check_given(
 ) -> Result<bool, AnyError>
     requires first { kdf.now.first ≡ codes "scrypt" }
     requires second { kdf.now.b.first ≡ codes "pbkdf2-sha256" }
+    requires third { kdf.now.b.b.first ≡ codes "pbkdf2-sha512" }
+    requires sha256 { kdf.now.b.a.hash ≡ Sha256 }
+    requires sha512 { kdf.now.b.b.a.hash ≡ Sha512 }
     ensures verdict { IsAnyVerdict (given_verdict limits.now password.now stored.now)
         (given_may_lack limits.now password.now stored.now) result }
 {
@@ -118,6 +136,9 @@ pub struct AnyLines {
     pub kept: CryptKept,
     pub ghost first: { kdf.first ≡ codes "scrypt" },
     pub ghost second: { kdf.b.first ≡ codes "pbkdf2-sha256" },
+    pub ghost third: { kdf.b.b.first ≡ codes "pbkdf2-sha512" },
+    pub ghost sha256: { kdf.b.a.hash ≡ Sha256 },
+    pub ghost sha512: { kdf.b.b.a.hash ≡ Sha512 },
 }
 
 impl AnyLines {

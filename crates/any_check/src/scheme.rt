@@ -2,7 +2,7 @@
 
 ghost use Rattle.std.specs.Prelude.{◌≡◌};
 ghost use Rattle.stored_check.specs.Verdict.{named_family};
-ghost use Rattle.any_check.specs.Table.{identifier, is_bcrypt, is_md5, is_record, other_scheme, crypt_scheme, scheme_named, text_scheme};
+ghost use Rattle.any_check.specs.Table.{identifier, is_bcrypt, is_md5, is_pbkdf2, is_record, other_scheme, crypt_scheme, scheme_named, text_scheme};
 
 use pieces::first_piece;
 use sha_crypt::Family;
@@ -20,18 +20,22 @@ pub enum AnyScheme {
     Yescrypt,
     /// scrypt in crypt's own form: the identifier `7`.
     Scrypt,
-    /// A record in the PHC string format: the identifiers `scrypt`, `pbkdf2-sha256`, `argon2d`, `argon2i`, `argon2id`.
+    /// A record in the PHC string format: the identifiers `scrypt`, `pbkdf2-sha256`, `pbkdf2-sha512`, `argon2d`, `argon2i`,
+    /// `argon2id`.
     Record,
+}
+
+/// Whether this is an identifier of PBKDF2's records.
+pub(crate) fn is_pbkdf2(id: &str) -> bool
+    ensures { result ≡ is_pbkdf2 id.now }
+{
+    id == "pbkdf2-sha256" || id == "pbkdf2-sha512"
 }
 
 fn is_record(id: &str) -> bool
     ensures { result ≡ is_record id.now }
 {
-    id == "scrypt"
-        || id == "pbkdf2-sha256"
-        || id == "argon2d"
-        || id == "argon2i"
-        || id == "argon2id"
+    id == "scrypt" || is_pbkdf2(id) || id == "argon2d" || id == "argon2i" || id == "argon2id"
 }
 
 fn is_md5(id: &str) -> bool

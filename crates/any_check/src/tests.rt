@@ -20,7 +20,7 @@ fn word_of(answer: &Result<bool, AnyError>) -> &'static str {
 }
 
 // Texts of the password `secret`.
-const TEXTS: [&str; 15] = [
+const TEXTS: [&str; 16] = [
     "$1$abcdefgh$cHJi5PXp/ki/ktXzqlk6I1",
     "$apr1$abcdefgh$h9FWgUz3n9YxylKLlR5SQ/",
     "$5$abcdefgh$gruCpC7VkOTspMQTTSAR8mtlO9Upms.fwqE5y16JVM.",
@@ -36,10 +36,11 @@ const TEXTS: [&str; 15] = [
     "$y$j75$0123456789ab$kb1fsIrDP1wOa4Q3gNpxZkfwQ3ce8kmPbnemuN65IT2",
     "$y$j6///$./$eG1H3hAdiIw7LAyaeC1wsfq6rJHemsvZ8fPCiI8TWx/",
     "$7$4/....0....SodiumChloride$V4S.p0ArbLXh9bvI9g1ReO/qmFMyvEX4e98XynaDdN9",
+    "$pbkdf2-sha512$i=999$c2FsdHNhbHRzYWx0$GK6ZfhTx3pI28IQ6HYQzaUek5XduggVQ0zhLSF6WB1ROBlCW2ybd4hR7tgTVg/2i//vv5K7hcJGgBedoUEO6ag",
 ];
 
 // Texts without a verdict, and their words.
-const FAULTS: [(&str, &str); 29] = [
+const FAULTS: [(&str, &str); 31] = [
     ("$1$abcdefgh", "md5-format"),
     ("$1$abcdefghi$cHJi5PXp/ki/ktXzqlk6I1", "md5-format"),
     ("$apr1$", "mcf-delimiter"),
@@ -76,6 +77,14 @@ const FAULTS: [(&str, &str); 29] = [
         "kdf",
     ),
     ("$scrypt$ln=4,r=8,p=1$c2FsdHNhbHRzYWx0", "no-hash"),
+    (
+        "$pbkdf2-sha512$i=0$c2FsdHNhbHRzYWx0$GK6ZfhTx3pI28IQ6HYQzaUek5XduggVQ0zhLSF6WB1ROBlCW2ybd4hR7tgTVg/2i//vv5K7hcJGgBedoUEO6ag",
+        "kdf",
+    ),
+    (
+        "$pbkdf2-sha1$i=1000$c2FsdHNhbHRzYWx0$KoeIRlhBTyFrU8q8BApSMIIhObk",
+        "no-scheme",
+    ),
     ("$y$j75$0123456789ab", "yescrypt-format"),
     (
         "$y$/75$0123456789ab$kb1fsIrDP1wOa4Q3gNpxZkfwQ3ce8kmPbnemuN65IT2",
@@ -247,6 +256,13 @@ fn bounds_passed(rt: HostRuntime) {
             },
         ),
         (
+            15,
+            CostLimits {
+                pbkdf2_rounds: 998,
+                ..least()
+            },
+        ),
+        (
             11,
             CostLimits {
                 argon2_memory: 127,
@@ -272,7 +288,7 @@ fn bounds_passed(rt: HostRuntime) {
             let answer = check_any_within(rt.alloc(), &kdf, &kept, &low, "secret", stored);
             if i == number {
                 assert_eq!(rt; word_of(&answer), "too-costly", "{stored}");
-            } else if number != 2 && number != 4 {
+            } else if number != 2 && number != 4 && number != 15 {
                 assert_eq!(rt; word_of(&answer), "match", "{stored}");
             }
         }
@@ -327,10 +343,21 @@ fn schemes(rt: HostRuntime) {
         ("$7$", AnyScheme::Scrypt),
         ("$scrypt$x", AnyScheme::Record),
         ("$argon2i", AnyScheme::Record),
+        ("$pbkdf2-sha512$x", AnyScheme::Record),
     ] {
         assert_eq!(rt; scheme_of_text(stored), Some(scheme), "{stored}");
     }
-    for stored in ["", "$", "1", "$$1", "$55$x", "$argon2$x", "$gy$x", "!"] {
+    for stored in [
+        "",
+        "$",
+        "1",
+        "$$1",
+        "$55$x",
+        "$argon2$x",
+        "$pbkdf2$x",
+        "$gy$x",
+        "!",
+    ] {
         assert_eq!(rt; scheme_of_text(stored), None, "{stored}");
     }
 }
@@ -404,13 +431,14 @@ fn long_lines(rt: HostRuntime) {
 }
 
 // Valid texts of which each digest takes a second and more.
-const DEAR: [&str; 7] = [
+const DEAR: [&str; 8] = [
     "$5$rounds=999999999$abcdefgh$gruCpC7VkOTspMQTTSAR8mtlO9Upms.fwqE5y16JVM.",
     "$2b$31$abcdefghijklmnopqrstuu2r9OfJnfCsdneAXAGHnS4UpFFP8WIrW",
     "$y$jFT$0123456789ab$kb1fsIrDP1wOa4Q3gNpxZkfwQ3ce8kmPbnemuN65IT2",
     "$7$EU..../....SodiumChloride$V4S.p0ArbLXh9bvI9g1ReO/qmFMyvEX4e98XynaDdN9",
     "$scrypt$ln=17,r=8,p=1024$c2FsdHNhbHRzYWx0$09/untC+3Bg44eiJQ8bqhTXgE2ali+ykLaojkJZlF9U",
     "$pbkdf2-sha256$i=10000000,l=32$c2FsdHNhbHRzYWx0$sVaWem31qy3rw+Ldi3plA/XzhMSNi9/XHnnD1Ytj05o",
+    "$pbkdf2-sha512$i=10000000$c2FsdHNhbHRzYWx0$GK6ZfhTx3pI28IQ6HYQzaUek5XduggVQ0zhLSF6WB1ROBlCW2ybd4hR7tgTVg/2i//vv5K7hcJGgBedoUEO6ag",
     "$argon2id$v=19$m=2097152,t=1,p=1$c2FsdHNhbHRzYWx0$Sm3MnLdCFk0Af+croKgebRoqqmhbKd88iiW3yUOXn78",
 ];
 

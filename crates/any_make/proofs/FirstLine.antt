@@ -1,9 +1,9 @@
 -- The first line of a source, and what is written for it.
-use Rattle.std.proofs.Common.{◌≡◌, ℕ, ◌-◌, ◌^◌, ◌<◌, ◌≤◌, List, [], ◌∷◌, ◌++◌, length, take, drop, refl, sym, ap, ◌∙◌, arith}
+use Rattle.std.proofs.Common.{◌≡◌, ℕ, ◌+◌, ◌-◌, ◌^◌, ◌<◌, ◌≤◌, min, List, [], ◌∷◌, ◌++◌, length, take, drop, refl, sym, ap, ◌∙◌, arith}
 use Rattle.std.proofs.Common.{append-nil, append_assoc, take-append-drop, subst, inl, inr, Some, None, Option}
 use Rattle.std.specs.Io.KnownBytes.{Appends}
 use Rattle.std.proofs.lemmas.Bool.{false≢true}
-use Rattle.std.proofs.lemmas.List.{length-take-le}
+use Rattle.std.proofs.lemmas.List.{length-append, length-take, length-take-le}
 use Rattle.line_io.specs.Buffer as buffer
 use Rattle.line_io.specs.Devices.{WhereTold}
 use Rattle.line_io.specs.Runs.{IsCall, IsNew}
@@ -25,12 +25,27 @@ found : (held bytes left line pending : List ℕ) → held ≡ bytes ++ left →
 found held bytes left line pending is cut =
     is ∙ ap (λ (b : List ℕ). b ++ left) cut ∙ append_assoc line (10 ∷ pending) left
 
+-- a buffer holds few bytes
+pending_few : (b : LineBuffer) → length (buffer.pending b) ≤ 16384
+unfolding buffer.pending
+pending_few b =
+    let size = length-take (b.end - b.start) (drop b.start b.bytes) in
+    let most = b.within in
+    omega (arith, size, most)
+
+-- what was taken with a line that its line feed ends
+few_with : (bytes line pending : List ℕ) → bytes ≡ line ++ 10 ∷ pending → length pending ≤ 16384
+    → length bytes ≤ length line + 1 + 16384
+few_with bytes line pending cut few =
+    omega (arith, ap length cut, length-append line (10 ∷ pending), few)
+
 module _ (held left : List ℕ) (before now : LineBuffer) (new : IsNew (2 ^ 40) before) where
   open_end : buffer.KnowsEnd before (Some held)
   open_end = λ ended. absurd (false≢true (sym new.unended ∙ ended))
 
   -- the line of a whole answer
-  first_line : (n : ℕ) → IsCall (line.Whole n) (Some held) (Some left) before now → IsFirstLine held (buffer.line now)
+  first_line : (n : ℕ) (call : IsCall (line.Whole n) (Some held) (Some left) before now)
+      → IsFirstLine held call.takes.bytes (buffer.line now)
   first_line n call =
       let takes = call.takes in
       let bytes = takes.bytes in
@@ -46,6 +61,10 @@ module _ (held left : List ℕ) (before now : LineBuffer) (new : IsNew (2 ^ 40) 
                 ∙ ap (λ (b : List ℕ). buffer.line now ++ b) (call.at_end open_end last.2) ∙ append-nil (buffer.line now),
             last.1,
           )
+        ],
+        elim answered.3 [
+          | inl feed ↦ few_with bytes (buffer.line now) (buffer.pending now) feed.0 (pending_few now)
+          | inr last ↦ omega (arith, ap length last.0)
         ],
       )
 
@@ -95,11 +114,11 @@ module _ (held left : List ℕ) (before now : LineBuffer) (new : IsNew (2 ^ 40) 
 
 -- ---- outcomes
 
-module _ (c : MakeCost) (salt held : List ℕ) where
+module _ (c : MakeCost) (salt held taken : List ℕ) where
   abbrev Ends : MakeEnd → List ℕ → Type 0
-  Ends end added = MakeOutcome c salt end held added
+  Ends end added = MakeOutcome c salt end held taken added
 
-  of_text : (end : MakeEnd) (l : List ℕ) (written written_now : Option (List ℕ)) → IsFirstLine held l
+  of_text : (end : MakeEnd) (l : List ℕ) (written written_now : Option (List ℕ)) → IsFirstLine held taken l
       → WritesText c l salt written written_now end → (added : List ℕ) × Appends written written_now added × Ends end added
   of_text Made l written written_now first h = (
     h.0 ++ 10 ∷ [],
@@ -182,11 +201,12 @@ appends_none written = sym (append-nil written)
 module _ (c : MakeCost) (salt : List ℕ) (before now : LineBuffer) (new : IsNew (2 ^ 40) before) where
   abbrev Told : Option (List ℕ) → Option (List ℕ) → Option (List ℕ) → Option (List ℕ) → MakeEnd → Type 0
   Told left left_now written written_now end =
-      WhereTold left left_now written written_now (λ held taken added. MakeOutcome c salt end held added)
+      WhereTold left left_now written written_now (λ held taken added. MakeOutcome c salt end held taken added)
 
   -- a call that gives no line: nothing is written
   nothing_written : (left left_now written : Option (List ℕ)) (answer : Line) (end : MakeEnd)
-      → ((held rest : List ℕ) → IsCall answer (Some held) (Some rest) before now → MakeOutcome c salt end held [])
+      → ((held rest : List ℕ) (call : IsCall answer (Some held) (Some rest) before now)
+      → MakeOutcome c salt end held call.takes.bytes [])
       → IsCall answer left left_now before now → Told left left_now written written end
   nothing_written None left_now written answer end ends call = tt
   nothing_written (Some held) left_now None answer end ends call = tt
@@ -197,25 +217,25 @@ module _ (c : MakeCost) (salt : List ℕ) (before now : LineBuffer) (new : IsNew
   pub told_read : (left left_now written : Option (List ℕ)) → IsCall line.Failed left left_now before now
       → Told left left_now written written ReadFault
   told_read left left_now written call =
-      nothing_written left left_now written line.Failed ReadFault (λ held rest is. none_read c salt held) call
+      nothing_written left left_now written line.Failed ReadFault (λ held rest is. none_read c salt held is.takes.bytes) call
 
   pub told_none : (left left_now written : Option (List ℕ)) → IsCall line.End left left_now before now
       → Told left left_now written written NoLine
   told_none left left_now written call =
       nothing_written left left_now written line.End NoLine
-      (λ held rest is. none_there c salt held (no_line held rest before now new is)) call
+      (λ held rest is. none_there c salt held is.takes.bytes (no_line held rest before now new is)) call
 
   pub told_long : (left left_now written : Option (List ℕ)) → IsCall line.TooLong left left_now before now
       → Told left left_now written written LongLine
   told_long left left_now written call =
       nothing_written left left_now written line.TooLong LongLine
-      (λ held rest is. too_long c salt held (long_line held rest before now new is)) call
+      (λ held rest is. too_long c salt held is.takes.bytes (long_line held rest before now new is)) call
 
   pub told_budget : (left left_now written : Option (List ℕ)) → IsCall line.Budget left left_now before now
       → Told left left_now written written LongLine
   told_budget left left_now written call =
       nothing_written left left_now written line.Budget LongLine
-      (λ held rest is. too_long c salt held (budget_line held rest before now new is)) call
+      (λ held rest is. too_long c salt held is.takes.bytes (budget_line held rest before now new is)) call
 
   pub told_text : (n : ℕ) (left left_now written written_now : Option (List ℕ)) (end : MakeEnd)
       → IsCall (line.Whole n) left left_now before now
@@ -224,5 +244,6 @@ module _ (c : MakeCost) (salt : List ℕ) (before now : LineBuffer) (new : IsNew
   told_text n (Some held) left_now None written_now end call h = tt
   told_text n (Some held) None (Some old) written_now end call h = absurd call.takes.consumed
   told_text n (Some held) (Some rest) (Some old) written_now end call h =
-      let text = of_text c salt held end (buffer.line now) (Some old) written_now (first_line held rest before now new n call) h in
+      let first = first_line held rest before now new n call in
+      let text = of_text c salt held call.takes.bytes end (buffer.line now) (Some old) written_now first h in
       (call.takes.bytes, text.0, call.takes.consumed, text.1, text.2)

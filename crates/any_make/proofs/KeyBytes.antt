@@ -1,5 +1,5 @@
 -- The keys of Argon2 and PBKDF2 are bytes, 32 of them; scrypt's crate says it of its own.
-use Rattle.std.proofs.Common.{◌≡◌, ℕ, zero, suc, ◌+◌, ◌/◌, ◌^◌, ◌<◌, List, [], ◌∷◌, ◌++◌, length, slice_index, arith}
+use Rattle.std.proofs.Common.{◌≡◌, ℕ, zero, suc, ◌+◌, ◌^◌, ◌<◌, List, [], ◌∷◌, ◌++◌, length, slice_index, arith}
 use Rattle.std.specs.Prelude.{replicate}
 use Rattle.std.specs.Int.{w32, w64, byte_at, bytes_high_first, bytes_low_first, to_be_bytes, to_le_bytes}
 use Rattle.std.proofs.lemmas.Nat.{xor_of_8}
@@ -10,7 +10,7 @@ use Rattle.blake2b.specs.Blake2b.{blake2b}
 use Rattle.blake2b.specs.Words.{bytes}
 use Rattle.argon2_plain.specs.Argon2.{tag_from, variable_hash}
 use Rattle.argon2_plain.specs.Lengths.{length-tag_from}
-use Rattle.pbkdf2_plain.specs.Lengths.{length-pbkdf2}
+use Rattle.pbkdf2_plain.specs.Lengths.{length-pbkdf2_sha256}
 use Rattle.pbkdf2_plain.specs.Pbkdf2.{output_block, output_blocks, pbkdf2, u}
 use Rattle.scrypt_plain.specs.Bytes.{xor_bytes}
 use Rattle.scrypt_plain.specs.Hmac.{hmac}
@@ -81,31 +81,30 @@ zeros_below : (n : ℕ) → EachBelow 256 (replicate n 0)
 zeros_below zero = none_below
 zeros_below (suc n) = elim [ zero ↦ omega arith | suc i ↦ zeros_below n i ]
 
-more_below : (p s : List ℕ) (i j : ℕ) → EachBelow 256 (u p s i (suc j))
+more_below : (p s : List ℕ) (i j : ℕ) → EachBelow 256 (u hmac p s i (suc j))
 unfolding u
-more_below p s i j = code_below p (u p s i j)
+more_below p s i j = code_below p (u hmac p s i j)
 
-block_below : (p s : List ℕ) (i c : ℕ) → EachBelow 256 (output_block p s i c)
+block_below : (p s : List ℕ) (i c : ℕ) → EachBelow 256 (output_block hmac 32 p s i c)
 unfolding output_block
 block_below p s i zero = zeros_below 32
 block_below p s i (suc c) =
-    xor_below (output_block p s i c) (u p s i (suc c)) (block_below p s i c) (more_below p s i c)
+    xor_below (output_block hmac 32 p s i c) (u hmac p s i (suc c)) (block_below p s i c) (more_below p s i c)
 
-blocks_below : (p s : List ℕ) (c n : ℕ) → EachBelow 256 (output_blocks p s c n)
+blocks_below : (p s : List ℕ) (c n : ℕ) → EachBelow 256 (output_blocks hmac 32 p s c n)
 unfolding output_blocks
 blocks_below p s c zero = none_below
 blocks_below p s c (suc n) =
-    below_append 256 (output_blocks p s c n) (output_block p s (n + 1) c) (blocks_below p s c n)
+    below_append 256 (output_blocks hmac 32 p s c n) (output_block hmac 32 p s (n + 1) c) (blocks_below p s c n)
     (block_below p s (n + 1) c)
 
 pub pbkdf2_below : (rounds : ℕ) (password salt : List ℕ) → EachBelow 256 (pbkdf2_key rounds password salt)
 unfolding pbkdf2
 pbkdf2_below rounds password salt =
-    below-take 256 32 (output_blocks password salt rounds ((32 + 31) / 32)) (omega arith)
-    (blocks_below password salt rounds ((32 + 31) / 32))
+    below-take 256 32 (output_blocks hmac 32 password salt rounds 1) (omega arith) (blocks_below password salt rounds 1)
 
 pub pbkdf2_long : (rounds : ℕ) (password salt : List ℕ) → length (pbkdf2_key rounds password salt) ≡ 32
-pbkdf2_long rounds password salt = length-pbkdf2 password salt rounds 32
+pbkdf2_long rounds password salt = length-pbkdf2_sha256 password salt rounds 32
 
 -- ---- scrypt
 

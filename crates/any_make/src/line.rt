@@ -61,9 +61,9 @@ fn write_text<K: Sink>(
 
 /// Reads the first line of a source, a password, and writes its text for a cost and a salt, and a line feed.
 ///
-/// The line ends with a line feed, which is no part of it, or with the source; no other line is read, though bytes behind the
-/// first may be taken from the source. The salt has [`MakeScheme::salt_length`](crate::MakeScheme::salt_length) bytes. Nothing
-/// is written before the text is made.
+/// The line ends with a line feed, which is no part of it, or with the source; no other line is read, though at most 16,384
+/// bytes behind the first may be taken from the source. The salt has
+/// [`MakeScheme::salt_length`](crate::MakeScheme::salt_length) bytes. Nothing is written before the text is made.
 pub fn run_make<S: Source, K: Sink>(
     alloc: Global,
     cost: MakeCost,
@@ -74,7 +74,7 @@ pub fn run_make<S: Source, K: Sink>(
     ensures read_fault { result ≡ MakeEnd.ReadFault → HasRisen (S.faults source.old) (S.faults source.new) }
     ensures write_fault { result ≡ MakeEnd.WriteFault → HasRisen (K.faults sink.old) (K.faults sink.new) }
     ensures outcome { WhereTold (S.left source.old) (S.left source.new) (K.written sink.old) (K.written sink.new)
-        (λ held taken added. MakeOutcome cost salt.now result held added) }
+        (λ held taken added. MakeOutcome cost salt.now result held taken added) }
 {
     let mut lines = LineBuffer::new(INPUT_MAX);
     match lines.next_line(source) {

@@ -13,7 +13,7 @@ use crate::Argon2Cost;
 use crate::texts::TEXT_MAX;
 use argon2_plain::argon2;
 use base64ct::{Base64Unpadded, Encoding};
-use pbkdf2_plain::pbkdf2;
+use pbkdf2_plain::pbkdf2_sha256;
 use pieces::short_bytes::ShortBytes;
 use scrypt_plain::scrypt;
 use std::alloc::{AllocError, Global};
@@ -140,6 +140,6 @@ pub(crate) fn pbkdf2_text(rounds: u32, password: &[u8], salt: &[u8]) -> ShortByt
     ensures { result ≡ record_text (pbkdf2_record rounds salt.now (pbkdf2_key rounds password.now salt.now)) }
 {
     let mut key = [0; 32];
-    pbkdf2(password, salt, rounds, &mut key);
+    pbkdf2_sha256(password, salt, rounds, &mut key);
     with_fields(&pbkdf2_front(rounds), salt, &key)
 }

@@ -1,6 +1,6 @@
 -- What is owed for a line of a survey, by its cases.
 use Rattle.std.proofs.Common.{◌≡◌, ℕ, true, false, List, [], length, refl, ap}
-use Rattle.std.specs.Prelude.{◌&&◌, nat_lt}
+use Rattle.std.specs.Prelude.{nat_lt}
 use Rattle.std.specs.Str.{is_utf8}
 use Rattle.user_lines.specs.Fields.{has_user, text_of_line, user_of}
 use Rattle.any_survey.specs.Judgements.{judged}

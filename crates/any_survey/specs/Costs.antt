@@ -1,5 +1,5 @@
 -- What a stored text is, and what it asks for.
-use Rattle.std.specs.Prelude.{ℕ, Bool, List, length, Option, Some, None, Result, Ok, Err, is_ok, unwrap_or, if◌then◌else◌, codes}
+use Rattle.std.specs.Prelude.{ℕ, List, length, Option, Some, None, Result, Ok, Err, is_ok, unwrap_or, if◌then◌else◌, codes}
 use Rattle.mcf.specs.Grammar.{mcf}
 use Rattle.phc.specs.Record.{phc_text}
 use Rattle.phc.specs.declared.error.Error as phc_error
@@ -18,12 +18,12 @@ use Rattle.yescrypt_plain.specs.declared.error.TextFault.{TextFault}
 use Rattle.yescrypt_plain.specs.declared.params.ScryptParams.{ScryptParams}
 use Rattle.yescrypt_plain.specs.declared.params.YescryptParams.{YescryptParams}
 use Rattle.any_check.specs.Records.{accepted}
-use Rattle.any_check.specs.Table.{text_scheme}
+use Rattle.any_check.specs.Table.{is_pbkdf2, text_scheme}
 use Rattle.any_check.specs.declared.scheme.AnyScheme.{AnyScheme}
 use Rattle.any_check.specs.declared.scheme.AnyScheme.TheVariants as of
 use Rattle.any_survey.specs.declared.costs.Scheme.{Scheme}
 use Rattle.any_survey.specs.declared.costs.Scheme.TheVariants.{Md5Crypt, Sha256Crypt, Sha512Crypt, Bcrypt, Yescrypt}
-use Rattle.any_survey.specs.declared.costs.Scheme.TheVariants.{ScryptCrypt, Scrypt, Pbkdf2, Argon2d, Argon2i, Argon2id}
+use Rattle.any_survey.specs.declared.costs.Scheme.TheVariants.{ScryptCrypt, Scrypt, Pbkdf2Sha256, Pbkdf2Sha512, Argon2d, Argon2i, Argon2id}
 use Rattle.any_survey.specs.declared.costs.TextCosts.{TextCosts}
 use Rattle.any_survey.specs.declared.costs.TextKind.{TextKind}
 use Rattle.any_survey.specs.declared.costs.TextKind.TheVariants.{NoScheme, Invalid, Costs}
@@ -37,7 +37,8 @@ scheme_name Bcrypt = codes "bcrypt"
 scheme_name Yescrypt = codes "yescrypt"
 scheme_name ScryptCrypt = codes "scrypt-crypt"
 scheme_name Scrypt = codes "scrypt"
-scheme_name Pbkdf2 = codes "pbkdf2-sha256"
+scheme_name Pbkdf2Sha256 = codes "pbkdf2-sha256"
+scheme_name Pbkdf2Sha512 = codes "pbkdf2-sha512"
 scheme_name Argon2d = codes "argon2d"
 scheme_name Argon2i = codes "argon2i"
 scheme_name Argon2id = codes "argon2id"
@@ -55,6 +56,10 @@ argon2_scheme id =
     if same_text id (codes "argon2d") then Argon2d
     else if same_text id (codes "argon2i") then Argon2i else Argon2id
 
+-- the hash function of PBKDF2 that an identifier names
+abbrev pub pbkdf2_scheme : List ℕ → Scheme
+pbkdf2_scheme id = if same_text id (codes "pbkdf2-sha256") then Pbkdf2Sha256 else Pbkdf2Sha512
+
 -- a number that a record names
 abbrev pub named : PasswordHash → List ℕ → ℕ
 named parsed name = unwrap_or (number parsed name) 0
@@ -68,8 +73,8 @@ record_costs parsed =
       second = named parsed (codes "r");
       third = named parsed (codes "p");
     }
-    else if same_text parsed.algorithm (codes "pbkdf2-sha256") then record {
-      scheme = Pbkdf2;
+    else if is_pbkdf2 parsed.algorithm then record {
+      scheme = pbkdf2_scheme parsed.algorithm;
       first = named parsed (codes "i");
       second = 0;
       third = 0;

@@ -1,12 +1,12 @@
 -- The judgement on a stored text, and what is written of it.
-use Rattle.std.specs.Prelude.{ℕ, Bool, true, false, ◌==◌, List, [], ◌∷◌, ◌++◌, length, nat_lt, codes, decimal}
+use Rattle.std.specs.Prelude.{ℕ, ◌==◌, List, ◌++◌, length, nat_lt, codes, decimal}
 use Rattle.std.specs.Prelude.{if◌then◌else◌}
 use Rattle.std.specs.Str.{is_utf8}
 use Rattle.user_lines.specs.Fields.{is_locked}
 use Rattle.any_survey.specs.Costs.{scheme_name, text_kind}
 use Rattle.any_survey.specs.declared.costs.Scheme.{Scheme}
 use Rattle.any_survey.specs.declared.costs.Scheme.TheVariants.{Md5Crypt, Sha256Crypt, Sha512Crypt, Bcrypt, Yescrypt}
-use Rattle.any_survey.specs.declared.costs.Scheme.TheVariants.{ScryptCrypt, Scrypt, Pbkdf2, Argon2d, Argon2i, Argon2id}
+use Rattle.any_survey.specs.declared.costs.Scheme.TheVariants.{ScryptCrypt, Scrypt, Pbkdf2Sha256, Pbkdf2Sha512, Argon2d, Argon2i, Argon2id}
 use Rattle.any_survey.specs.declared.costs.TextCosts.{TextCosts}
 use Rattle.any_survey.specs.declared.costs.TextKind.{TextKind}
 use Rattle.any_survey.specs.declared.costs.TextKind.TheVariants as of
@@ -25,7 +25,8 @@ least_of least Bcrypt = least.bcrypt_cost
 least_of least Yescrypt = least.yescrypt_ln
 least_of least ScryptCrypt = least.scrypt_ln
 least_of least Scrypt = least.scrypt_ln
-least_of least Pbkdf2 = least.pbkdf2_rounds
+least_of least Pbkdf2Sha256 = least.pbkdf2_rounds
+least_of least Pbkdf2Sha512 = least.pbkdf2_sha512_rounds
 least_of least Argon2d = least.argon2_memory
 least_of least Argon2i = least.argon2_memory
 least_of least Argon2id = least.argon2_memory
@@ -65,7 +66,8 @@ scheme_costs Bcrypt costs = one (codes "cost=") costs
 scheme_costs Yescrypt costs = three (codes "ln=") (codes ",r=") (codes ",t=") costs
 scheme_costs ScryptCrypt costs = three (codes "ln=") (codes ",r=") (codes ",p=") costs
 scheme_costs Scrypt costs = three (codes "ln=") (codes ",r=") (codes ",p=") costs
-scheme_costs Pbkdf2 costs = one (codes "rounds=") costs
+scheme_costs Pbkdf2Sha256 costs = one (codes "rounds=") costs
+scheme_costs Pbkdf2Sha512 costs = one (codes "rounds=") costs
 scheme_costs Argon2d costs = three (codes "m=") (codes ",t=") (codes ",p=") costs
 scheme_costs Argon2i costs = three (codes "m=") (codes ",t=") (codes ",p=") costs
 scheme_costs Argon2id costs = three (codes "m=") (codes ",t=") (codes ",p=") costs
@@ -79,7 +81,8 @@ weakness Bcrypt costs = one (codes "weak: cost ") costs
 weakness Yescrypt costs = one (codes "weak: ln ") costs
 weakness ScryptCrypt costs = one (codes "weak: ln ") costs
 weakness Scrypt costs = one (codes "weak: ln ") costs
-weakness Pbkdf2 costs = one (codes "weak: ") costs ++ codes " rounds"
+weakness Pbkdf2Sha256 costs = one (codes "weak: ") costs ++ codes " rounds"
+weakness Pbkdf2Sha512 costs = one (codes "weak: ") costs ++ codes " rounds"
 weakness Argon2d costs = one (codes "weak: m ") costs
 weakness Argon2i costs = one (codes "weak: m ") costs
 weakness Argon2id costs = one (codes "weak: m ") costs

@@ -9,7 +9,7 @@ use Rattle.user_lines.specs.Fields.{has_user, text_of_line, user_of}
 use Rattle.any_survey.specs.Judgements.{cost_cell, judged, judgement_cell, scheme_cell}
 use Rattle.any_survey.specs.declared.costs.Scheme.{Scheme}
 use Rattle.any_survey.specs.declared.costs.Scheme.TheVariants.{Md5Crypt, Sha256Crypt, Sha512Crypt, Bcrypt, Yescrypt}
-use Rattle.any_survey.specs.declared.costs.Scheme.TheVariants.{ScryptCrypt, Scrypt, Pbkdf2, Argon2d, Argon2i, Argon2id}
+use Rattle.any_survey.specs.declared.costs.Scheme.TheVariants.{ScryptCrypt, Scrypt, Pbkdf2Sha256, Pbkdf2Sha512, Argon2d, Argon2i, Argon2id}
 use Rattle.any_survey.specs.declared.judgement.Judgement.{Judgement}
 use Rattle.any_survey.specs.declared.judgement.Judgement.TheVariants.{BadLine, Empty, Invalid, Locked, NoScheme, Strong, TooLong, Weak}
 use Rattle.any_survey.specs.declared.judgement.LeastCosts.{LeastCosts}
@@ -93,10 +93,11 @@ scheme_index Bcrypt = 3
 scheme_index Yescrypt = 4
 scheme_index ScryptCrypt = 5
 scheme_index Scrypt = 6
-scheme_index Pbkdf2 = 7
-scheme_index Argon2d = 8
-scheme_index Argon2i = 9
-scheme_index Argon2id = 10
+scheme_index Pbkdf2Sha256 = 7
+scheme_index Pbkdf2Sha512 = 8
+scheme_index Argon2d = 9
+scheme_index Argon2i = 10
+scheme_index Argon2id = 11
 
 -- the name of a kind
 abbrev pub kind_name : ℕ → List ℕ
@@ -117,29 +118,31 @@ kind_name k =
     else if k == 13 then codes "scrypt weak"
     else if k == 14 then codes "pbkdf2-sha256 ok"
     else if k == 15 then codes "pbkdf2-sha256 weak"
-    else if k == 16 then codes "argon2d ok"
-    else if k == 17 then codes "argon2d weak"
-    else if k == 18 then codes "argon2i ok"
-    else if k == 19 then codes "argon2i weak"
-    else if k == 20 then codes "argon2id ok"
-    else if k == 21 then codes "argon2id weak"
-    else if k == 22 then codes "empty"
-    else if k == 23 then codes "locked"
-    else if k == 24 then codes "no scheme"
-    else if k == 25 then codes "invalid"
-    else if k == 26 then codes "badline"
+    else if k == 16 then codes "pbkdf2-sha512 ok"
+    else if k == 17 then codes "pbkdf2-sha512 weak"
+    else if k == 18 then codes "argon2d ok"
+    else if k == 19 then codes "argon2d weak"
+    else if k == 20 then codes "argon2i ok"
+    else if k == 21 then codes "argon2i weak"
+    else if k == 22 then codes "argon2id ok"
+    else if k == 23 then codes "argon2id weak"
+    else if k == 24 then codes "empty"
+    else if k == 25 then codes "locked"
+    else if k == 26 then codes "no scheme"
+    else if k == 27 then codes "invalid"
+    else if k == 28 then codes "badline"
     else codes "toolong"
 
 -- the kind of a judgement
 abbrev pub kind_index : Judgement → ℕ
 kind_index (Strong costs) = 2 * scheme_index costs.scheme
 kind_index (Weak costs) = 2 * scheme_index costs.scheme + 1
-kind_index Empty = 22
-kind_index Locked = 23
-kind_index NoScheme = 24
-kind_index Invalid = 25
-kind_index BadLine = 26
-kind_index TooLong = 27
+kind_index Empty = 24
+kind_index Locked = 25
+kind_index NoScheme = 26
+kind_index Invalid = 27
+kind_index BadLine = 28
+kind_index TooLong = 29
 
 -- the counts with one more of a judgement
 abbrev pub counted : List ℕ → Judgement → List ℕ
@@ -158,6 +161,6 @@ totals counts (suc n) = totals counts n ++ total_row counts n
 
 -- what is written behind the rows: an empty line and the counts, where the form is for people
 abbrev pub ending_text : Format → List ℕ → List ℕ
-ending_text Tabs counts = 10 ∷ totals counts 28
+ending_text Tabs counts = 10 ∷ totals counts 30
 ending_text Csv counts = []
 ending_text Json counts = []

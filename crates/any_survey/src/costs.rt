@@ -2,19 +2,21 @@
 
 ghost use Rattle.std.specs.Prelude.{◌≡◌, ◌≤◌, is_ok, length, unwrap_or};
 ghost use Rattle.any_check.specs.Records.{accepted};
+ghost use Rattle.any_check.specs.Table.{is_pbkdf2};
 ghost use Rattle.bcrypt_plain.specs.Text.{text_cost};
 ghost use Rattle.mcf.specs.Grammar.{mcf};
+ghost use Rattle.pbkdf2_plain.specs.Profile.{pbkdf2_accepts};
 ghost use Rattle.phc.specs.Record.{phc_text};
 ghost use Rattle.scrypt_plain.specs.Profile.{number};
 ghost use Rattle.sha_crypt.specs.Records.{record_of};
 ghost use Rattle.yescrypt_plain.specs.Text.{scrypt_costs, yescrypt_costs};
-ghost use Rattle.any_survey.specs.Costs.{argon2_scheme, bcrypt_kind, family_scheme, md5_kind, phc_kind, record_costs, row_kind, salted_kind, scheme_name, scrypt_kind, sha_kind, text_kind, yescrypt_kind};
+ghost use Rattle.any_survey.specs.Costs.{argon2_scheme, bcrypt_kind, family_scheme, md5_kind, pbkdf2_scheme, phc_kind, record_costs, row_kind, salted_kind, scheme_name, scrypt_kind, sha_kind, text_kind, yescrypt_kind};
 
 use any_check::{AnyScheme, scheme_of_text};
 use argon2_plain::Argon2Plain;
 use bcrypt_plain::text_cost;
 use mcf::PasswordHashRef;
-use pbkdf2_plain::Pbkdf2Plain;
+use pbkdf2_plain::{Pbkdf2Hash, Pbkdf2Plain};
 use phc::PasswordHash;
 use scrypt_plain::ScryptPlain;
 use sha_crypt::{Family, ShaRecord};
@@ -34,7 +36,10 @@ pub enum Scheme {
     ScryptCrypt,
     /// scrypt as a record in the PHC string format.
     Scrypt,
-    Pbkdf2,
+    /// PBKDF2 with HMAC-SHA-256.
+    Pbkdf2Sha256,
+    /// PBKDF2 with HMAC-SHA-512.
+    Pbkdf2Sha512,
     Argon2d,
     Argon2i,
     Argon2id,
@@ -75,12 +80,20 @@ impl Scheme {
             Scheme::Yescrypt => "yescrypt",
             Scheme::ScryptCrypt => "scrypt-crypt",
             Scheme::Scrypt => "scrypt",
-            Scheme::Pbkdf2 => "pbkdf2-sha256",
+            Scheme::Pbkdf2Sha256 => "pbkdf2-sha256",
+            Scheme::Pbkdf2Sha512 => "pbkdf2-sha512",
             Scheme::Argon2d => "argon2d",
             Scheme::Argon2i => "argon2i",
             Scheme::Argon2id => "argon2id",
         }
     }
+}
+
+// Whether PBKDF2 with a hash function takes a record.
+fn pbkdf2_accepts(hash: Pbkdf2Hash, parsed: &PasswordHash, salt: &[u8], length: usize) -> bool
+    ensures { result ≡ pbkdf2_accepts hash parsed.now length }
+{
+    Pbkdf2Plain { hash }.accepts(parsed, salt, length)
 }
 
 // Whether the derivation of a record's identifier takes it.
@@ -92,7 +105,10 @@ fn accepts(parsed: &PasswordHash, salt: &[u8], length: usize) -> bool
         return ScryptPlain.accepts(parsed, salt, length);
     }
     if id == "pbkdf2-sha256" {
-        return Pbkdf2Plain.accepts(parsed, salt, length);
+        return pbkdf2_accepts(Pbkdf2Hash::Sha256, parsed, salt, length);
+    }
+    if id == "pbkdf2-sha512" {
+        return pbkdf2_accepts(Pbkdf2Hash::Sha512, parsed, salt, length);
     }
     Argon2Plain.accepts(parsed, salt, length)
 }
@@ -119,6 +135,23 @@ fn argon2_scheme(id: &str) -> Scheme
     }
 }
 
+// Whether an identifier is PBKDF2's, with either hash function.
+fn is_pbkdf2(id: &str) -> bool
+    ensures { result ≡ is_pbkdf2 id.now }
+{
+    id == "pbkdf2-sha256" || id == "pbkdf2-sha512"
+}
+
+fn pbkdf2_scheme(id: &str) -> Scheme
+    ensures { result ≡ pbkdf2_scheme id.now }
+{
+    if id == "pbkdf2-sha256" {
+        Scheme::Pbkdf2Sha256
+    } else {
+        Scheme::Pbkdf2Sha512
+    }
+}
+
 // The costs of a record, by its identifier.
 fn record_costs(parsed: &PasswordHash) -> TextCosts
     ensures { result ≡ record_costs parsed.now }
@@ -132,9 +165,9 @@ fn record_costs(parsed: &PasswordHash) -> TextCosts
             third: number(parsed, "p"),
         };
     }
-    if id == "pbkdf2-sha256" {
+    if is_pbkdf2(id) {
         return TextCosts {
-            scheme: Scheme::Pbkdf2,
+            scheme: pbkdf2_scheme(id),
             first: number(parsed, "i"),
             second: 0,
             third: 0,

@@ -19,8 +19,10 @@ pub struct LeastCosts {
     pub yescrypt_ln: u64,
     /// The binary logarithm of N of scrypt, in a record or in a text `$7$`.
     pub scrypt_ln: u64,
-    /// Rounds of PBKDF2.
+    /// Rounds of PBKDF2 with HMAC-SHA-256.
     pub pbkdf2_rounds: u64,
+    /// Rounds of PBKDF2 with HMAC-SHA-512.
+    pub pbkdf2_sha512_rounds: u64,
     /// `m` of Argon2, the memory in KiB.
     pub argon2_memory: u64,
 }
@@ -58,7 +60,8 @@ fn least_of(least: &LeastCosts, scheme: Scheme) -> u64
         Scheme::Bcrypt => least.bcrypt_cost,
         Scheme::Yescrypt => least.yescrypt_ln,
         Scheme::ScryptCrypt | Scheme::Scrypt => least.scrypt_ln,
-        Scheme::Pbkdf2 => least.pbkdf2_rounds,
+        Scheme::Pbkdf2Sha256 => least.pbkdf2_rounds,
+        Scheme::Pbkdf2Sha512 => least.pbkdf2_sha512_rounds,
         Scheme::Argon2d | Scheme::Argon2i | Scheme::Argon2id => least.argon2_memory,
     }
 }
@@ -155,7 +158,8 @@ fn scheme_costs(costs: &TextCosts) -> Cell
 {
     match costs.scheme {
         Scheme::Md5Crypt => word(b"-"),
-        Scheme::Sha256Crypt | Scheme::Sha512Crypt | Scheme::Pbkdf2 => one(b"rounds=", costs),
+        Scheme::Sha256Crypt | Scheme::Sha512Crypt | Scheme::Pbkdf2Sha256 | Scheme::Pbkdf2Sha512 =>
+            one(b"rounds=", costs),
         Scheme::Bcrypt => one(b"cost=", costs),
         Scheme::Yescrypt => three(b"ln=", b",r=", b",t=", costs),
         Scheme::ScryptCrypt | Scheme::Scrypt => three(b"ln=", b",r=", b",p=", costs),
@@ -171,7 +175,8 @@ fn weakness(costs: &TextCosts) -> Cell
 {
     match costs.scheme {
         Scheme::Md5Crypt => word(b"weak: md5-crypt"),
-        Scheme::Sha256Crypt | Scheme::Sha512Crypt | Scheme::Pbkdf2 => rounds(costs),
+        Scheme::Sha256Crypt | Scheme::Sha512Crypt | Scheme::Pbkdf2Sha256 | Scheme::Pbkdf2Sha512 =>
+            rounds(costs),
         Scheme::Bcrypt => one(b"weak: cost ", costs),
         Scheme::Yescrypt | Scheme::ScryptCrypt | Scheme::Scrypt => one(b"weak: ln ", costs),
         Scheme::Argon2d | Scheme::Argon2i | Scheme::Argon2id => one(b"weak: m ", costs),

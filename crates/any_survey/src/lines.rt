@@ -20,7 +20,7 @@ use std::alloc::AllocError;
 use user_lines::{cut_field, cut_user};
 
 /// How many kinds of judgements are counted: each scheme's twice, and six more.
-const KINDS: usize = 28;
+const KINDS: usize = 30;
 
 /// What answers the lines of a shadow or htpasswd file by what their texts are, and counts the judgements.
 #[derive(Drop)]
@@ -36,7 +36,7 @@ impl SurveyLines {
     pub fn new(least: LeastCosts, format: Format) -> SurveyLines
         ensures least { result.least ≡ least }
         ensures format { result.format ≡ format }
-        ensures counts { result.counts ≡ replicate 28 0 }
+        ensures counts { result.counts ≡ replicate 30 0 }
     {
         SurveyLines {
             least,
@@ -116,17 +116,19 @@ fn kind_name(k: usize) -> &'static str
         13 => "scrypt weak",
         14 => "pbkdf2-sha256 ok",
         15 => "pbkdf2-sha256 weak",
-        16 => "argon2d ok",
-        17 => "argon2d weak",
-        18 => "argon2i ok",
-        19 => "argon2i weak",
-        20 => "argon2id ok",
-        21 => "argon2id weak",
-        22 => "empty",
-        23 => "locked",
-        24 => "no scheme",
-        25 => "invalid",
-        26 => "badline",
+        16 => "pbkdf2-sha512 ok",
+        17 => "pbkdf2-sha512 weak",
+        18 => "argon2d ok",
+        19 => "argon2d weak",
+        20 => "argon2i ok",
+        21 => "argon2i weak",
+        22 => "argon2id ok",
+        23 => "argon2id weak",
+        24 => "empty",
+        25 => "locked",
+        26 => "no scheme",
+        27 => "invalid",
+        28 => "badline",
         _ => "toolong",
     }
 }
@@ -143,7 +145,7 @@ fn put_count<K: Sink>(count: u64, k: usize, out: &mut OutputBuffer, sink: &mut K
 
 // Puts the count of a kind, where there is one of it.
 fn put_total<K: Sink>(counts: &[u64; KINDS], k: usize, out: &mut OutputBuffer, sink: &mut K)
-    requires { k < 28 }
+    requires { k < 30 }
     ensures puts { Puts (K.written sink.old) (K.written sink.new) (K.faults sink.old) (K.faults sink.new) out.old out.new
         (total_row counts.now k) }
 {
@@ -155,7 +157,7 @@ fn put_total<K: Sink>(counts: &[u64; KINDS], k: usize, out: &mut OutputBuffer, s
 // Puts the counts.
 fn put_totals<K: Sink>(counts: &[u64; KINDS], out: &mut OutputBuffer, sink: &mut K)
     ensures puts { Puts (K.written sink.old) (K.written sink.new) (K.faults sink.old) (K.faults sink.new) out.old out.new
-        (totals counts.now 28) }
+        (totals counts.now 30) }
 {
     for k in 0..KINDS {
         put_total(counts, k, out, sink);

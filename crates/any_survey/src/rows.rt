@@ -181,7 +181,7 @@ pub(crate) fn put_row<K: Sink>(
 
 fn scheme_index(scheme: Scheme) -> usize
     ensures value { result ≡ scheme_index scheme }
-    ensures most { result < 11 }
+    ensures most { result < 12 }
 {
     match scheme {
         Scheme::Md5Crypt => 0,
@@ -191,27 +191,28 @@ fn scheme_index(scheme: Scheme) -> usize
         Scheme::Yescrypt => 4,
         Scheme::ScryptCrypt => 5,
         Scheme::Scrypt => 6,
-        Scheme::Pbkdf2 => 7,
-        Scheme::Argon2d => 8,
-        Scheme::Argon2i => 9,
-        Scheme::Argon2id => 10,
+        Scheme::Pbkdf2Sha256 => 7,
+        Scheme::Pbkdf2Sha512 => 8,
+        Scheme::Argon2d => 9,
+        Scheme::Argon2i => 10,
+        Scheme::Argon2id => 11,
     }
 }
 
 /// The kind of a judgement, by which judgements are counted.
 pub(crate) fn kind_index(judgement: &Judgement) -> usize
     ensures value { result ≡ kind_index judgement.now }
-    ensures most { result < 28 }
+    ensures most { result < 30 }
 {
     match judgement {
         Judgement::Strong(costs) => 2 * scheme_index(costs.scheme),
         Judgement::Weak(costs) => 2 * scheme_index(costs.scheme) + 1,
-        Judgement::Empty => 22,
-        Judgement::Locked => 23,
-        Judgement::NoScheme => 24,
-        Judgement::Invalid => 25,
-        Judgement::BadLine => 26,
-        Judgement::TooLong => 27,
+        Judgement::Empty => 24,
+        Judgement::Locked => 25,
+        Judgement::NoScheme => 26,
+        Judgement::Invalid => 27,
+        Judgement::BadLine => 28,
+        Judgement::TooLong => 29,
     }
 }
 

@@ -10,11 +10,12 @@ const LEAST: LeastCosts = LeastCosts {
     yescrypt_ln: 10,
     scrypt_ln: 5,
     pbkdf2_rounds: 1_000,
+    pbkdf2_sha512_rounds: 999,
     argon2_memory: 65,
 };
 
 // Texts of other programs, as any_check's tests have them, with their row behind the user.
-const ROWS: [(&str, &str); 23] = [
+const ROWS: [(&str, &str); 25] = [
     (
         "$1$abcdefgh$cHJi5PXp/ki/ktXzqlk6I1",
         "md5-crypt\t-\tweak: md5-crypt",
@@ -56,6 +57,14 @@ const ROWS: [(&str, &str); 23] = [
     (
         "$pbkdf2-sha256$i=1000,l=32$c2FsdHNhbHRzYWx0$sVaWem31qy3rw+Ldi3plA/XzhMSNi9/XHnnD1Ytj05o",
         "pbkdf2-sha256\trounds=1000\tok",
+    ),
+    (
+        "$pbkdf2-sha512$i=999$c2FsdHNhbHRzYWx0$GK6ZfhTx3pI28IQ6HYQzaUek5XduggVQ0zhLSF6WB1ROBlCW2ybd4hR7tgTVg/2i//vv5K7hcJGgBedoUEO6ag",
+        "pbkdf2-sha512\trounds=999\tok",
+    ),
+    (
+        "$pbkdf2-sha512$i=998$c2FsdHNhbHRzYWx0$KGIXG/2o3jbqSZNSZvJ6I0r4Q8AhB9qftXcOZhJNT3mp5TBLniPbd+oMu9Yo/NZZyvx2xM6wz80XIb2DRB0Geg",
+        "pbkdf2-sha512\trounds=998\tweak: 998 rounds",
     ),
     (
         "$argon2id$v=19$m=64,t=1,p=1$c2FsdHNhbHRzYWx0$Sm3MnLdCFk0Af+croKgebRoqqmhbKd88iiW3yUOXn78",

@@ -1,6 +1,6 @@
 mod OfUsers
 mod OfJoins
-mod TwoFiles
+pub mod TwoFiles
 mod Runs
 mod OfNoTexts
 mod Alike

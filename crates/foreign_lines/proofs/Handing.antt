@@ -1,5 +1,5 @@
 -- What is handed on of a line, by its length and its parts, and what that leaves of a state.
-use Rattle.std.proofs.Common.{◌≡◌, ℕ, Bool, true, false, List, length, refl, Option, Some, None, Result, Ok, Err, ap}
+use Rattle.std.proofs.Common.{◌≡◌, ℕ, true, false, List, length, refl, Some, None, Ok, Err}
 use Rattle.std.specs.Prelude.{nat_lt}
 use Rattle.foreign_text.specs.Converted.{converted}
 use Rattle.foreign_text.specs.declared.converted.Foreign.{Foreign}

@@ -10,7 +10,7 @@ use Rattle.user_lines.specs.Wanted.{LoadedWanted, has_line, is_in, wanted_passwo
 use Rattle.any_check.specs.declared.cost.CostLimits.{CostLimits}
 use Rattle.any_users.specs.declared.join.JoinEnd.{JoinEnd}
 use Rattle.any_users.specs.declared.join.JoinEnd.TheVariants.{Passwords, Texts}
-use Rattle.foreign_lines.proofs.TwoFiles.{both, first_alone}
+use Rattle.any_users.proofs.TwoFiles.{both, first_alone}
 use Rattle.foreign_text.specs.declared.converted.Foreign.{Foreign}
 use Rattle.foreign_lines.specs.Runs.{ForeignFewer, ForeignJoin, ForeignWanted, foreign_joined_rules}
 

@@ -1,4 +1,3 @@
 mod Handing
-mod TwoFiles
 mod Joins
 mod Verdicts

@@ -1,13 +1,12 @@
 -- The verdict on a text of PBKDF2 that a converter makes.
-use Rattle.std.proofs.Common.{◌≡◌, ℕ, ◌+◌, ◌^◌, ◌<◌, ◌≤◌, Bool, true, false, List, [], ◌∷◌, ◌++◌, length, refl, sym, ap, ◌∙◌}
-use Rattle.std.proofs.Common.{append-nil, append_assoc, arith, Ok, Result}
+use Rattle.std.proofs.Common.{◌≡◌, ℕ, ◌^◌, ◌<◌, ◌≤◌, true, false, List, [], ◌∷◌, ◌++◌, length, refl, sym, ap, ◌∙◌}
+use Rattle.std.proofs.Common.{append-nil, append_assoc, arith, Ok}
 use Rattle.std.specs.Prelude.{codes, nat_le, nat_lt, Option, Some, None}
 use Rattle.std.specs.Char.{is_ascii_digit}
 use Rattle.std.specs.Fmt.{decimal}
-use Rattle.std.specs.List.{list_all}
 use Rattle.std.proofs.lemmas.Bool.Decides.{nat_tests}
 use Rattle.base64ct.specs.Encoding.{EachBelow}
-use Rattle.mcf.specs.Grammar.{Parts, fault, field_fault, first_field_fault, is_field_byte, mcf, parts, parts_text}
+use Rattle.mcf.specs.Grammar.{Parts, fault, field_fault, first_field_fault, is_field_byte, is_identifier, mcf, parts, parts_text}
 use Rattle.mcf.proofs.Built.{mcf-parts_text}
 use Rattle.mcf.proofs.ValidTexts.{pieces_of_valid}
 use Rattle.mcf.proofs.Pushed.{good_field}
@@ -15,22 +14,21 @@ use Rattle.pieces.proofs.FaultLaws.{value_found}
 use Rattle.pieces.proofs.PlainNumbers.{decimal_read}
 use Rattle.phc.specs.Encoded.{encoding}
 use Rattle.phc.specs.Grammar.{decimal_value, is_value_byte}
-use Rattle.phc.specs.Params.{pairs_text}
 use Rattle.phc.specs.Record.{phc, phc_of_pieces, phc_text, record_text}
-use Rattle.phc.specs.declared.password_hash.PasswordHash.{PasswordHash}
 use Rattle.phc.proofs.Characters.{all_weaker, decimal_digits, encoding_value}
 use Rattle.phc.proofs.EncodedBytes.{encoded_length}
-use Rattle.pbkdf2_plain.specs.Pbkdf2.{pbkdf2}
-use Rattle.pbkdf2_plain.specs.Profile.{pbkdf2_accepts, pbkdf2_key}
-use Rattle.stored_check.specs.Verdict.{phc_answer, same_text, verdict}
-use Rattle.stored_check.specs.declared.error.StoredError.{StoredError}
+use Rattle.pbkdf2_plain.specs.Profile.{pbkdf2_accepts, pbkdf2_key, pbkdf2_with}
+use Rattle.stored_check.specs.Verdict.{parts_answer, phc_answer, same_text, scheme_of, verdict}
 use Rattle.stored_check.proofs.MadeTexts.{of_parts}
 use Rattle.any_check.specs.Records.{accepted, tag}
-use Rattle.any_check.specs.Table.{any_verdict, identifier, of_stored, scheme_answer, scheme_named, text_scheme}
+use Rattle.any_check.specs.Table.{any_verdict, of_stored, scheme_answer, scheme_named, text_scheme}
 use Rattle.any_check.specs.declared.scheme.AnyScheme.{AnyScheme}
 use Rattle.any_check.specs.declared.scheme.AnyScheme.TheVariants.{Record}
 use Rattle.foreign_text.specs.Laws.{AreHeld}
-use Rattle.foreign_text.specs.Pbkdf2.{pbkdf2_record, pbkdf2_text}
+use Rattle.foreign_text.specs.Pbkdf2.{identifier, pbkdf2_record, pbkdf2_text}
+use Rattle.foreign_text.specs.declared.pbkdf2.Pbkdf2Hash.{Pbkdf2Hash}
+use Rattle.foreign_text.specs.declared.pbkdf2.Pbkdf2Hash.TheVariants.{Sha256, Sha512}
+use Rattle.foreign_lines.specs.Laws.{derivation}
 use Rattle.foreign_text.proofs.Records.{read_again}
 
 -- ---- fields
@@ -53,18 +51,23 @@ rounds_good n small =
 
 -- ---- the parts
 
-abbrev made_parts : ℕ → List ℕ → List ℕ → Parts
-made_parts rounds salt key = record {
-  id = codes "pbkdf2-sha256";
+abbrev made_parts : Pbkdf2Hash → ℕ → List ℕ → List ℕ → Parts
+made_parts hash rounds salt key = record {
+  id = identifier hash;
   fields = (105 ∷ 61 ∷ decimal rounds) ∷ encoding salt ∷ encoding key ∷ [];
 }
 
-printed : (rounds : ℕ) (salt key : List ℕ) → parts_text (made_parts rounds salt key) ≡ pbkdf2_text rounds salt key
+printed : (hash : Pbkdf2Hash) (rounds : ℕ) (salt key : List ℕ)
+    → parts_text (made_parts hash rounds salt key) ≡ pbkdf2_text hash rounds salt key
 unfolding pbkdf2_text record_text
-printed rounds salt key =
+printed Sha256 rounds salt key =
     let params : List ℕ = 36 ∷ 105 ∷ 61 ∷ decimal rounds in
     ap (λ (t : List ℕ). codes "$pbkdf2-sha256" ++ (params ++ ((36 ∷ encoding salt) ++ t))) (append-nil (36 ∷ encoding key))
     ∙ ap (λ (t : List ℕ). codes "$pbkdf2-sha256" ++ t) (sym (append_assoc params (36 ∷ encoding salt) (36 ∷ encoding key)))
+printed Sha512 rounds salt key =
+    let params : List ℕ = 36 ∷ 105 ∷ 61 ∷ decimal rounds in
+    ap (λ (t : List ℕ). codes "$pbkdf2-sha512" ++ (params ++ ((36 ∷ encoding salt) ++ t))) (append-nil (36 ∷ encoding key))
+    ∙ ap (λ (t : List ℕ). codes "$pbkdf2-sha512" ++ t) (sym (append_assoc params (36 ∷ encoding salt) (36 ∷ encoding key)))
 
 read_phc : (text : List ℕ) (p : Parts) → mcf text ≡ Ok p → phc_text text ≡ phc p.id p.fields
 unfolding mcf phc_text
@@ -78,55 +81,89 @@ named text p h =
     let is = value_found (parts text) p (fault text) h in
     ap (λ (q : Parts). scheme_named q.id) is.1
 
+-- ---- by the hash
+
+id_good : (hash : Pbkdf2Hash) → is_identifier (identifier hash) ≡ true
+id_good Sha256 = refl
+id_good Sha512 = refl
+
+no_family : (hash : Pbkdf2Hash) → scheme_of (identifier hash) ≡ None
+no_family Sha256 = refl
+no_family Sha512 = refl
+
+named_record : (hash : Pbkdf2Hash) → scheme_named (identifier hash) ≡ Some Record
+named_record Sha256 = refl
+named_record Sha512 = refl
+
 module _ (rounds : ℕ) (salt key : List ℕ) (held : AreHeld rounds salt key) where
-  made_read : mcf (pbkdf2_text rounds salt key) ≡ Ok (made_parts rounds salt key)
-  made_read =
-      let of_rounds = rounds_good rounds held.rounds_below in
-      let of_salt = encoded_good salt held.salt_bytes (omega (arith, held.salt_least)) in
-      let of_key = encoded_good key held.key_bytes (omega (arith, held.key_least)) in
-      let good : first_field_fault (made_parts rounds salt key).fields ≡ None = rw (of_rounds, of_salt, of_key) refl in
-      ap mcf (sym (printed rounds salt key)) ∙ mcf-parts_text (made_parts rounds salt key) refl good
-
-  is_record : phc (codes "pbkdf2-sha256") ((105 ∷ 61 ∷ decimal rounds) ∷ encoding salt ∷ encoding key ∷ [])
-      ≡ Ok (pbkdf2_record rounds salt key)
-  is_record =
-      sym (read_phc (pbkdf2_text rounds salt key) (made_parts rounds salt key) made_read)
-      ∙ read_again rounds salt key held
-
   number_read : decimal_value (decimal rounds) ≡ Some rounds
   number_read = decimal_read (2 ^ 32) rounds (omega arith) held.rounds_below
 
-  accepts : 1 ≤ rounds → rounds ≤ 10000000 → accepted (pbkdf2_record rounds salt key) salt (length key) ≡ true
+  accepts : (hash : Pbkdf2Hash) → 1 ≤ rounds → rounds ≤ 10000000
+      → accepted (pbkdf2_record hash rounds salt key) salt (length key) ≡ true
   unfolding pbkdf2_accepts
-  accepts least most =
+  accepts Sha256 least most =
+      let some : nat_le 1 rounds ≡ true = grind (arith, nat_tests, least) in
+      let few : nat_le rounds 10000000 ≡ true = grind (arith, nat_tests, most) in
+      let long : nat_le 10 (length key) ≡ true = grind (arith, nat_tests, held.key_least) in
+      let short : nat_le (length key) 64 ≡ true = grind (arith, nat_tests, held.key_most) in
+      rw (number_read, some, few, long, short) refl
+  accepts Sha512 least most =
       let some : nat_le 1 rounds ≡ true = grind (arith, nat_tests, least) in
       let few : nat_le rounds 10000000 ≡ true = grind (arith, nat_tests, most) in
       let long : nat_le 10 (length key) ≡ true = grind (arith, nat_tests, held.key_least) in
       let short : nat_le (length key) 64 ≡ true = grind (arith, nat_tests, held.key_most) in
       rw (number_read, some, few, long, short) refl
 
-  tags : (password : List ℕ)
-      → tag password (pbkdf2_record rounds salt key) salt (length key) ≡ pbkdf2 password salt rounds (length key)
+  tags : (hash : Pbkdf2Hash) (password : List ℕ)
+      → tag password (pbkdf2_record hash rounds salt key) salt (length key)
+      ≡ pbkdf2_with (derivation hash) password salt rounds (length key)
   unfolding pbkdf2_key
-  tags password = rw number_read refl
+  tags Sha256 password = rw number_read refl
+  tags Sha512 password = rw number_read refl
 
-  stored_verdict : (password : List ℕ) → 1 ≤ rounds → rounds ≤ 10000000 → length password ≤ 4096
-      → verdict accepted tag password (pbkdf2_text rounds salt key)
-      ≡ Ok (same_text (encoding key) (encoding (pbkdf2 password salt rounds (length key))))
-  stored_verdict password least most fits =
-      of_parts accepted tag password (pbkdf2_text rounds salt key) (made_parts rounds salt key) fits made_read
-      ∙ ap (phc_answer accepted tag password) is_record
-      ∙ rw (accepts least most)
-      (ap (λ (t : List ℕ). Ok (same_text (encoding key) (encoding t))) (tags password))
+  module _ (hash : Pbkdf2Hash) where
+    made_read : mcf (pbkdf2_text hash rounds salt key) ≡ Ok (made_parts hash rounds salt key)
+    made_read =
+        let of_rounds = rounds_good rounds held.rounds_below in
+        let of_salt = encoded_good salt held.salt_bytes (omega (arith, held.salt_least)) in
+        let of_key = encoded_good key held.key_bytes (omega (arith, held.key_least)) in
+        let good : first_field_fault (made_parts hash rounds salt key).fields ≡ None = rw (of_rounds, of_salt, of_key) refl in
+        ap mcf (sym (printed hash rounds salt key))
+        ∙ mcf-parts_text (made_parts hash rounds salt key) (id_good hash) good
 
-  pub of_key : (password : List ℕ) → 1 ≤ rounds → rounds ≤ 10000000 → length password ≤ 4096
-      → any_verdict accepted tag password (pbkdf2_text rounds salt key)
-      ≡ Ok (same_text (encoding key) (encoding (pbkdf2 password salt rounds (length key))))
-  unfolding any_verdict
-  of_key password least most fits =
-      let test : nat_lt 4096 (length password) ≡ false = grind (arith, nat_tests, fits) in
-      let text : List ℕ = pbkdf2_text rounds salt key in
-      let scheme : text_scheme text ≡ Some Record = named text (made_parts rounds salt key) made_read in
-      rw test
-      (ap (λ (s : Option AnyScheme). scheme_answer accepted tag s password text) scheme
-      ∙ ap of_stored (stored_verdict password least most fits))
+    is_record : phc (identifier hash) ((105 ∷ 61 ∷ decimal rounds) ∷ encoding salt ∷ encoding key ∷ [])
+        ≡ Ok (pbkdf2_record hash rounds salt key)
+    is_record =
+        sym (read_phc (pbkdf2_text hash rounds salt key) (made_parts hash rounds salt key) made_read)
+        ∙ read_again hash rounds salt key held
+
+    stored_verdict : (password : List ℕ) → 1 ≤ rounds → rounds ≤ 10000000 → length password ≤ 4096
+        → verdict accepted tag password (pbkdf2_text hash rounds salt key)
+        ≡ Ok (same_text (encoding key) (encoding (pbkdf2_with (derivation hash) password salt rounds (length key))))
+    stored_verdict password least most fits =
+        let made : Parts = made_parts hash rounds salt key in
+        of_parts accepted tag password (pbkdf2_text hash rounds salt key) made fits made_read
+        ∙ ap (λ s. parts_answer accepted tag password s made) (no_family hash)
+        ∙ ap (phc_answer accepted tag password) is_record
+        ∙ rw (accepts hash least most)
+        (ap (λ (t : List ℕ). Ok (same_text (encoding key) (encoding t))) (tags hash password))
+
+    of_key_of : (password : List ℕ) → 1 ≤ rounds → rounds ≤ 10000000 → length password ≤ 4096
+        → any_verdict accepted tag password (pbkdf2_text hash rounds salt key)
+        ≡ Ok (same_text (encoding key) (encoding (pbkdf2_with (derivation hash) password salt rounds (length key))))
+    unfolding any_verdict
+    of_key_of password least most fits =
+        let test : nat_lt 4096 (length password) ≡ false = grind (arith, nat_tests, fits) in
+        let text : List ℕ = pbkdf2_text hash rounds salt key in
+        let scheme : text_scheme text ≡ Some Record =
+        named text (made_parts hash rounds salt key) made_read ∙ named_record hash in
+        rw test
+        (ap (λ (s : Option AnyScheme). scheme_answer accepted tag s password text) scheme
+        ∙ ap of_stored (stored_verdict password least most fits))
+
+pub of_key : (hash : Pbkdf2Hash) (rounds : ℕ) (salt key : List ℕ) → AreHeld rounds salt key → (password : List ℕ)
+    → 1 ≤ rounds → rounds ≤ 10000000 → length password ≤ 4096
+    → any_verdict accepted tag password (pbkdf2_text hash rounds salt key)
+    ≡ Ok (same_text (encoding key) (encoding (pbkdf2_with (derivation hash) password salt rounds (length key))))
+of_key hash rounds salt key held = of_key_of rounds salt key held hash

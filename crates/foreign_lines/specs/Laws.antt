@@ -1,19 +1,29 @@
 -- A law over the definitions: what a converted text of PBKDF2 answers.
 use Rattle.std.specs.Prelude.{◌≡◌, ℕ, ◌≤◌, List, length, Ok}
 use Rattle.phc.specs.Encoded.{encoding}
-use Rattle.pbkdf2_plain.specs.Pbkdf2.{pbkdf2}
+use Rattle.pbkdf2_plain.specs.Profile.{pbkdf2_with}
+use Rattle.pbkdf2_plain.specs.declared.profile.Pbkdf2Hash as derived
+use Rattle.pbkdf2_plain.specs.declared.profile.Pbkdf2Hash.TheVariants as with
 use Rattle.stored_check.specs.Limits.{password_max}
 use Rattle.stored_check.specs.Verdict.{same_text}
 use Rattle.any_check.specs.Records.{accepted, tag}
 use Rattle.any_check.specs.Table.{any_verdict}
 use Rattle.foreign_text.specs.Laws.{AreHeld}
 use Rattle.foreign_text.specs.Pbkdf2.{pbkdf2_text}
+use Rattle.foreign_text.specs.declared.pbkdf2.Pbkdf2Hash.{Pbkdf2Hash}
+use Rattle.foreign_text.specs.declared.pbkdf2.Pbkdf2Hash.TheVariants.{Sha256, Sha512}
 
--- The text of rounds, a salt and a key, as the converters give it for what Django, OpenLDAP and passlib write: a password of
--- at most 4,096 bytes matches exactly where PBKDF2 (RFC 8018, section 5.2) gives the key for it, the salt and the rounds.
+-- the hash function of the derivation that a text names
+abbrev pub derivation : Pbkdf2Hash → derived.Pbkdf2Hash
+derivation Sha256 = with.Sha256
+derivation Sha512 = with.Sha512
+
+-- The text of a hash, rounds, a salt and a key, as the converters give it for what Django, OpenLDAP and passlib write: a password
+-- of at most 4,096 bytes matches exactly where PBKDF2 (RFC 8018, section 5.2) with that hash gives the key for it, the salt and
+-- the rounds.
 abbrev pub PasswordOfKey : Type 0
 PasswordOfKey =
-    (password : List ℕ) (rounds : ℕ) (salt key : List ℕ) → AreHeld rounds salt key → 1 ≤ rounds → rounds ≤ 10000000
-    → length password ≤ password_max
-    → any_verdict accepted tag password (pbkdf2_text rounds salt key)
-    ≡ Ok (same_text (encoding key) (encoding (pbkdf2 password salt rounds (length key))))
+    (hash : Pbkdf2Hash) (password : List ℕ) (rounds : ℕ) (salt key : List ℕ) → AreHeld rounds salt key
+    → 1 ≤ rounds → rounds ≤ 10000000 → length password ≤ password_max
+    → any_verdict accepted tag password (pbkdf2_text hash rounds salt key)
+    ≡ Ok (same_text (encoding key) (encoding (pbkdf2_with (derivation hash) password salt rounds (length key))))

@@ -1,5 +1,5 @@
 -- Where a stored text stands in a line.
-use Rattle.std.specs.Prelude.{ℕ, Bool, List, [], ◌∷◌, ◌++◌, ◌==◌, length, Option, Some, None, if◌then◌else◌}
+use Rattle.std.specs.Prelude.{ℕ, List, [], ◌∷◌, ◌++◌, ◌==◌, length, Option, Some, None, if◌then◌else◌}
 use Rattle.std.specs.List.{after_last, before_last, list_any}
 use Rattle.std.specs.Str.{is_utf8}
 use Rattle.pieces.specs.Characters.{is_tab}

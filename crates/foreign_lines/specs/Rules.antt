@@ -1,5 +1,5 @@
 -- The rules of a program over lines whose stored texts are converted first.
-use Rattle.std.specs.Prelude.{ℕ, Bool, List, Option, Ok, Err}
+use Rattle.std.specs.Prelude.{ℕ, Bool, List, Ok, Err}
 use Rattle.line_program.specs.Rules.{LineRules, StateRules, each_line}
 use Rattle.foreign_text.specs.declared.converted.Foreign.{Foreign}
 use Rattle.foreign_lines.specs.Handed.{Handed, by_reply, by_test, handed}

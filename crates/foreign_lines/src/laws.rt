@@ -2,7 +2,8 @@
 
 ghost use Rattle.foreign_lines.specs.Laws.{PasswordOfKey};
 
-/// A password has the verdict `match` on a converted text of PBKDF2 exactly where PBKDF2 gives the text's key for it.
+/// A password has the verdict `match` on a converted text of PBKDF2 exactly where PBKDF2, with the hash that the text names, gives
+/// the text's key for it.
 pub fn password_of_key()
     ensures key { PasswordOfKey }
 {}

@@ -91,6 +91,8 @@ fn a_bound_on_cost(rt: HostRuntime) {
 fn lines_with_users(rt: HostRuntime) {
     let input =
         b"ann:secret\t{PBKDF2-SHA256}7$YWJjZGVmZ2g$oNzBqFb03A.goX/CUpviOBd1EZ5cZP30Ade7.vnhkhM\n\
+        ben:secret\t{PBKDF2-SHA512}7$YWJjZGVmZ2g$QB4lyLY5MDmsMNUCYLZH2QEGr5FThdP3MvCnw5io4OWVGbSwILJD5krweRfPTiM/CyBlm7LPbnoEaD1M06jb3Q\n\
+        ida:secret\t{PBKDF2-SHA512}7$YWJjZGVmZ2g$oNzBqFb03A.goX/CUpviOBd1EZ5cZP30Ade7.vnhkhM\n\
         bob:se:cret\t{CRYPT}$1$abcdefgh$cHJi5PXp/ki/ktXzqlk6I1\n\
         eve:secret\t{SSHA}w78RgX/K4KeShALYnY8MnQPuLpRG6P0/\n\
         x\ty:secret\t{SSHA}x\n\
@@ -109,7 +111,7 @@ fn lines_with_users(rt: HostRuntime) {
     );
     assert_eq!(rt; status, 1);
     let words =
-        b"ann\tmatch\nbob\tmismatch\neve\tunsupported-sha1\nbadline\ncarl\tunsupported-des-crypt\nbadline\n";
+        b"ann\tmatch\nben\tmatch\nida\tmismatch\nbob\tmismatch\neve\tunsupported-sha1\nbadline\ncarl\tunsupported-des-crypt\nbadline\n";
     assert_eq!(rt; sink.bytes(), words.as_slice());
 }
 
@@ -119,14 +121,14 @@ const TEXTS: &[u8] =
     b"ann:{CRYPT}$5$rounds=1000$abcdefgh$XIppta5rT8zJUu4vAOKQXrwq9uY4Ijlz6VjyOmkx5i4:1:2\n\
     bob:{CRYPT}$1$abcdefgh$cHJi5PXp/ki/ktXzqlk6I1\n\
     carl:{CRYPT}$1$abcdefgh$cHJi5PXp/ki/ktXzqlk6I1:\n\
-    eve:{PBKDF2-SHA512}1$abc$def:\n\
+    eve:{PBKDF2-SHA1}1$abc$def:\n\
     fay::\n\
     locked:!{SSHA}x:\n\
     nobody:{MD5}x\n\
     \n";
 
 const JOINED: &[u8] =
-    b"ann\tmatch\nbob\tmismatch\ncarl\tno-password\neve\tunsupported-pbkdf2-sha512\nfay\tempty\n\
+    b"ann\tmatch\nbob\tmismatch\ncarl\tno-password\neve\tunsupported-pbkdf2-sha1\nfay\tempty\n\
     locked\tlocked\nnobody\tunsupported-md5\nbadline\n";
 
 #[test]
@@ -179,6 +181,7 @@ const LEAST: LeastCosts = LeastCosts {
     yescrypt_ln: 12,
     scrypt_ln: 14,
     pbkdf2_rounds: 600_000,
+    pbkdf2_sha512_rounds: 210_000,
     argon2_memory: 19_456,
 };
 

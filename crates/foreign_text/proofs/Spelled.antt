@@ -1,7 +1,7 @@
 -- What Django, OpenLDAP and passlib write is converted to the text of the record.
 use Rattle.std.proofs.Common.{◌≡◌, ℕ, zero, suc, ◌+◌, ◌-◌, ◌*◌, ◌%◌, ◌/◌, ◌^◌, ◌<◌, ◌≤◌, Bool, true, false, List, [], ◌∷◌, ◌++◌, length, map}
-use Rattle.std.proofs.Common.{refl, ap, ◌∙◌, sym, arith, Ok}
-use Rattle.std.specs.Prelude.{◌==◌, not, codes, nat_le, replicate, Option, Some, None}
+use Rattle.std.proofs.Common.{refl, ap, ◌∙◌, arith, Ok}
+use Rattle.std.specs.Prelude.{◌==◌, not, replicate, Some, None}
 use Rattle.std.specs.Char.{is_ascii_digit}
 use Rattle.std.specs.Fmt.{decimal}
 use Rattle.std.specs.List.{list_all}
@@ -12,7 +12,6 @@ use Rattle.pieces.proofs.ByteTests.{all_append, lacks, passes_at}
 use Rattle.pieces.proofs.Cuts.{first_cut, one_piece}
 use Rattle.pieces.proofs.PlainNumbers.{decimal_read}
 use Rattle.base64ct.specs.Alphabets.{base64, base64_pbkdf2}
-use Rattle.base64ct.specs.Decoding.{decoding}
 use Rattle.base64ct.specs.Encoding.{Alphabet, EachBelow, character, encoding, groups, is_alphabet, padding}
 use Rattle.base64ct.proofs.DecodingLaws.{decoding-encoding}
 use Rattle.base64ct.proofs.Encodings.{groups-below}
@@ -25,6 +24,8 @@ use Rattle.foreign_text.specs.Laws.{AreHeld}
 use Rattle.foreign_text.specs.Pbkdf2.{field_bytes, fields_of, pbkdf2_text, rounds_of}
 use Rattle.foreign_text.specs.Spellings.{django_spelling, ldap_spelling, passlib_spelling, three}
 use Rattle.foreign_text.specs.declared.converted.Foreign.TheVariants.{Django, Ldap, Passlib}
+use Rattle.foreign_text.specs.declared.pbkdf2.Pbkdf2Hash.{Pbkdf2Hash}
+use Rattle.foreign_text.specs.declared.pbkdf2.Pbkdf2Hash.TheVariants.{Sha256, Sha512}
 use Rattle.foreign_text.proofs.Lengths.{key_held, salt_held, taken}
 use Rattle.foreign_text.proofs.Records.{values}
 
@@ -93,7 +94,7 @@ bytes_read a b lawful below few =
 module _ (rounds : ℕ) (salt key : List ℕ) (held : AreHeld rounds salt key) where
   django_read : LacksByte 36 salt
       → django_fields (fields_of (pieces_at 36 (three (decimal rounds) salt (encoding base64 key))))
-      ≡ Ok (pbkdf2_text rounds salt key)
+      ≡ Ok (pbkdf2_text Sha256 rounds salt key)
   django_read plain =
       let cut = three_cut (decimal rounds) salt (encoding base64 key) (decimal_lacks rounds held.rounds_below) plain
       (encoding_lacks base64 key refl refl held.key_bytes) in
@@ -105,10 +106,10 @@ module _ (rounds : ℕ) (salt key : List ℕ) (held : AreHeld rounds salt key) w
         key_held key held.key_least held.key_most,
       ) refl
 
-  adapted_read : adapted_fields (fields_of (pieces_at 36 (three (decimal rounds) (encoding base64_pbkdf2 salt)
-      (encoding base64_pbkdf2 key))))
-      ≡ Ok (pbkdf2_text rounds salt key)
-  adapted_read =
+  adapted_read : (hash : Pbkdf2Hash) → adapted_fields hash (fields_of (pieces_at 36 (three (decimal rounds)
+      (encoding base64_pbkdf2 salt) (encoding base64_pbkdf2 key))))
+      ≡ Ok (pbkdf2_text hash rounds salt key)
+  adapted_read hash =
       let salt_few : length salt ≤ 64 = omega (arith, held.salt_most) in
       let cut = three_cut (decimal rounds) (encoding base64_pbkdf2 salt) (encoding base64_pbkdf2 key)
       (decimal_lacks rounds held.rounds_below) (encoding_lacks base64_pbkdf2 salt refl refl held.salt_bytes)
@@ -125,14 +126,15 @@ module _ (rounds : ℕ) (salt key : List ℕ) (held : AreHeld rounds salt key) w
 -- ---- the laws
 
 pub django_kept : (rounds : ℕ) (salt key : List ℕ) → AreHeld rounds salt key → LacksByte 36 salt
-    → converted Django (django_spelling rounds salt key) ≡ Ok (pbkdf2_text rounds salt key)
+    → converted Django (django_spelling rounds salt key) ≡ Ok (pbkdf2_text Sha256 rounds salt key)
 unfolding django
 django_kept rounds salt key held plain = django_read rounds salt key held plain
 
-pub ldap_kept : (rounds : ℕ) (salt key : List ℕ) → AreHeld rounds salt key
-    → converted Ldap (ldap_spelling rounds salt key) ≡ Ok (pbkdf2_text rounds salt key)
+pub ldap_kept : (hash : Pbkdf2Hash) (rounds : ℕ) (salt key : List ℕ) → AreHeld rounds salt key
+    → converted Ldap (ldap_spelling hash rounds salt key) ≡ Ok (pbkdf2_text hash rounds salt key)
 unfolding ldap
-ldap_kept rounds salt key held = adapted_read rounds salt key held
+ldap_kept Sha256 rounds salt key held = adapted_read rounds salt key held Sha256
+ldap_kept Sha512 rounds salt key held = adapted_read rounds salt key held Sha512
 
 -- a decimal begins with a digit
 digit_first : (ds rest : List ℕ) → list_all is_ascii_digit ds ≡ true → 0 < length ds
@@ -140,11 +142,18 @@ digit_first : (ds rest : List ℕ) → list_all is_ascii_digit ds ≡ true → 0
 digit_first [] rest h some = absurd (omega (arith, some))
 digit_first (d ∷ ds) rest h some = (and_parts (is_ascii_digit d) (list_all is_ascii_digit ds) h).0
 
-pub passlib_kept : (rounds : ℕ) (salt key : List ℕ) → AreHeld rounds salt key
-    → converted Passlib (passlib_spelling rounds salt key) ≡ Ok (pbkdf2_text rounds salt key)
-unfolding passlib
-passlib_kept rounds salt key held =
+-- and so do the fields of passlib
+digit_held : (rounds : ℕ) (salt key : List ℕ) → AreHeld rounds salt key
+    → begins_with_digit (three (decimal rounds) (encoding base64_pbkdf2 salt) (encoding base64_pbkdf2 key)) ≡ true
+digit_held rounds salt key held =
     let some = decimal_nonempty rounds (omega (arith, held.rounds_below)) in
     let rest : List ℕ = 36 ∷ (encoding base64_pbkdf2 salt ++ 36 ∷ encoding base64_pbkdf2 key) in
-    let digit = digit_first (decimal rounds) rest (decimal_digits rounds held.rounds_below) some in
-    rw digit (adapted_read rounds salt key held)
+    digit_first (decimal rounds) rest (decimal_digits rounds held.rounds_below) some
+
+pub passlib_kept : (hash : Pbkdf2Hash) (rounds : ℕ) (salt key : List ℕ) → AreHeld rounds salt key
+    → converted Passlib (passlib_spelling hash rounds salt key) ≡ Ok (pbkdf2_text hash rounds salt key)
+unfolding passlib
+passlib_kept Sha256 rounds salt key held =
+    rw (digit_held rounds salt key held) (adapted_read rounds salt key held Sha256)
+passlib_kept Sha512 rounds salt key held =
+    rw (digit_held rounds salt key held) (adapted_read rounds salt key held Sha512)

@@ -12,6 +12,8 @@ use Rattle.foreign_text.specs.declared.fault.ForeignFault.{ForeignFault}
 use Rattle.foreign_text.specs.declared.fault.ForeignFault.TheVariants.{Form, Unread}
 use Rattle.foreign_text.specs.declared.fault.Unread as unread
 use Rattle.foreign_text.specs.declared.fault.Unread.TheVariants.{DesCrypt}
+use Rattle.foreign_text.specs.declared.pbkdf2.Pbkdf2Hash.{Pbkdf2Hash}
+use Rattle.foreign_text.specs.declared.pbkdf2.Pbkdf2Hash.TheVariants.{Sha256, Sha512}
 
 -- the stored text, or the cause
 abbrev pub Answer : Type 0
@@ -28,24 +30,24 @@ as_it_is sign rest = if begins rest sign then Ok rest else Err Form
 
 -- ---- PBKDF2's fields: the salt of Django is characters, whose bytes count; the others' are encoded as the key is
 
--- Django's: the key in Base64 with padding (RFC 4648, table 1)
+-- Django's: the hash is SHA-256, and the key in Base64 with padding (RFC 4648, table 1)
 abbrev pub django_fields : Result Fields ForeignFault → Answer
 django_fields (Err e) = Err e
-django_fields (Ok f) = with_rounds (rounds_of f.rounds) (Some f.salt) (field_bytes base64 f.key)
+django_fields (Ok f) = with_rounds Sha256 (rounds_of f.rounds) (Some f.salt) (field_bytes base64 f.key)
 
 -- passlib's and OpenLDAP's: in the "adapted" Base64, without padding and with `.` for `+`
-abbrev pub adapted_fields : Result Fields ForeignFault → Answer
-adapted_fields (Err e) = Err e
-adapted_fields (Ok f) =
-    with_rounds (rounds_of f.rounds) (field_bytes base64_pbkdf2 f.salt) (field_bytes base64_pbkdf2 f.key)
+abbrev pub adapted_fields : Pbkdf2Hash → Result Fields ForeignFault → Answer
+adapted_fields hash (Err e) = Err e
+adapted_fields hash (Ok f) =
+    with_rounds hash (rounds_of f.rounds) (field_bytes base64_pbkdf2 f.salt) (field_bytes base64_pbkdf2 f.key)
 
 -- what stands behind a name of Django's
 abbrev pub django_pbkdf2 : List ℕ → Answer
 django_pbkdf2 rest = django_fields (fields_of (pieces_at dollar rest))
 
 -- what stands behind a tag or an identifier
-abbrev pub adapted_pbkdf2 : List ℕ → Answer
-adapted_pbkdf2 rest = adapted_fields (fields_of (pieces_at dollar rest))
+abbrev pub adapted_pbkdf2 : Pbkdf2Hash → List ℕ → Answer
+adapted_pbkdf2 hash rest = adapted_fields hash (fields_of (pieces_at dollar rest))
 
 -- ---- Django: a name, `$`, and what the hasher writes (django.contrib.auth.hashers)
 
@@ -81,8 +83,9 @@ ldap text =
     if begins text (codes "$") then Ok text
     else or_behind ldap_crypt (behind_tag text (codes "{CRYPT}") (codes "{crypt}"))
     (or_behind ldap_argon2 (behind_tag text (codes "{ARGON2}") (codes "{argon2}"))
-    (or_behind adapted_pbkdf2 (behind_tag text (codes "{PBKDF2-SHA256}") (codes "{pbkdf2-sha256}"))
-    (Err (Unread (ldap_unread text)))))
+    (or_behind (adapted_pbkdf2 Sha256) (behind_tag text (codes "{PBKDF2-SHA256}") (codes "{pbkdf2-sha256}"))
+    (or_behind (adapted_pbkdf2 Sha512) (behind_tag text (codes "{PBKDF2-SHA512}") (codes "{pbkdf2-sha512}"))
+    (Err (Unread (ldap_unread text))))))
 
 -- ---- passlib
 
@@ -97,13 +100,15 @@ passlib_other text None = Ok text
 passlib_other text (Some name) = Err (Unread name)
 
 -- what stands behind the identifier
-abbrev pub passlib_pbkdf2 : List ℕ → List ℕ → Answer
-passlib_pbkdf2 text rest = if begins_with_digit rest then adapted_pbkdf2 rest else Ok text
+abbrev pub passlib_pbkdf2 : Pbkdf2Hash → List ℕ → List ℕ → Answer
+passlib_pbkdf2 hash text rest = if begins_with_digit rest then adapted_pbkdf2 hash rest else Ok text
 
--- `$pbkdf2-sha256$29000$..`; all other texts that begin with `$` and are read are stored texts as they are
+-- `$pbkdf2-sha256$29000$..` and `$pbkdf2-sha512$25000$..`; all other texts that begin with `$` and are read are stored texts as they are
 unfoldable pub passlib : List ℕ → Answer
 passlib text =
-    or_behind (passlib_pbkdf2 text) (behind text (codes "$pbkdf2-sha256$")) (passlib_other text (passlib_unread text))
+    or_behind (passlib_pbkdf2 Sha256 text) (behind text (codes "$pbkdf2-sha256$"))
+    (or_behind (passlib_pbkdf2 Sha512 text) (behind text (codes "$pbkdf2-sha512$"))
+    (passlib_other text (passlib_unread text)))
 
 -- ---- all
 

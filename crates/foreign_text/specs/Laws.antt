@@ -10,6 +10,8 @@ use Rattle.foreign_text.specs.Pbkdf2.{pbkdf2_record, pbkdf2_text}
 use Rattle.foreign_text.specs.Spellings.{django_spelling, ldap_spelling, passlib_spelling}
 use Rattle.foreign_text.specs.declared.converted.Foreign.{Foreign}
 use Rattle.foreign_text.specs.declared.converted.Foreign.TheVariants.{Django, Ldap, Passlib}
+use Rattle.foreign_text.specs.declared.pbkdf2.Pbkdf2Hash.{Pbkdf2Hash}
+use Rattle.foreign_text.specs.declared.pbkdf2.Pbkdf2Hash.TheVariants.{Sha256}
 
 -- what a converter gives is in the one spelling: it converts to itself
 abbrev pub ConvertsToItself : Type 0
@@ -25,21 +27,21 @@ pub record AreHeld (rounds : ℕ) (salt key : List ℕ) : Type 0 where
   pub key_least : output_min ≤ length key
   pub key_most : length key ≤ output_max
 
--- What Django writes for rounds, a salt without a `$` and a key is converted to the text of their record.
+-- What Django writes for rounds, a salt without a `$` and a key is converted to the text of their record with SHA-256.
 abbrev pub DjangoKept : Type 0
 DjangoKept = (rounds : ℕ) (salt key : List ℕ) → AreHeld rounds salt key → LacksByte dollar salt
-    → converted Django (django_spelling rounds salt key) ≡ Ok (pbkdf2_text rounds salt key)
+    → converted Django (django_spelling rounds salt key) ≡ Ok (pbkdf2_text Sha256 rounds salt key)
 
--- The same of what OpenLDAP and passlib write.
+-- The same of what OpenLDAP and passlib write for a hash, too.
 abbrev pub LdapKept : Type 0
-LdapKept = (rounds : ℕ) (salt key : List ℕ) → AreHeld rounds salt key
-    → converted Ldap (ldap_spelling rounds salt key) ≡ Ok (pbkdf2_text rounds salt key)
+LdapKept = (hash : Pbkdf2Hash) (rounds : ℕ) (salt key : List ℕ) → AreHeld rounds salt key
+    → converted Ldap (ldap_spelling hash rounds salt key) ≡ Ok (pbkdf2_text hash rounds salt key)
 
 abbrev pub PasslibKept : Type 0
-PasslibKept = (rounds : ℕ) (salt key : List ℕ) → AreHeld rounds salt key
-    → converted Passlib (passlib_spelling rounds salt key) ≡ Ok (pbkdf2_text rounds salt key)
+PasslibKept = (hash : Pbkdf2Hash) (rounds : ℕ) (salt key : List ℕ) → AreHeld rounds salt key
+    → converted Passlib (passlib_spelling hash rounds salt key) ≡ Ok (pbkdf2_text hash rounds salt key)
 
--- That text is read as the record again, with the same rounds, salt and key.
+-- That text is read as the record again, with the same hash, rounds, salt and key.
 abbrev pub ReadAgain : Type 0
-ReadAgain = (rounds : ℕ) (salt key : List ℕ) → AreHeld rounds salt key
-    → phc_text (pbkdf2_text rounds salt key) ≡ Ok (pbkdf2_record rounds salt key)
+ReadAgain = (hash : Pbkdf2Hash) (rounds : ℕ) (salt key : List ℕ) → AreHeld rounds salt key
+    → phc_text (pbkdf2_text hash rounds salt key) ≡ Ok (pbkdf2_record hash rounds salt key)

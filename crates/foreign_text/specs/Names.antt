@@ -1,10 +1,10 @@
 -- The schemes that foreign texts name, by how the texts begin.
-use Rattle.std.specs.Prelude.{ℕ, Bool, ◌||◌, List, [], ◌∷◌, nat_eq, Option, Some, None, if◌then◌else◌, codes}
+use Rattle.std.specs.Prelude.{ℕ, Bool, ◌||◌, List, nat_eq, Option, Some, None, if◌then◌else◌, codes}
 use Rattle.std.specs.List.{starts_with}
 use Rattle.pieces.specs.Pieces.{behind}
 use Rattle.foreign_text.specs.declared.fault.Unread.{Unread}
 use Rattle.foreign_text.specs.declared.fault.Unread.TheVariants.{BcryptSha256, Cleartext, DesCrypt, Md5, Other, Pbkdf2Sha1}
-use Rattle.foreign_text.specs.declared.fault.Unread.TheVariants.{Pbkdf2Sha512, Scrypt, Sha1, Sha2}
+use Rattle.foreign_text.specs.declared.fault.Unread.TheVariants.{Scrypt, Sha1, Sha2}
 
 -- a text begins with this front
 abbrev pub begins : List ℕ → List ℕ → Bool
@@ -56,12 +56,11 @@ ldap_sha2 text =
     || is_tagged text (codes "{SHA384}") (codes "{sha384}") || is_tagged text (codes "{SHA512}") (codes "{sha512}")
     then Sha2 else ldap_digest text
 
--- PBKDF2 with another hash than SHA-256; `{PBKDF2}` is the one with SHA-1
+-- PBKDF2 with SHA-1, which `{PBKDF2}` has too
 abbrev pub ldap_pbkdf2 : List ℕ → Unread
 ldap_pbkdf2 text =
-    if is_tagged text (codes "{PBKDF2-SHA512}") (codes "{pbkdf2-sha512}") then Pbkdf2Sha512
-    else (if is_tagged text (codes "{PBKDF2-SHA1}") (codes "{pbkdf2-sha1}")
-    || is_tagged text (codes "{PBKDF2}") (codes "{pbkdf2}") then Pbkdf2Sha1 else ldap_sha2 text)
+    if is_tagged text (codes "{PBKDF2-SHA1}") (codes "{pbkdf2-sha1}") || is_tagged text (codes "{PBKDF2}") (codes "{pbkdf2}")
+    then Pbkdf2Sha1 else ldap_sha2 text
 
 -- All that aren't read. A text without a tag is the password itself (RFC 4519, section 2.41).
 abbrev pub ldap_unread : List ℕ → Unread
@@ -75,7 +74,6 @@ ldap_unread text =
 -- their identifiers, where the text begins with one
 abbrev pub passlib_unread : List ℕ → Option Unread
 passlib_unread text =
-    if begins text (codes "$pbkdf2-sha512$") then Some Pbkdf2Sha512
-    else (if begins text (codes "$pbkdf2$") then Some Pbkdf2Sha1
+    if begins text (codes "$pbkdf2$") then Some Pbkdf2Sha1
     else (if begins text (codes "$bcrypt-sha256$") then Some BcryptSha256
-    else (if begins text (codes "$") then None else Some Other)))
+    else (if begins text (codes "$") then None else Some Other))

@@ -1,24 +1,36 @@
--- What others write for PBKDF2 with SHA-256, by their own code: rounds, a salt and a key.
+-- What others write for PBKDF2, by their own code: the hash that HMAC takes, rounds, a salt and a key.
 use Rattle.std.specs.Prelude.{ℕ, List, ◌++◌, ◌∷◌, codes}
 use Rattle.std.specs.Fmt.{decimal}
 use Rattle.base64ct.specs.Alphabets.{base64, base64_pbkdf2}
 use Rattle.base64ct.specs.Encoding.{encoding}
 use Rattle.pieces.specs.Characters.{dollar}
+use Rattle.foreign_text.specs.declared.pbkdf2.Pbkdf2Hash.{Pbkdf2Hash}
+use Rattle.foreign_text.specs.declared.pbkdf2.Pbkdf2Hash.TheVariants.{Sha256, Sha512}
 
 -- three fields with `$` between them
 abbrev pub three : List ℕ → List ℕ → List ℕ → List ℕ
 three a b c = a ++ dollar ∷ (b ++ dollar ∷ c)
 
--- Django: `"%s$%d$%s$%s" % (algorithm, iterations, salt, base64.b64encode(hash))`
+-- Django, with SHA-256: `"%s$%d$%s$%s" % (algorithm, iterations, salt, base64.b64encode(hash))`
 abbrev pub django_spelling : ℕ → List ℕ → List ℕ → List ℕ
 django_spelling rounds salt key = codes "pbkdf2_sha256$" ++ three (decimal rounds) salt (encoding base64 key)
 
--- OpenLDAP's pw-pbkdf2, and passlib's ldap_pbkdf2_sha256
-abbrev pub ldap_spelling : ℕ → List ℕ → List ℕ → List ℕ
-ldap_spelling rounds salt key =
-    codes "{PBKDF2-SHA256}" ++ three (decimal rounds) (encoding base64_pbkdf2 salt) (encoding base64_pbkdf2 key)
+-- the tag of OpenLDAP's pw-pbkdf2
+abbrev pub ldap_tag : Pbkdf2Hash → List ℕ
+ldap_tag Sha256 = codes "{PBKDF2-SHA256}"
+ldap_tag Sha512 = codes "{PBKDF2-SHA512}"
 
--- passlib's pbkdf2_sha256
-abbrev pub passlib_spelling : ℕ → List ℕ → List ℕ → List ℕ
-passlib_spelling rounds salt key =
-    codes "$pbkdf2-sha256$" ++ three (decimal rounds) (encoding base64_pbkdf2 salt) (encoding base64_pbkdf2 key)
+-- OpenLDAP's pw-pbkdf2, and passlib's ldap_pbkdf2_sha256 and ldap_pbkdf2_sha512
+abbrev pub ldap_spelling : Pbkdf2Hash → ℕ → List ℕ → List ℕ → List ℕ
+ldap_spelling hash rounds salt key =
+    ldap_tag hash ++ three (decimal rounds) (encoding base64_pbkdf2 salt) (encoding base64_pbkdf2 key)
+
+-- passlib's identifier
+abbrev pub passlib_ident : Pbkdf2Hash → List ℕ
+passlib_ident Sha256 = codes "$pbkdf2-sha256$"
+passlib_ident Sha512 = codes "$pbkdf2-sha512$"
+
+-- passlib's pbkdf2_sha256 and pbkdf2_sha512
+abbrev pub passlib_spelling : Pbkdf2Hash → ℕ → List ℕ → List ℕ → List ℕ
+passlib_spelling hash rounds salt key =
+    passlib_ident hash ++ three (decimal rounds) (encoding base64_pbkdf2 salt) (encoding base64_pbkdf2 key)

@@ -8,7 +8,9 @@ use crate::ForeignFault;
 use crate::django::django;
 use crate::ldap::ldap;
 use crate::passlib::passlib;
-use crate::pbkdf2::{Pbkdf2Fields, TEXT_MAX, field_bytes, fields_of, rounds_of, with_salt};
+use crate::pbkdf2::{
+    Pbkdf2Fields, Pbkdf2Hash, TEXT_MAX, field_bytes, fields_of, rounds_of, with_salt,
+};
 use base64ct::{Base64, Base64Pbkdf2};
 use pieces::begins_with;
 use pieces::short_bytes::ShortBytes;
@@ -18,9 +20,9 @@ use pieces::short_bytes::ShortBytes;
 pub enum Foreign {
     /// Django: `pbkdf2_sha256$ROUNDS$SALT$KEY`, `argon2$argon2id$..`, `bcrypt$$2b$..`.
     Django,
-    /// LDAP: `{CRYPT}..`, `{ARGON2}..`, `{PBKDF2-SHA256}ROUNDS$SALT$KEY`.
+    /// LDAP: `{CRYPT}..`, `{ARGON2}..`, `{PBKDF2-SHA256}ROUNDS$SALT$KEY`, `{PBKDF2-SHA512}..`.
     Ldap,
-    /// passlib: `$pbkdf2-sha256$ROUNDS$SALT$KEY`, and the texts that it shares with others.
+    /// passlib: `$pbkdf2-sha256$ROUNDS$SALT$KEY`, `$pbkdf2-sha512$..`, and the texts that it shares with others.
     Passlib,
 }
 
@@ -48,6 +50,7 @@ fn django_fields(fields: Result<Pbkdf2Fields<'_>, ForeignFault>) -> Result<MadeT
     };
     match rounds_of(fields.rounds) {
         Some(rounds) => with_salt(
+            Pbkdf2Hash::Sha256,
             rounds,
             fields.salt.as_bytes(),
             field_bytes::<Base64>(fields.key),
@@ -57,8 +60,11 @@ fn django_fields(fields: Result<Pbkdf2Fields<'_>, ForeignFault>) -> Result<MadeT
 }
 
 // What passlib's and OpenLDAP's fields stand for.
-fn adapted_fields(fields: Result<Pbkdf2Fields<'_>, ForeignFault>) -> Result<MadeText, ForeignFault>
-    ensures { result ≡ adapted_fields (as_fields fields.entry) }
+fn adapted_fields(
+    hash: Pbkdf2Hash,
+    fields: Result<Pbkdf2Fields<'_>, ForeignFault>,
+) -> Result<MadeText, ForeignFault>
+    ensures { result ≡ adapted_fields hash (as_fields fields.entry) }
 {
     let fields = match fields {
         Ok(fields) => fields,
@@ -69,6 +75,7 @@ fn adapted_fields(fields: Result<Pbkdf2Fields<'_>, ForeignFault>) -> Result<Made
     };
     match field_bytes::<Base64Pbkdf2>(fields.salt) {
         Some(salt) => with_salt(
+            hash,
             rounds,
             salt.as_slice(),
             field_bytes::<Base64Pbkdf2>(fields.key),
@@ -105,12 +112,13 @@ pub(crate) fn django_pbkdf2<'a>(
 
 /// What stands behind LDAP's tag or passlib's identifier of PBKDF2.
 pub(crate) fn adapted_pbkdf2<'a>(
+    hash: Pbkdf2Hash,
     rest: &'a str,
     made: &mut MadeText,
 ) -> Result<Option<&'a str>, ForeignFault>
-    ensures { as_answer result made.new ≡ adapted_pbkdf2 rest.now }
+    ensures { as_answer result made.new ≡ adapted_pbkdf2 hash rest.now }
 {
-    put_made(adapted_fields(fields_of(rest)), made)
+    put_made(adapted_fields(hash, fields_of(rest)), made)
 }
 
 /// The stored text that a foreign text stands for, in the one spelling that `any_check` reads: a part of the foreign text; or

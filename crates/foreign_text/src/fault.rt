@@ -8,8 +8,6 @@ ghost use Rattle.foreign_text.specs.Words.{fault_word, unread_word};
 pub enum Unread {
     /// PBKDF2 with SHA-1.
     Pbkdf2Sha1,
-    /// PBKDF2 with SHA-512.
-    Pbkdf2Sha512,
     /// bcrypt of a SHA-256 digest of the password, as Django and passlib make it.
     BcryptSha256,
     /// scrypt in Django's spelling.
@@ -36,7 +34,6 @@ impl Unread {
     {
         match self {
             Unread::Pbkdf2Sha1 => "unsupported-pbkdf2-sha1",
-            Unread::Pbkdf2Sha512 => "unsupported-pbkdf2-sha512",
             Unread::BcryptSha256 => "unsupported-bcrypt-sha256",
             Unread::Scrypt => "unsupported-scrypt",
             Unread::Sha1 => "unsupported-sha1",

@@ -7,7 +7,8 @@ pub fn converts_to_itself()
     ensures itself { ConvertsToItself }
 {}
 
-/// What Django, OpenLDAP and passlib write for rounds, a salt and a key becomes the text of the record of these.
+/// What Django, OpenLDAP and passlib write for a hash (Django for SHA-256), rounds, a salt and a key becomes the text of the
+/// record of these.
 pub fn keeps_the_fields()
     ensures django { DjangoKept }
     ensures ldap { LdapKept }

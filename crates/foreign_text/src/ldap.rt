@@ -7,6 +7,7 @@ ghost use Rattle.foreign_text.specs.Names.{behind_tag, is_tagged, ldap_digest, l
 ghost use Rattle.foreign_text.specs.Views.{as_answer};
 
 use crate::converted::{MadeText, adapted_pbkdf2, as_it_is};
+use crate::pbkdf2::Pbkdf2Hash;
 use crate::{ForeignFault, Unread};
 use pieces::{begins_with, behind};
 
@@ -57,13 +58,11 @@ fn ldap_sha2(text: &str) -> Unread
     }
 }
 
-// The scheme of a text of PBKDF2 or of a digest.
+// The scheme of a text of PBKDF2 with SHA-1 or of a digest.
 fn ldap_pbkdf2(text: &str) -> Unread
     ensures { result ≡ ldap_pbkdf2 text.now }
 {
-    if is_tagged(text, "{PBKDF2-SHA512}", "{pbkdf2-sha512}") {
-        Unread::Pbkdf2Sha512
-    } else if is_tagged(text, "{PBKDF2-SHA1}", "{pbkdf2-sha1}")
+    if is_tagged(text, "{PBKDF2-SHA1}", "{pbkdf2-sha1}")
         || is_tagged(text, "{PBKDF2}", "{pbkdf2}")
     {
         Unread::Pbkdf2Sha1
@@ -108,7 +107,10 @@ pub(crate) fn ldap<'a>(text: &'a str, made: &mut MadeText) -> Result<Option<&'a 
         return as_it_is("$argon2", rest);
     }
     if let Some(rest) = behind_tag(text, "{PBKDF2-SHA256}", "{pbkdf2-sha256}") {
-        return adapted_pbkdf2(rest, made);
+        return adapted_pbkdf2(Pbkdf2Hash::Sha256, rest, made);
+    }
+    if let Some(rest) = behind_tag(text, "{PBKDF2-SHA512}", "{pbkdf2-sha512}") {
+        return adapted_pbkdf2(Pbkdf2Hash::Sha512, rest, made);
     }
     Err(ForeignFault::Unread(ldap_unread(text)))
 }

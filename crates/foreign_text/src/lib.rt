@@ -18,4 +18,4 @@ mod tests;
 
 pub use converted::{Foreign, MadeText, stored_text};
 pub use fault::{ForeignFault, Unread};
-pub use pbkdf2::TEXT_MAX;
+pub use pbkdf2::{Pbkdf2Hash, TEXT_MAX};

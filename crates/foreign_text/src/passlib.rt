@@ -6,6 +6,7 @@ ghost use Rattle.foreign_text.specs.Names.{passlib_unread};
 ghost use Rattle.foreign_text.specs.Views.{as_answer};
 
 use crate::converted::{MadeText, adapted_pbkdf2};
+use crate::pbkdf2::Pbkdf2Hash;
 use crate::{ForeignFault, Unread};
 use pieces::{begins_with, behind};
 
@@ -23,9 +24,7 @@ fn begins_with_digit(rest: &str) -> bool
 fn passlib_unread(text: &str) -> Option<Unread>
     ensures { result ≡ passlib_unread text.now }
 {
-    if begins_with(text, "$pbkdf2-sha512$") {
-        Some(Unread::Pbkdf2Sha512)
-    } else if begins_with(text, "$pbkdf2$") {
+    if begins_with(text, "$pbkdf2$") {
         Some(Unread::Pbkdf2Sha1)
     } else if begins_with(text, "$bcrypt-sha256$") {
         Some(Unread::BcryptSha256)
@@ -36,13 +35,29 @@ fn passlib_unread(text: &str) -> Option<Unread>
     }
 }
 
-// A text of another scheme than PBKDF2 with SHA-256.
+// A text without an identifier of PBKDF2 that is read.
 fn passlib_other(text: &str) -> Result<Option<&str>, ForeignFault>
     ensures { (made : List ℕ) → as_answer result made ≡ passlib_other text.now (passlib_unread text.now) }
 {
     match passlib_unread(text) {
         Some(scheme) => Err(ForeignFault::Unread(scheme)),
         None => Ok(Some(text)),
+    }
+}
+
+// What stands behind an identifier of PBKDF2's: its fields, or the text is a record already.
+fn passlib_pbkdf2<'a>(
+    hash: Pbkdf2Hash,
+    text: &'a str,
+    rest: &'a str,
+    made: &mut MadeText,
+) -> Result<Option<&'a str>, ForeignFault>
+    ensures { as_answer result made.new ≡ passlib_pbkdf2 hash text.now rest.now }
+{
+    if begins_with_digit(rest) {
+        adapted_pbkdf2(hash, rest, made)
+    } else {
+        Ok(Some(text))
     }
 }
 
@@ -54,12 +69,11 @@ pub(crate) fn passlib<'a>(
 ) -> Result<Option<&'a str>, ForeignFault>
     ensures { as_answer result made.new ≡ passlib text.now }
 {
-    let Some(rest) = behind(text, "$pbkdf2-sha256$") else {
-        return passlib_other(text);
-    };
-    if begins_with_digit(rest) {
-        adapted_pbkdf2(rest, made)
-    } else {
-        Ok(Some(text))
+    if let Some(rest) = behind(text, "$pbkdf2-sha256$") {
+        return passlib_pbkdf2(Pbkdf2Hash::Sha256, text, rest, made);
     }
+    if let Some(rest) = behind(text, "$pbkdf2-sha512$") {
+        return passlib_pbkdf2(Pbkdf2Hash::Sha512, text, rest, made);
+    }
+    passlib_other(text)
 }

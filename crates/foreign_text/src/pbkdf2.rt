@@ -5,7 +5,7 @@ ghost use Rattle.std.specs.Fmt.{decimal};
 ghost use Rattle.pieces.specs.Characters.{dollar};
 ghost use Rattle.pieces.specs.Pieces.{pieces_at};
 ghost use Rattle.phc.specs.Encoded.{encoding};
-ghost use Rattle.foreign_text.specs.Pbkdf2.{field_bytes, fields_of, pbkdf2_text, rounds_of, with_key, with_salt};
+ghost use Rattle.foreign_text.specs.Pbkdf2.{field_bytes, fields_of, identifier, pbkdf2_text, rounds_of, with_key, with_salt};
 ghost use Rattle.foreign_text.specs.Views.{as_fields};
 
 use crate::ForeignFault;
@@ -14,12 +14,34 @@ use phc::{Output, Salt, Value};
 use pieces::short_bytes::ShortBytes;
 use pieces::{first_piece, is_end};
 
-/// The most bytes of a text that is made: `$pbkdf2-sha256$i=`, a number of 32 bits, two `$`, and twice 86
+/// The most bytes of a text that is made: `$pbkdf2-sha512$i=`, a number of 32 bits, two `$`, and twice 86
 /// characters.
 pub const TEXT_MAX: usize = 208;
 
 /// The most characters of a field that is decoded.
 const FIELD_MAX: usize = 128;
+
+/// The hash of a text of PBKDF2: the one that its HMAC takes.
+#[derive(Clone, Copy, Debug, PartialEq, Eq)]
+pub enum Pbkdf2Hash {
+    /// SHA-256.
+    Sha256,
+    /// SHA-512.
+    Sha512,
+}
+
+impl Pbkdf2Hash {
+    // What the text of a record begins with, before the rounds.
+    fn front(&self) -> &'static str
+        ensures text { result.now ≡ codes "$" ++ identifier self.now ++ codes "$i=" }
+        ensures len { length result.now ≡ 17 }
+    {
+        match self {
+            Pbkdf2Hash::Sha256 => "$pbkdf2-sha256$i=",
+            Pbkdf2Hash::Sha512 => "$pbkdf2-sha512$i=",
+        }
+    }
+}
 
 /// Rounds, a salt and a key, as a foreign text spells them.
 #[derive(Clone, Copy, Debug)]
@@ -89,21 +111,21 @@ fn push_encoding(text: &mut ShortBytes<TEXT_MAX>, bytes: &[u8])
     }
 }
 
-// `$pbkdf2-sha256$i=ROUNDS`
-fn front(rounds: u32) -> ShortBytes<TEXT_MAX>
-    ensures text { result ≡ codes "$pbkdf2-sha256$i=" ++ decimal rounds }
+// The text up to the rounds.
+fn front(hash: Pbkdf2Hash, rounds: u32) -> ShortBytes<TEXT_MAX>
+    ensures text { result ≡ codes "$" ++ identifier hash ++ codes "$i=" ++ decimal rounds }
     ensures len { length result ≤ 34 }
 {
-    let mut text = ShortBytes::from_slice(b"$pbkdf2-sha256$i=");
+    let mut text = ShortBytes::from_slice(hash.front().as_bytes());
     text.push_decimal(rounds as u64);
     text
 }
 
 // The text of the record.
-fn pbkdf2_text(rounds: u32, salt: Salt, key: Output) -> ShortBytes<TEXT_MAX>
-    ensures { result ≡ pbkdf2_text rounds salt key }
+fn pbkdf2_text(hash: Pbkdf2Hash, rounds: u32, salt: Salt, key: Output) -> ShortBytes<TEXT_MAX>
+    ensures { result ≡ pbkdf2_text hash rounds salt key }
 {
-    let mut text = front(rounds);
+    let mut text = front(hash, rounds);
     text.push_all(b"$");
     push_encoding(&mut text, salt.as_bytes());
     text.push_all(b"$");
@@ -113,31 +135,33 @@ fn pbkdf2_text(rounds: u32, salt: Salt, key: Output) -> ShortBytes<TEXT_MAX>
 
 // The text of rounds, a salt and the bytes of a key, or its first fault.
 fn with_key(
+    hash: Pbkdf2Hash,
     rounds: u32,
     salt: Salt,
     key: Option<ShortBytes<96>>,
 ) -> Result<ShortBytes<TEXT_MAX>, ForeignFault>
-    ensures { result ≡ with_key rounds salt key }
+    ensures { result ≡ with_key hash rounds salt key }
 {
     let Some(key) = key else {
         return Err(ForeignFault::Hash);
     };
     match Output::new(key.as_slice()) {
-        Ok(key) => Ok(pbkdf2_text(rounds, salt, key)),
+        Ok(key) => Ok(pbkdf2_text(hash, rounds, salt, key)),
         Err(_) => Err(ForeignFault::HashLength),
     }
 }
 
 /// The text of rounds, the bytes of a salt and those of a key, or the first fault of salt and key.
 pub(crate) fn with_salt(
+    hash: Pbkdf2Hash,
     rounds: u32,
     salt: &[u8],
     key: Option<ShortBytes<96>>,
 ) -> Result<ShortBytes<TEXT_MAX>, ForeignFault>
-    ensures { result ≡ with_salt rounds (Some salt.now) key }
+    ensures { result ≡ with_salt hash rounds (Some salt.now) key }
 {
     match Salt::new(salt) {
-        Ok(salt) => with_key(rounds, salt, key),
+        Ok(salt) => with_key(hash, rounds, salt, key),
         Err(_) => Err(ForeignFault::SaltLength),
     }
 }

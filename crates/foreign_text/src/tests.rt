@@ -19,7 +19,7 @@ fn fault_of(foreign: Foreign, text: &str) -> Option<ForeignFault> {
 }
 
 // Foreign texts, and the stored texts for them.
-const CONVERTED: [(Foreign, &str, &str); 15] = [
+const CONVERTED: [(Foreign, &str, &str); 19] = [
     (
         Foreign::Django,
         "pbkdf2_sha256$1$seasalt2$okMx3z2N312lq0ehHCdGm1whcV9TBaPbzGwzrkepq98=",
@@ -82,6 +82,26 @@ const CONVERTED: [(Foreign, &str, &str); 15] = [
         "$pbkdf2-sha256$i=7$AAECAwQFBgcICQoLDA0ODxAREhMUFRYXGBkaGxwdHh8gISIjJCUmJygpKissLS4v$qui+4ZHfyiWOKCdqocsBmEszyk1mPmqQ4xz7pNRvaPw",
     ),
     (
+        Foreign::Ldap,
+        "{PBKDF2-SHA512}7$././././././././$ppFedq8elf5OVwSBUdtauKN5zT1l.1ShAJzlc/njXQOkHF1uhbej/cilXYCK.QAXaHMEL5ev4hgeXx77QcU..A",
+        "$pbkdf2-sha512$i=7$+/+/+/+/+/+/+/+/$ppFedq8elf5OVwSBUdtauKN5zT1l+1ShAJzlc/njXQOkHF1uhbej/cilXYCK+QAXaHMEL5ev4hgeXx77QcU++A",
+    ),
+    (
+        Foreign::Ldap,
+        "{pbkdf2-sha512}7$YWJjZGVmZ2g$QB4lyLY5MDmsMNUCYLZH2QEGr5FThdP3MvCnw5io4OWVGbSwILJD5krweRfPTiM/CyBlm7LPbnoEaD1M06jb3Q",
+        "$pbkdf2-sha512$i=7$YWJjZGVmZ2g$QB4lyLY5MDmsMNUCYLZH2QEGr5FThdP3MvCnw5io4OWVGbSwILJD5krweRfPTiM/CyBlm7LPbnoEaD1M06jb3Q",
+    ),
+    (
+        Foreign::Passlib,
+        "$pbkdf2-sha512$1212$RHY0Fr3IDMSVO/RSZyb5ow$eNLfBK.eVozomMr.1gYa17k9B7KIK25NOEshvhrSX.esqY3s.FvWZViXz4KoLlQI.BzY/YTNJOiKc5gBYFYGww",
+        "$pbkdf2-sha512$i=1212$RHY0Fr3IDMSVO/RSZyb5ow$eNLfBK+eVozomMr+1gYa17k9B7KIK25NOEshvhrSX+esqY3s+FvWZViXz4KoLlQI+BzY/YTNJOiKc5gBYFYGww",
+    ),
+    (
+        Foreign::Passlib,
+        "$pbkdf2-sha512$7$AAECAwQFBgcICQoLDA0ODxAREhMUFRYXGBkaGxwdHh8gISIjJCUmJygpKissLS4v$QL9iWiP93yjDMztDCJVaMdhJou.eMBwDbSy4nQyjXwyHy4kYuarxlaWwCfk2AZj7oEY78ipIBSo/tzcyyPlo9g",
+        "$pbkdf2-sha512$i=7$AAECAwQFBgcICQoLDA0ODxAREhMUFRYXGBkaGxwdHh8gISIjJCUmJygpKissLS4v$QL9iWiP93yjDMztDCJVaMdhJou+eMBwDbSy4nQyjXwyHy4kYuarxlaWwCfk2AZj7oEY78ipIBSo/tzcyyPlo9g",
+    ),
+    (
         Foreign::Passlib,
         "$pbkdf2-sha256$i=7$YWJjZGVmZ2g$oNzBqFb03A+goX/CUpviOBd1EZ5cZP30Ade7+vnhkhM",
         "$pbkdf2-sha256$i=7$YWJjZGVmZ2g$oNzBqFb03A+goX/CUpviOBd1EZ5cZP30Ade7+vnhkhM",
@@ -102,7 +122,7 @@ fn converted_texts(rt: HostRuntime) {
 }
 
 // Texts of schemes that aren't read.
-const UNREAD: [(Foreign, &str, Unread, &str); 16] = [
+const UNREAD: [(Foreign, &str, Unread, &str); 15] = [
     (
         Foreign::Django,
         "pbkdf2_sha1$3$CQGgXkH1zxFUb$GLn5Ai20ScanjT8A5+7iI21zErE=",
@@ -171,12 +191,6 @@ const UNREAD: [(Foreign, &str, Unread, &str); 16] = [
     ),
     (
         Foreign::Ldap,
-        "{PBKDF2-SHA512}39$RajV.j.nNAYAgFDq3XuvVQ$x",
-        Unread::Pbkdf2Sha512,
-        "unsupported-pbkdf2-sha512",
-    ),
-    (
-        Foreign::Ldap,
         "secret",
         Unread::Cleartext,
         "unsupported-cleartext",
@@ -189,9 +203,9 @@ const UNREAD: [(Foreign, &str, Unread, &str); 16] = [
     ),
     (
         Foreign::Passlib,
-        "$pbkdf2-sha512$30$GKP03luLsRYCYMz5P2fMGQ$x",
-        Unread::Pbkdf2Sha512,
-        "unsupported-pbkdf2-sha512",
+        "$pbkdf2$3$jTFGyDlHSGnNGWPM2bvX.g$x",
+        Unread::Pbkdf2Sha1,
+        "unsupported-pbkdf2-sha1",
     ),
     (
         Foreign::Passlib,
@@ -211,7 +225,7 @@ fn unread_schemes(rt: HostRuntime) {
 }
 
 // Texts with a fault, and its word. Of the spare bits of the last character of a key or a salt one is set in two of them.
-const FAULTS: [(Foreign, &str, ForeignFault, &str); 23] = [
+const FAULTS: [(Foreign, &str, ForeignFault, &str); 25] = [
     (
         Foreign::Django,
         "pbkdf2_sha256$1$abcdefgh",
@@ -323,6 +337,18 @@ const FAULTS: [(Foreign, &str, ForeignFault, &str); 23] = [
     (
         Foreign::Ldap,
         "{ARGON2}$5$x$y",
+        ForeignFault::Form,
+        "foreign-form",
+    ),
+    (
+        Foreign::Ldap,
+        "{PBKDF2-SHA512}39$RajV.j.nNAYAgFDq3XuvVQ$x",
+        ForeignFault::Hash,
+        "foreign-hash",
+    ),
+    (
+        Foreign::Passlib,
+        "$pbkdf2-sha512$30$GKP03luLsRYCYMz5P2fMGQ",
         ForeignFault::Form,
         "foreign-form",
     ),

@@ -5,8 +5,9 @@ use Rattle.std.proofs.lemmas.Bool.{and_parts}
 use Rattle.std.proofs.lemmas.Bool.Decides.{nat_tests}
 use Rattle.phc.specs.declared.password_hash.PasswordHash.{PasswordHash}
 use Rattle.pbkdf2_plain.specs.Profile.{are_params, are_rounds, pbkdf2_accepts, rounds_of}
+use Rattle.pbkdf2_plain.specs.declared.profile.Pbkdf2Hash.{Pbkdf2Hash}
 
-module _ (parsed : PasswordHash) (n : ℕ) (accepted : pbkdf2_accepts parsed n ≡ true) where
+module _ (hash : Pbkdf2Hash) (parsed : PasswordHash) (n : ℕ) (accepted : pbkdf2_accepts hash parsed n ≡ true) where
   most : nat_le n 64 ≡ true
   unfolding pbkdf2_accepts
   most = (and_parts _ (nat_le n 64) accepted).1

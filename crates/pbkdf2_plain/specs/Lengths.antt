@@ -1,50 +1,85 @@
--- How long blocks and keys are: proofs, which stand here as an implementation of `PhcKdf` names one of them. No public
+-- How long codes, blocks and keys are: proofs, which stand here as implementations of traits name some of them. No public
 -- clause names these words.
-use Rattle.std.proofs.Common.{◌≡◌, ℕ, zero, suc, ◌+◌, ◌*◌, ◌/◌, List, [], ◌∷◌, length, refl, ◌∙◌, arith}
-use Rattle.std.specs.Prelude.{Option, Some, None}
+use Rattle.std.proofs.Common.{◌≡◌, ℕ, zero, suc, ◌+◌, ◌*◌, ◌/◌, ◌%◌, ◌≤◌, ◌<◌, min, List, [], ◌∷◌, ◌++◌, length, refl, ◌∙◌, arith}
+use Rattle.std.specs.Prelude.{Option, Some, None, replicate}
+use Rattle.std.specs.Int.{div_ceil}
+use Rattle.std.proofs.lemmas.Grind.{div_ceil_times}
 use Rattle.std.proofs.lemmas.List.{length-append, length-take-le, length-replicate}
 use Rattle.phc.specs.declared.password_hash.PasswordHash.{PasswordHash}
+use Rattle.sha2.specs.Sha512.{sha512}
+use Rattle.sha2.proofs.Facts512.{length-sha512}
 use Rattle.scrypt_plain.specs.Bytes.{xor_bytes}
+use Rattle.scrypt_plain.specs.Hmac.{hmac}
 use Rattle.scrypt_plain.specs.Lengths.{length-hmac}
-use Rattle.pbkdf2_plain.specs.Pbkdf2.{u, output_block, output_blocks, pbkdf2}
-use Rattle.pbkdf2_plain.specs.Profile.{rounds_of, key_after, pbkdf2_key}
+use Rattle.pbkdf2_plain.specs.Hmac.{block_key, hmac_sha512}
+use Rattle.pbkdf2_plain.specs.Pbkdf2.{Prf, u, output_block, output_blocks, pbkdf2, pbkdf2_sha256, pbkdf2_sha512}
+use Rattle.pbkdf2_plain.specs.Profile.{rounds_of, key_after, pbkdf2_key, pbkdf2_with}
+use Rattle.pbkdf2_plain.specs.declared.profile.Pbkdf2Hash.{Pbkdf2Hash}
+use Rattle.pbkdf2_plain.specs.declared.profile.Pbkdf2Hash.TheVariants.{Sha256, Sha512}
 
-pub length-u : (p s : List ℕ) (i j : ℕ) → length (u p s i (suc j)) ≡ 32
-unfolding u
-length-u p s i j = length-hmac p (u p s i j)
+pub length-hmac_sha512 : (key text : List ℕ) → length (hmac_sha512 key text) ≡ 64
+unfolding hmac_sha512
+length-hmac_sha512 key text =
+    length-sha512 (xor_bytes (block_key sha512 128 key) (replicate 128 0x5c)
+    ++ sha512 (xor_bytes (block_key sha512 128 key) (replicate 128 0x36) ++ text))
 
 length-xor : (xs ys : List ℕ) → length xs ≡ length ys → length (xor_bytes xs ys) ≡ length xs
 length-xor [] ys e = refl
 length-xor (x ∷ xs) [] e = omega (arith, e)
 length-xor (x ∷ xs) (y ∷ ys) e = let h = length-xor xs ys (omega (arith, e)) in omega (arith, h)
 
-pub length-output_block : (p s : List ℕ) (i c : ℕ) → length (output_block p s i c) ≡ 32
-unfolding output_block
-length-output_block p s i zero = refl
-length-output_block p s i (suc c) =
-    let before = length-output_block p s i c in
-    let next = length-u p s i c in
-    length-xor (output_block p s i c) (u p s i (suc c)) (omega (arith, before, next)) ∙ before
+-- all outputs of a pseudorandom function have this length
+abbrev pub HasLength : Prf → ℕ → Type 0
+HasLength prf h = (key text : List ℕ) → length (prf key text) ≡ h
 
-pub length-output_blocks : (p s : List ℕ) (c n : ℕ) → length (output_blocks p s c n) ≡ 32 * n
-unfolding output_blocks
-length-output_blocks p s c zero = refl
-length-output_blocks p s c (suc n) =
-    let before = length-output_blocks p s c n in
-    let last = length-output_block p s (n + 1) c in
-    length-append (output_blocks p s c n) (output_block p s (n + 1) c) ∙ omega (arith, before, last)
+-- as many blocks as it takes are long enough
+pub enough : (n h : ℕ) → 0 < h → n ≤ h * div_ceil n h
+enough n h least = let times = (div_ceil_times n h least).0 in omega (arith, times)
 
-pub length-pbkdf2 : (p s : List ℕ) (c n : ℕ) → length (pbkdf2 p s c n) ≡ n
-unfolding pbkdf2
-length-pbkdf2 p s c n =
-    let all = length-output_blocks p s c ((n + 31) / 32) in
-    length-take-le n (output_blocks p s c ((n + 31) / 32)) (omega (arith, all))
+module _ (prf : Prf) (h : ℕ) (long : HasLength prf h) where
+  pub length-u : (p s : List ℕ) (i j : ℕ) → length (u prf p s i (suc j)) ≡ h
+  unfolding u
+  length-u p s i j = long p (u prf p s i j)
 
-length-key_after : (rounds : Option ℕ) (password salt : List ℕ) (n : ℕ) → length (key_after rounds password salt n) ≡ n
-length-key_after None password salt n = length-replicate n 0
-length-key_after (Some c) password salt n = length-pbkdf2 password salt c n
+  pub length-output_block : (p s : List ℕ) (i c : ℕ) → length (output_block prf h p s i c) ≡ h
+  unfolding output_block
+  length-output_block p s i zero = length-replicate h 0
+  length-output_block p s i (suc c) =
+      let before = length-output_block p s i c in
+      let next = length-u p s i c in
+      length-xor (output_block prf h p s i c) (u prf p s i (suc c)) (omega (arith, before, next)) ∙ before
 
-pub length-pbkdf2_key : (password : List ℕ) (parsed : PasswordHash) (salt : List ℕ) (n : ℕ)
-    → length (pbkdf2_key password parsed salt n) ≡ n
+  pub length-output_blocks : (p s : List ℕ) (c n : ℕ) → length (output_blocks prf h p s c n) ≡ h * n
+  unfolding output_blocks
+  length-output_blocks p s c zero = omega arith
+  length-output_blocks p s c (suc n) =
+      let before = length-output_blocks p s c n in
+      let last = length-output_block p s (n + 1) c in
+      length-append (output_blocks prf h p s c n) (output_block prf h p s (n + 1) c) ∙ omega (arith, before, last)
+
+  pub length-pbkdf2 : 0 < h → (p s : List ℕ) (c n : ℕ) → length (pbkdf2 prf h p s c n) ≡ n
+  unfolding pbkdf2
+  length-pbkdf2 least p s c n =
+      let all = length-output_blocks p s c (div_ceil n h) in
+      let fits = enough n h least in
+      length-take-le n (output_blocks prf h p s c (div_ceil n h)) (omega (arith, all, fits))
+
+pub length-pbkdf2_sha256 : (p s : List ℕ) (c n : ℕ) → length (pbkdf2_sha256 p s c n) ≡ n
+length-pbkdf2_sha256 = length-pbkdf2 hmac 32 length-hmac (omega arith)
+
+pub length-pbkdf2_sha512 : (p s : List ℕ) (c n : ℕ) → length (pbkdf2_sha512 p s c n) ≡ n
+length-pbkdf2_sha512 = length-pbkdf2 hmac_sha512 64 length-hmac_sha512 (omega arith)
+
+length-pbkdf2_with : (hash : Pbkdf2Hash) (p s : List ℕ) (c n : ℕ) → length (pbkdf2_with hash p s c n) ≡ n
+length-pbkdf2_with Sha256 = length-pbkdf2_sha256
+length-pbkdf2_with Sha512 = length-pbkdf2_sha512
+
+length-key_after : (hash : Pbkdf2Hash) (rounds : Option ℕ) (password salt : List ℕ) (n : ℕ)
+    → length (key_after hash rounds password salt n) ≡ n
+length-key_after hash None password salt n = length-replicate n 0
+length-key_after hash (Some c) password salt n = length-pbkdf2_with hash password salt c n
+
+pub length-pbkdf2_key : (hash : Pbkdf2Hash) (password : List ℕ) (parsed : PasswordHash) (salt : List ℕ) (n : ℕ)
+    → length (pbkdf2_key hash password parsed salt n) ≡ n
 unfolding pbkdf2_key
-length-pbkdf2_key password parsed salt n = length-key_after (rounds_of parsed) password salt n
+length-pbkdf2_key hash password parsed salt n = length-key_after hash (rounds_of parsed) password salt n

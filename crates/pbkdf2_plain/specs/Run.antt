@@ -1,4 +1,5 @@
--- What is owed for the lines of a password file: scrypt's verdict for the identifier `scrypt`, else PBKDF2's.
+-- What is owed for the lines of a password file: scrypt's verdict for the identifier `scrypt`, else
+-- that of PBKDF2 with SHA-256.
 use Rattle.std.specs.Prelude.{ℕ, Bool, ◌&&◌, List, codes, Result, is_ok}
 use Rattle.line_program.specs.PlainOutput.{plain_rules}
 use Rattle.line_program.specs.Rules.{LineRules}
@@ -8,14 +9,15 @@ use Rattle.stored_check.specs.Verdict.{verdict}
 use Rattle.stored_check.specs.declared.error.StoredError.{StoredError}
 use Rattle.pbkdf2_plain.specs.Either.{Accepted, Tag, either_accepted, either_tag, has_identifier}
 use Rattle.pbkdf2_plain.specs.Profile.{pbkdf2_accepts, pbkdf2_key}
+use Rattle.pbkdf2_plain.specs.declared.profile.Pbkdf2Hash.TheVariants.{Sha256}
 
 -- the records that are taken
 abbrev pub accepted : Accepted
-accepted = either_accepted (codes "scrypt") scrypt.accepted (λ parsed salt n. pbkdf2_accepts parsed n)
+accepted = either_accepted (codes "scrypt") scrypt.accepted (λ parsed salt n. pbkdf2_accepts Sha256 parsed n)
 
 -- and their keys
 abbrev pub tag : Tag
-tag = either_tag (codes "scrypt") scrypt.key (λ password parsed salt n. pbkdf2_key password parsed salt n)
+tag = either_tag (codes "scrypt") scrypt.key (λ password parsed salt n. pbkdf2_key Sha256 password parsed salt n)
 
 -- the verdict on a password and a stored text, or the first cause that there is none
 abbrev pub verdict_of_either : List ℕ → List ℕ → Result Bool StoredError

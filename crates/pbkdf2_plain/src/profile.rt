@@ -1,23 +1,45 @@
 //! PBKDF2 for PHC records.
 
-ghost use Rattle.std.specs.Prelude.{◌≡◌, ◌==◌, codes, false, length};
+ghost use Rattle.std.specs.Prelude.{◌≡◌, ◌==◌, ◌<◌, ◌≤◌, ◌^◌, codes, false, length};
 ghost use Rattle.scrypt_plain.specs.Profile.{number};
 ghost use Rattle.pbkdf2_plain.specs.Lengths.{length-pbkdf2_key};
-ghost use Rattle.pbkdf2_plain.specs.Profile.{are_params, are_rounds, is_number, pbkdf2_accepts, pbkdf2_key, rounds_of};
+ghost use Rattle.pbkdf2_plain.specs.Profile.{are_params, are_rounds, identifier, is_number, pbkdf2_accepts, pbkdf2_key, pbkdf2_with, rounds_of};
 
-use crate::pbkdf2;
+use crate::{pbkdf2_sha256, pbkdf2_sha512};
 use phc::{ParamsString, PasswordHash};
 use std::alloc::{AllocError, Global};
 use stored_check::PhcKdf;
 
-/// PBKDF2 behind [`PhcKdf`].
-///
-/// It takes a record exactly where its identifier is `pbkdf2-sha256`, it has no version, its parameters are `i`, once,
-/// and `l`, at most once, in any order, each a decimal, `i` is 1 to 10,000,000, `l` is the length of the hash, and the
-/// hash has 10 to 64 bytes. Its key is that of [`pbkdf2`] after `i` rounds. It never needs memory. Texts that passlib
-/// writes under the same identifier, as `$pbkdf2-sha256$29000$salt$hash`, are no such records and aren't taken.
+/// The hash function under the HMAC that PBKDF2 is made with.
 #[derive(Clone, Copy, Debug, PartialEq, Eq)]
-pub struct Pbkdf2Plain;
+pub enum Pbkdf2Hash {
+    Sha256,
+    Sha512,
+}
+
+impl Pbkdf2Hash {
+    /// The identifier of its records: `pbkdf2-sha256` or `pbkdf2-sha512`.
+    pub fn identifier(self) -> &'static str
+        ensures identifier { result.now ≡ identifier self }
+    {
+        match self {
+            Pbkdf2Hash::Sha256 => "pbkdf2-sha256",
+            Pbkdf2Hash::Sha512 => "pbkdf2-sha512",
+        }
+    }
+}
+
+/// PBKDF2 with a hash function, behind [`PhcKdf`].
+///
+/// It takes a record exactly where its identifier is that of the hash function, it has no version, its parameters are `i`,
+/// once, and `l`, at most once, in any order, each a decimal, `i` is 1 to 10,000,000, `l` is the length of the hash, and
+/// the hash has 10 to 64 bytes. Its key is that of [`pbkdf2_sha256`] or of [`pbkdf2_sha512`] after `i` rounds. It never
+/// needs memory. Texts that passlib writes under the same identifiers, as `$pbkdf2-sha256$29000$salt$hash`, are no such
+/// records and aren't taken.
+#[derive(Clone, Copy, Debug, PartialEq, Eq)]
+pub struct Pbkdf2Plain {
+    pub hash: Pbkdf2Hash,
+}
 
 // The rounds that a record names.
 fn rounds_of(parsed: &PasswordHash) -> Option<u32>
@@ -77,18 +99,34 @@ fn are_params(parsed: &PasswordHash, length: usize) -> bool
             || (has_two_pairs(&parsed.params) && names_length(parsed, length)))
 }
 
+// The key with this hash function.
+fn derive_with(hash: Pbkdf2Hash, password: &[u8], salt: &[u8], rounds: u32, out: &mut [u8])
+    requires rounds_least { 1 ≤ rounds }
+    requires rounds_most { rounds ≤ 10000000 }
+    requires password_length { length password.now < 2 ^ 30 }
+    requires salt_length { length salt.now < 2 ^ 30 }
+    requires key_length_least { 1 ≤ length out.old }
+    requires key_length_most { length out.old ≤ 64 }
+    ensures key { out.new ≡ pbkdf2_with hash password.now salt.now rounds (length out.old) }
+{
+    match hash {
+        Pbkdf2Hash::Sha256 => pbkdf2_sha256(password, salt, rounds, out),
+        Pbkdf2Hash::Sha512 => pbkdf2_sha512(password, salt, rounds, out),
+    }
+}
+
 impl PhcKdf for Pbkdf2Plain {
-    ghost accepted = { λ _ parsed salt n. pbkdf2_accepts parsed n };
+    ghost accepted = { λ k parsed salt n. pbkdf2_accepts k.hash parsed n };
 
     ghost needs_memory = { λ _ _. false };
 
-    ghost tag = { λ _ password parsed salt n. pbkdf2_key password parsed salt n };
+    ghost tag = { λ k password parsed salt n. pbkdf2_key k.hash password parsed salt n };
 
-    ghost tag_length = { λ _ password parsed salt n. length-pbkdf2_key password parsed salt n };
+    ghost tag_length = { λ k password parsed salt n. length-pbkdf2_key k.hash password parsed salt n };
 
     #[tactic(auto, unfolding(crate::specs::Profile::pbkdf2_accepts))]
     fn accepts(&self, parsed: &PasswordHash, _salt: &[u8], length: usize) -> bool {
-        parsed.algorithm.as_str() == "pbkdf2-sha256"
+        parsed.algorithm.as_str() == self.hash.identifier()
             && parsed.version.is_none()
             && are_params(parsed, length)
             && 10 <= length
@@ -105,7 +143,7 @@ impl PhcKdf for Pbkdf2Plain {
     ) -> Result<(), AllocError> {
         match rounds_of(parsed) {
             Some(rounds) => {
-                pbkdf2(password, salt, rounds, out);
+                derive_with(self.hash, password, salt, rounds, out);
                 Ok(())
             }
             None => unreachable!(),

@@ -6,8 +6,9 @@ ghost use Rattle.pieces.specs.FaultCounts.{HasRisen};
 ghost use Rattle.line_program.specs.Outcome.{Outcome};
 ghost use Rattle.stored_check.specs.Verdict.{IsVerdict};
 ghost use Rattle.pbkdf2_plain.specs.Run.{either_rules, is_costly, verdict_of_either};
+ghost use Rattle.pbkdf2_plain.specs.declared.profile.Pbkdf2Hash.TheVariants.{Sha256};
 
-use crate::{EitherKdf, Pbkdf2Plain};
+use crate::{EitherKdf, Pbkdf2Hash, Pbkdf2Plain};
 use line_io::{Sink, Source};
 use line_program::{PasswordCheck, PlainLines, run_plain};
 use phc::Ident;
@@ -18,14 +19,17 @@ use stored_check::{StoredError, check_stored};
 /// The most bytes of an input.
 const INPUT_MAX: u64 = 1 << 40;
 
-// scrypt for the identifier `scrypt`, and PBKDF2 for all others.
+// scrypt for the identifier `scrypt`, and PBKDF2 with SHA-256 for all others.
 fn scrypt_or_pbkdf2(alloc: Global) -> EitherKdf<ScryptKept, Pbkdf2Plain>
     ensures first { result.first ≡ codes "scrypt" }
+    ensures hash { result.b.hash ≡ Sha256 }
 {
     EitherKdf::new(
         Ident::new_unwrap("scrypt"),
         ScryptKept::new(alloc),
-        Pbkdf2Plain,
+        Pbkdf2Plain {
+            hash: Pbkdf2Hash::Sha256,
+        },
     )
 }
 
@@ -37,6 +41,7 @@ fn check_either(
     stored: &str,
 ) -> Result<bool, StoredError>
     requires first { kdf.now.first ≡ codes "scrypt" }
+    requires hash { kdf.now.b.hash ≡ Sha256 }
     ensures verdict { IsVerdict (verdict_of_either password.now stored.now) (is_costly password.now stored.now) result }
 {
     check_stored(alloc, kdf, password, stored)
@@ -48,6 +53,7 @@ struct EitherCheck {
     alloc: Global,
     kdf: EitherKdf<ScryptKept, Pbkdf2Plain>,
     ghost first: { kdf.first ≡ codes "scrypt" },
+    ghost hash: { kdf.b.hash ≡ Sha256 },
 }
 
 impl PasswordCheck for EitherCheck {
@@ -70,7 +76,7 @@ impl PasswordCheck for EitherCheck {
 /// Answers each line of a source of at most `max` bytes with `match`, `mismatch` or `invalid`, and gives the status.
 ///
 /// A line is a password, a tab and a stored text; `invalid` is each line that has more than 8,192 bytes, is no UTF-8,
-/// has no tab, or whose text gets no verdict of `check_stored` with scrypt and PBKDF2. Statuses: 0 each line matches, 1
+/// has no tab, or whose text gets no verdict of `check_stored` with scrypt and PBKDF2 (with SHA-256). Statuses: 0 each line matches, 1
 /// some line does not, 3 a read failed, 4 a write failed, 5 memory was wanting, 6 the source holds more than `max`
 /// bytes. Only the key of a scrypt record takes memory: the table of the largest so far is kept until the
 /// run ends.

@@ -2,33 +2,7 @@
 
 use clap::{Arg, Command};
 use std::alloc::{AllocError, Global};
-
-/// What stands behind the options in the help.
-const FORMS: &str = "\
-The commands, a line each, with one tab between their parts:
-  set USER TEXT               the text is the user's from now on
-  check USER PASSWORD         whether the user's text matches the password
-  upgrade USER SALT PASSWORD  as check; where it matches the text is a new one of scrypt
-  list                        each user with its text, as the command that sets it
-A user is a name of 1 to 64 bytes of UTF-8 without control characters and colons, a text one of
-a shadow or htpasswd file. The replies are ok, match, mismatch, upgraded, a listing, or a word
-for what is refused; pwstore(1) has them all.
-
-'pwstore FILE compact' writes FILE anew, a line for each user.
-
-Statuses:
-   0  the whole input was read, and each reply is ok, match, upgraded or a listing
-   1  the whole input was read, and some reply is another
-   3  a read of standard input failed; the whole lines that were taken are answered
-   4  a write to standard output failed
-   5  memory is wanting; the lines before are answered
-   6  the input has more than 2^40 bytes
-   7  a write of FILE failed; changes since then are answered disk-fault
-   8  a word of the command line isn't UTF-8
-  64  the words of the command line are no form of the program
-  65  FILE isn't one that pwstore can have left; it is not changed
-  66  FILE can't be opened
-  75  another process has FILE open";
+use table_program::HELP;
 
 /// The program's command line.
 pub fn command<'a>(alloc: Global) -> Result<Command<'a>, AllocError> {
@@ -44,7 +18,7 @@ pub fn command<'a>(alloc: Global) -> Result<Command<'a>, AllocError> {
         .about(
             "A table of users and stored texts in a file, each change on the disk before it is answered",
         )
-        .after_help(FORMS)
+        .after_help(HELP)
         .arg(file)?
         .arg(action)
 }

@@ -8,22 +8,20 @@
 
 mod cli;
 mod fault;
-mod opened;
 mod status;
-mod table;
-#[cfg(test)]
-mod tests;
 
 use crate::cli::command;
 use crate::fault::{say, say_refused};
-use crate::opened::{compact_file, serve_file};
 use crate::status::BAD_WORDS;
 use clap::ArgMatches;
 use clap::error::ErrorKind;
 use line_program::status::{ALL_GOOD, NO_MEMORY, NO_WORDS, WRITE_FAULT};
 use std::process::ExitCode;
 use std::{env, io};
-pub use table::{compact, serve, store_of};
+use table_program::{compact_file, serve_file};
+
+// The name that messages begin with.
+const PROGRAM: &str = "pwstore";
 
 // The words of the command line, or the status.
 fn words(rt: &HostRuntime) -> Result<Vec<String>, u8> {
@@ -55,8 +53,8 @@ fn run_words(rt: &HostRuntime, matches: &ArgMatches<'_>) -> u8 {
         return BAD_WORDS;
     };
     match matches.get_str("ACTION") {
-        None => serve_file(rt, name),
-        Some("compact") => compact_file(rt, name),
+        None => serve_file(rt, PROGRAM, name),
+        Some("compact") => compact_file(rt, PROGRAM, name),
         Some(_) => {
             say(rt, "what stands behind the file isn't 'compact'");
             BAD_WORDS

@@ -55,6 +55,7 @@ const LEAST: LeastCosts = LeastCosts {
     yescrypt_ln: 12,
     scrypt_ln: 14,
     pbkdf2_rounds: 600_000,
+    pbkdf2_sha512_rounds: 210_000,
     argon2_memory: 19_456,
 };
 
@@ -74,6 +75,11 @@ pub fn least_of(matches: &ArgMatches<'_>) -> LeastCosts {
         yescrypt_ln: least(matches, "least-yescrypt-ln", LEAST.yescrypt_ln),
         scrypt_ln: least(matches, "least-scrypt-ln", LEAST.scrypt_ln),
         pbkdf2_rounds: least(matches, "least-pbkdf2-rounds", LEAST.pbkdf2_rounds),
+        pbkdf2_sha512_rounds: least(
+            matches,
+            "least-pbkdf2-sha512-rounds",
+            LEAST.pbkdf2_sha512_rounds,
+        ),
         argon2_memory: least(matches, "least-argon2-memory", LEAST.argon2_memory),
     }
 }

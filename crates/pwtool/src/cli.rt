@@ -2,6 +2,7 @@
 
 use crate::from::with_from;
 use crate::make_cli::{make, normalize, unwrap, wrap};
+use crate::table_form::table;
 use clap::{Arg, ArgAction, Command, value_parser};
 use std::alloc::{AllocError, Global};
 
@@ -23,8 +24,8 @@ Statuses:
 const LINES: &str = "\
 A line is a password, a tab and a stored text: of md5-crypt ($1$, $apr1$), SHA-crypt
 ($5$, $6$), bcrypt ($2a$, $2b$, $2y$), yescrypt ($y$) or crypt's scrypt ($7$), or a PHC
-record of scrypt ($scrypt$), PBKDF2 ($pbkdf2-sha256$) or Argon2 ($argon2d$, $argon2i$,
-$argon2id$). The word is match, mismatch, or the first cause that there is no verdict:
+record of scrypt ($scrypt$), PBKDF2 ($pbkdf2-sha256$, $pbkdf2-sha512$) or Argon2 ($argon2d$,
+$argon2i$, $argon2id$). The word is match, mismatch, or the first cause that there is no verdict:
 no-scheme where no scheme has the text, too-costly where a number of it is above the most
 given here. With --from the texts are foreign ones, of which those that aren't read get a
 word that begins with unsupported- or foreign-. pwtool(1) has all words. Status 0 is for
@@ -119,13 +120,17 @@ fn argument<'a>(alloc: Global, option: &CostOption) -> Arg<'a> {
 }
 
 // The least costs that aren't weak.
-fn least_costs() -> [CostOption; 6] {
+fn least_costs() -> [CostOption; 7] {
     [
         least("least-sha-rounds", "SHA-crypt: rounds (5000)"),
         least("least-bcrypt-cost", "bcrypt: cost (10)"),
         least("least-yescrypt-ln", "yescrypt: log2 of N (12)"),
         least("least-scrypt-ln", "scrypt: ln, and log2 of N of $7$ (14)"),
-        least("least-pbkdf2-rounds", "PBKDF2: i (600000)"),
+        least("least-pbkdf2-rounds", "PBKDF2 with SHA-256: i (600000)"),
+        least(
+            "least-pbkdf2-sha512-rounds",
+            "PBKDF2 with SHA-512: i (210000)",
+        ),
         least("least-argon2-memory", "Argon2: m in KiB (19456)"),
     ]
 }
@@ -246,6 +251,7 @@ pub fn command<'a>(alloc: Global) -> Result<Command<'a>, AllocError> {
         .subcommand(join(alloc)?)?
         .subcommand(survey(alloc)?)?
         .subcommand(make(alloc)?)?
+        .subcommand(table(alloc)?)?
         .subcommand(normalize(alloc)?)?
         .subcommand(wrap(alloc)?)?
         .subcommand(unwrap(alloc)?)

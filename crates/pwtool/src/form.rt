@@ -16,15 +16,21 @@ use clap::ArgMatches;
 use foreign_lines::{ForeignLines, LineForm};
 use line_io::{StdSink, StdSource};
 use std::io;
-use std::io::Read;
+use std::io::{Read, Write};
 
-// Answers all lines that a reader gives on standard output, with or without users.
-fn answer<R: Read + Drop>(rt: &HostRuntime, matches: &ArgMatches<'_>, name: &str, reader: R) -> u8
+/// Answers all lines that a reader gives on a writer, with or without users.
+pub(crate) fn answer<R: Read + Drop, W: Write + Drop>(
+    rt: &HostRuntime,
+    matches: &ArgMatches<'_>,
+    name: &str,
+    reader: R,
+    writer: W,
+) -> u8
     ensures status { (result ≤ 6) × (result ≢ 2) }
 {
     let limits = bound_of(matches);
     let reporting = reporting_of(rt, matches);
-    let mut tally = Tally::new(io::writer(rt), progress_over(rt, reporting, name));
+    let mut tally = Tally::new(writer, progress_over(rt, reporting, name));
     let mut source = StdSource::new(reader);
     let mut sink = StdSink::new(&mut tally);
     let is_of_users = matches.get_flag("users");
@@ -48,27 +54,28 @@ fn answer<R: Read + Drop>(rt: &HostRuntime, matches: &ArgMatches<'_>, name: &str
 pub fn run_check(rt: &HostRuntime, matches: &ArgMatches<'_>) -> u8 {
     let name = matches.get_str("FILE").unwrap_or("-");
     if name == "-" {
-        return answer(rt, matches, name, rt.reader());
+        return answer(rt, matches, name, rt.reader(), io::writer(rt));
     }
     match opened(rt, name) {
-        Some(file) => answer(rt, matches, name, file),
+        Some(file) => answer(rt, matches, name, file, io::writer(rt)),
         None => NO_FILE,
     }
 }
 
-// Surveys all lines that a reader gives on standard output.
-fn survey<R: Read + Drop>(
+/// Surveys all lines that a reader gives on a writer.
+pub(crate) fn survey<R: Read + Drop, W: Write + Drop>(
     rt: &HostRuntime,
     matches: &ArgMatches<'_>,
     lines: SurveyLines,
     name: &str,
     reader: R,
+    writer: W,
 ) -> u8
     ensures status { (result ≤ 6) × (result ≢ 2) }
 {
     let progress = progress_over(rt, reporting_of(rt, matches), name);
     let mut source = StdSource::new(reader);
-    let mut sink = StdSink::new(Tally::new(io::writer(rt), progress));
+    let mut sink = StdSink::new(Tally::new(writer, progress));
     let status = match foreign_of(matches) {
         Some(foreign) => {
             let mut lines = ForeignLines {
@@ -86,24 +93,29 @@ fn survey<R: Read + Drop>(
     told(rt, name, status)
 }
 
-/// Surveys the lines of the file that is named, or of standard input, and gives the status.
-pub fn run_survey(rt: &HostRuntime, matches: &ArgMatches<'_>) -> u8 {
+/// What answers the lines of a survey, as the command line asks for it; none where it asks for two formats.
+pub(crate) fn survey_of(matches: &ArgMatches<'_>) -> Option<SurveyLines> {
     let format = match (matches.get_flag("csv"), matches.get_flag("json")) {
-        (true, true) => {
-            say(rt, "--csv and --json exclude each other");
-            return BAD_WORDS;
-        }
+        (true, true) => return None,
         (true, false) => Format::Csv,
         (false, true) => Format::Json,
         (false, false) => Format::Tabs,
     };
-    let lines = SurveyLines::new(least_of(matches), format);
+    Some(SurveyLines::new(least_of(matches), format))
+}
+
+/// Surveys the lines of the file that is named, or of standard input, and gives the status.
+pub fn run_survey(rt: &HostRuntime, matches: &ArgMatches<'_>) -> u8 {
+    let Some(lines) = survey_of(matches) else {
+        say(rt, "--csv and --json exclude each other");
+        return BAD_WORDS;
+    };
     let name = matches.get_str("FILE").unwrap_or("-");
     if name == "-" {
-        return survey(rt, matches, lines, name, rt.reader());
+        return survey(rt, matches, lines, name, rt.reader(), io::writer(rt));
     }
     match opened(rt, name) {
-        Some(file) => survey(rt, matches, lines, name, file),
+        Some(file) => survey(rt, matches, lines, name, file, io::writer(rt)),
         None => NO_FILE,
     }
 }

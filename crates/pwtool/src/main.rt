@@ -3,6 +3,7 @@
 //! `pwtool join TEXTS PASSWORDS`: answers each user of a shadow or htpasswd file by the user's password in another file.
 //! `pwtool survey [FILE]`: tells the scheme and the cost of each user's stored text, and whether it is weak.
 //! `pwtool make SCHEME`: writes the text of a new password, with a salt from the system.
+//! `pwtool table FILE`: answers commands over a table of users and their stored texts that is kept in a file, as `pwstore` does.
 //! `pwtool normalize`, `wrap` and `unwrap`: what `pwcheck` and `wrapstream` do under these names.
 //!
 //! With `--from` the texts are those of Django, LDAP or passlib.
@@ -18,6 +19,8 @@ mod cli;
 mod fault;
 mod foreign;
 mod form;
+#[cfg(test)]
+mod form_tests;
 mod from;
 mod join;
 mod make;
@@ -29,6 +32,7 @@ mod reports;
 mod small_forms;
 mod status;
 mod survey;
+mod table_form;
 mod tally;
 #[cfg(test)]
 mod tests;
@@ -40,6 +44,7 @@ use crate::make::run_make_form;
 use crate::pair::run_join;
 use crate::small_forms::{run_normalize, run_stream_form};
 use crate::status::BAD_WORDS;
+use crate::table_form::run_table;
 pub use check::{check_lines, check_users};
 use clap::ArgMatches;
 use clap::error::ErrorKind;
@@ -82,6 +87,7 @@ fn run_form(rt: &HostRuntime, matches: &ArgMatches<'_>) -> u8 {
         Some(("join", matches)) => run_join(rt, matches),
         Some(("survey", matches)) => run_survey(rt, matches),
         Some(("make", matches)) => run_make_form(rt, matches),
+        Some(("table", matches)) => run_table(rt, matches),
         Some(("normalize", matches)) => run_normalize(rt, matches),
         Some(("wrap", matches)) => run_stream_form(rt, "wrap", matches),
         Some(("unwrap", matches)) => run_stream_form(rt, "unwrap", matches),

@@ -22,8 +22,8 @@ fn number(matches: &ArgMatches<'_>, option: &str, recommended: u32) -> u32 {
     matches.get_one::<u32>(option).unwrap_or(recommended)
 }
 
-// What the text is to cost, by the options and the recommendation.
-fn cost_of(matches: &ArgMatches<'_>, recommended: MakeCost) -> MakeCost
+/// What the text is to cost, by the options and the recommendation.
+pub(crate) fn cost_of(matches: &ArgMatches<'_>, recommended: MakeCost) -> MakeCost
     ensures scheme { scheme_of result ≡ scheme_of recommended }
 {
     match recommended {
@@ -112,8 +112,8 @@ fn cause_of(fault: MakeFault) -> &'static str {
     }
 }
 
-// Says why there is no text, and gives the status.
-fn told(rt: &HostRuntime, end: MakeEnd) -> u8
+/// Says why there is no text, and gives the status.
+pub(crate) fn told(rt: &impl Eprint, end: MakeEnd) -> u8
     ensures status { result ≡ end_status end }
 {
     match end {

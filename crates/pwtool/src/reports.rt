@@ -58,7 +58,7 @@ pub fn summarize(rt: &HostRuntime, reporting: Reporting, counts: &Counts) {
 }
 
 /// Says why a run ended before the end of its input, and gives its status.
-pub fn told(rt: &HostRuntime, name: &str, status: u8) -> u8
+pub fn told(rt: &impl Eprint, name: &str, status: u8) -> u8
     ensures status { result ≡ status }
 {
     let name = if name == "-" { STANDARD_INPUT } else { name };

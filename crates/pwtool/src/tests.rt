@@ -31,6 +31,7 @@ const LEAST: LeastCosts = LeastCosts {
     yescrypt_ln: 12,
     scrypt_ln: 14,
     pbkdf2_rounds: 600_000,
+    pbkdf2_sha512_rounds: 210_000,
     argon2_memory: 19_456,
 };
 

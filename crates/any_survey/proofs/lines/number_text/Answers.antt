@@ -1,4 +1,4 @@
-use Rattle.std.proofs.Common.{arith, lit<, ap, ◌≡◌, ◌≤◌, ◌^◌, ◌<◌, length, rules}
+use Rattle.std.proofs.Common.{arith, lit<, ◌≡◌, ◌≤◌, ◌^◌, ◌<◌, length, rules}
 use Rattle.std.specs.Fmt.{decimal}
 use Rattle.std.proofs.lemmas.Fmt.{length-decimal-le}
 use Rattle.any_survey.proofs.lines.number_text.Goals as goal

@@ -1,4 +1,3 @@
-use Rattle.std.proofs.Common.{◌≡◌}
 use Rattle.line_io.proofs.Gathering.{puts_more, puts_none}
 use Rattle.any_survey.specs.Rows.{total_row, totals}
 use Rattle.any_survey.proofs.Putting.{totals_more, totals_none}

@@ -3,4 +3,4 @@ use Rattle.foreign_text.proofs.Records.{joined_is}
 use Rattle.foreign_text.proofs.pbkdf2.pbkdf2_text.Goals as goal
 
 pub returns : goal.returns
-returns c = joined_is c.args.rounds c.args.salt c.args.key _ (search rules)
+returns c = joined_is c.args.hash c.args.rounds c.args.salt c.args.key _ (search rules)

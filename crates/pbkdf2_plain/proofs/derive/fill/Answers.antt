@@ -1,48 +1,35 @@
-use Rattle.std.proofs.Common.{◌≡◌, ℕ, ◌+◌, ◌-◌, ◌*◌, ◌/◌, ◌++◌, length, take, sym, ap, ap₂, ◌∙◌, arith}
-use Rattle.std.proofs.lemmas.List.{length-take, length-drop}
-use Rattle.std.proofs.lemmas.Slice.{take-put_mid}
-use Rattle.pbkdf2_plain.specs.Pbkdf2.{output_blocks}
-use Rattle.pbkdf2_plain.proofs.Blocks.{blocks_more, blocks_none, put, put_nothing}
+use Rattle.std.proofs.Common.{◌≡◌, ◌+◌, ◌∙◌, ap, length, arith}
+use Rattle.std.specs.Int.{div_ceil}
+use Rattle.pbkdf2_plain.specs.Lengths.{length-output_block}
+use Rattle.pbkdf2_plain.proofs.Blocks.{before_last, filled_all, filled_more, filled_none}
 use Rattle.pbkdf2_plain.proofs.derive.fill.Goals as goal
 
 pub outputs-init : goal.outputs-init
-outputs-init c = sym (blocks_none _ _ _)
+outputs-init g c =
+    filled_none g.P.Prf.code g.row.N c.args.password.now c.args.salt.now c.args.rounds c.args.out.now (length c.args.out.now)
 
 pub outputs-preserved : goal.outputs-preserved
-outputs-preserved c =
-    let i = c.outputs.i in
+outputs-preserved g c =
     let password = c.args.password.now in
     let salt = c.args.salt.now in
-    let salted = c.salted_by-salted.ensures password c.new-keyed.ensures in
-    let block = c.output_block-block.ensures password salt c.new-keyed.ensures salted in
-    take-put_mid (32 * i) (32 * i + 32 - 32 * i) c.outputs.out c.copy_from_slice.new.self (32 * (i + 1)) (omega arith)
-    (omega arith)
-    ∙ ap₂ ◌++◌ c.outputs.invariant (c.copy_from_slice.ensures.after ∙ block)
-    ∙ sym (blocks_more password salt c.args.rounds i)
-
-pub returns-then-rest-gt0 : goal.returns-then-rest-gt0
-returns-then-rest-gt0 c =
     let n = length c.args.out.now in
-    let password = c.args.password.now in
-    let salt = c.args.salt.now in
-    let rounds = c.args.rounds in
-    let count : n / 32 ≡ c.outputs.i = omega arith in
-    let salted = c.salted_by-salted.ensures password c.new-keyed.ensures in
-    let block = c.output_block-last.ensures password salt c.new-keyed.ensures salted in
-    let last = c.copy_from_slice-then-rest-gt0.ensures.after in
-    let before = ap (λ (j : ℕ). take (32 * j) c.outputs.out) count ∙ c.outputs.invariant
-    ∙ ap (output_blocks password salt rounds) (sym count) in
-    put password salt rounds c.outputs.out c.copy_from_slice-then-rest-gt0.new.self (n / 32) n _
-    (omega arith) (omega arith) (omega arith) (omega arith) before
-    (last ∙ ap₂ take (simp (length-take, length-drop) (omega arith)) block)
+    let salted = c.salted_by-salted.ensures password c.keyed-keyed.ensures in
+    let block = c.output_block-block.ensures password salt c.keyed-keyed.ensures salted in
+    let value = c.block_count-count.ensures.value in
+    let test = c.outputs-test.true in
+    let low = before_last n g.row.N c.outputs.i c.requires.least (omega (arith, value, test)) in
+    let size : length c.output_block-block.result ≡ g.row.N =
+    ap length block ∙ length-output_block g.P.Prf.code g.row.N g.P.Prf.long password salt (c.outputs.i + 1) c.args.rounds in
+    filled_more g.P.Prf.code g.row.N password salt c.args.rounds g.P.Prf.long c.outputs.i n
+    c.outputs.out c.put_block.new.out c.output_block-block.result (omega (arith, low)) c.outputs.invariant block
+    (rw (size, c.outputs.auto.out) at c.put_block.ensures.front)
 
-pub returns-else-rest-gt0 : goal.returns-else-rest-gt0
-returns-else-rest-gt0 c =
-    let n = length c.args.out.now in
-    let password = c.args.password.now in
-    let salt = c.args.salt.now in
-    let rounds = c.args.rounds in
-    let count : n / 32 ≡ c.outputs.i = omega arith in
-    let before = ap (λ (j : ℕ). take (32 * j) c.outputs.out) count ∙ c.outputs.invariant
-    ∙ ap (output_blocks password salt rounds) (sym count) in
-    put_nothing password salt rounds c.outputs.out (n / 32) n _ (omega arith) (omega arith) before
+pub returns : goal.returns
+returns g c =
+    let size = c.outputs.auto.out in
+    let value = c.block_count-count.ensures.value in
+    let done = c.outputs-test.false in
+    let end = c.outputs.auto.i-end in
+    let all : c.outputs.i ≡ div_ceil (length c.args.out.now) g.row.N = omega (arith, value, done, end) in
+    filled_all g.P.Prf.code g.row.N c.args.password.now c.args.salt.now c.args.rounds c.requires.least c.outputs.out
+    (length c.args.out.now) size (rw all at c.outputs.invariant)

@@ -1,4 +1,4 @@
-use Rattle.std.proofs.Common.{◌≡◌, ap, sym}
+use Rattle.std.proofs.Common.{ap, sym}
 use Rattle.line_io.proofs.Gathering.{puts_more}
 use Rattle.any_survey.specs.Rows.{ending_text}
 use Rattle.any_survey.specs.declared.rows.Format.{Format}

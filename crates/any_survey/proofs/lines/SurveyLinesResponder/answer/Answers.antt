@@ -1,8 +1,7 @@
-use Rattle.std.proofs.Common.{rules, ◌≡◌, ◌∙◌, ap, ap₂, false, length, sym, List, ℕ}
+use Rattle.std.proofs.Common.{rules, ◌≡◌, ◌∙◌, ap, false, length, sym, List, ℕ}
 use Rattle.std.specs.Prelude.{nat_lt}
-use Rattle.any_survey.specs.Rows.{counted, is_good, row_text, surveyed, surveyed_line}
+use Rattle.any_survey.specs.Rows.{counted, is_good, surveyed}
 use Rattle.any_survey.specs.declared.judgement.Judgement.{Judgement}
-use Rattle.any_survey.specs.declared.lines.SurveyLines.{SurveyLines}
 use Rattle.any_survey.proofs.Surveying.{of_short, row_of}
 use Rattle.any_survey.proofs.lines.SurveyLinesResponder.answer.Goals as goal
 

@@ -1,4 +1,4 @@
-//! What the program does over any device: the table of its file, the commands on it, the file made anew.
+//! What a program does over any device: the table of its file, the commands on it, the file made anew.
 
 ghost use Rattle.std.specs.Prelude.{◌≡◌, ◌≢◌, ◌⊎◌, ◌≤◌, ◌^◌, [], false, true, Some, IfErr, IfOk, IfSome};
 ghost use Rattle.any_table.specs.AnyTexts.{any_texts};

@@ -1,13 +1,18 @@
-//! The program's calls over devices in memory.
+//! The calls over devices in memory, and that each cause is said.
 
 ghost use Rattle.std.specs.Prelude.{◌≡◌, IfOk};
 ghost use Rattle.line_log.specs.MemoryBytes.{device_bytes};
 
+use crate::messages::Speaker;
+use crate::opened::tell;
 use crate::table::{Untaken, compact, serve, store_of};
+use file_device::OpenFault;
 use line_io::{Failed, MemorySink, MemorySource, Sink, Source};
 use line_log::{MemoryDevice, OpenError};
 use std::alloc::{AllocError, Global};
 use std::cell::Cell;
+use std::fmt::Display;
+use std::io;
 use std::test::Fail;
 
 const EMPTY: &[u8] = b"#pwstore 1\n#";
@@ -297,4 +302,68 @@ fn no_read_while_replies_wait(rt: HostRuntime) -> Result<(), Fail> {
     assert!(rt; !source.is_early);
     assert_eq!(rt; answered.get(), 3);
     Ok(())
+}
+
+// What counts the lines that are said.
+#[derive(Drop)]
+struct Ear {
+    lines: Cell<usize>,
+}
+
+impl Eprint for Ear {
+    fn eprint<D: Display + Drop>(&self, _value: D) -> io::Result<()> {
+        Ok(())
+    }
+
+    fn eprintln<D: Display + Drop>(&self, _value: D) -> io::Result<()> {
+        self.lines.set(self.lines.get().saturating_add(1));
+        Ok(())
+    }
+}
+
+#[test]
+fn causes_are_said(rt: HostRuntime) {
+    let ear = Ear {
+        lines: Cell::new(0),
+    };
+    let speaker = Speaker {
+        program: "pwstore",
+        file: "table",
+    };
+    for fault in [
+        OpenFault::InUse,
+        OpenFault::NotAFile,
+        OpenFault::TooLong,
+        OpenFault::NoStandardStream,
+        OpenFault::Io(io::Error::from(io::ErrorKind::PermissionDenied)),
+        OpenFault::OutOfMemory,
+    ] {
+        speaker.say_unopened(&ear, fault);
+    }
+    assert_eq!(rt; ear.lines.get(), 6);
+    for error in [
+        OpenError::NoHeader,
+        OpenError::BadLine(11),
+        OpenError::BadEnd(21),
+        OpenError::Failed,
+        OpenError::OutOfMemory,
+    ] {
+        speaker.say_untaken(&ear, true, error, None);
+        speaker.say_untaken(&ear, false, error, None);
+    }
+    assert_eq!(rt; ear.lines.get(), 16);
+    // The status, whether the store takes changes at the end, and how many lines are said.
+    for (status, takes, lines) in [
+        (0, true, 0),
+        (1, true, 0),
+        (3, true, 1),
+        (4, true, 1),
+        (5, true, 1),
+        (6, true, 1),
+        (7, false, 1),
+    ] {
+        ear.lines.set(0);
+        tell(&ear, &speaker, status, takes, None);
+        assert_eq!(rt; ear.lines.get(), lines);
+    }
 }

@@ -1,0 +1,10 @@
+//! The statuses beside those of `line_program` and `pw_store`.
+
+/// The file isn't one that a run can have left.
+pub const BAD_FILE: u8 = 65;
+
+/// The file can't be opened.
+pub const NO_FILE: u8 = 66;
+
+/// Another process has the file open.
+pub const IN_USE: u8 = 75;
