@@ -6,7 +6,8 @@
 #
 # Where the kit's rt is there, it is asked for each build (`rt run`, `rt lib`): that proves what isn't proved, and does
 # nothing where nothing changed. Without rt, or with PWCHECK_AS_BUILT=1, what stands in crates/*/out is installed as it
-# is, unless a source is newer: that is refused. It says what it did.
+# is, unless a source is newer: that is refused. With PWCHECK_DIST=1 what dist/ holds is installed, by its SHA256SUMS, and nothing is
+# built: that needs no kit. It says what it did.
 set -eu
 top=$(cd "$(dirname "$0")" && pwd)
 prefix=$(realpath -m -- "${1:-/usr/local}")
@@ -24,6 +25,8 @@ put() { # MODE FILE FOLDER
   echo "installed $root/$3/$(basename "$2")"
 }
 
+from_dist() { [ -n "${PWCHECK_DIST:-}" ]; }
+
 may_build() { [ -z "${PWCHECK_AS_BUILT:-}" ] && command -v rt >/dev/null 2>&1; }
 
 built() { # PROGRAM
@@ -35,19 +38,24 @@ built() { # PROGRAM
       || fail "$1 isn't proved or not built: see (cd crates/$1 && rt run)"
     return
   fi
-  [ -e "$out/$1" ] || fail "$out/$1 isn't built, and the kit's rt isn't here"
+  [ -e "$out/$1" ] || fail "$out/$1 isn't built, and the kit's rt isn't here; PWCHECK_DIST=1 installs what dist/ holds"
   newer=$(find "$top"/crates/*/src "$top"/crates/*/specs -name '*.[ra]*t' -newer "$out/$1" -print -quit)
   [ -z "$newer" ] || fail "$out/$1 is older than $newer: build it anew by rt"
 }
 
-for program in $programs; do
-  built "$program"
-done
+if from_dist; then
+  (cd "$top/dist" && sha256sum --quiet -c SHA256SUMS) || fail "dist/ isn't what its SHA256SUMS says"
+else
+  for program in $programs; do
+    built "$program"
+  done
+fi
 library=$(mktemp -d)
 trap 'rm -rf "$library"' EXIT
 python3 "$top/bindings/library.py" "$library" "$prefix"
 for program in $programs; do
-  put 755 "$top/crates/$program/out/$program" bin
+  from_dist && place=$top/dist/$program || place=$top/crates/$program/out/$program
+  put 755 "$place" bin
 done
 put 644 "$library/lib/libpwcheck.a" lib
 put_shared() { # NAME
@@ -64,13 +72,14 @@ put_shared() { # NAME
 
 put_shared libpwcheck
 # crypt(3) under a name of its own, where libxcrypt's header is there to build its face.
-if [ -e /usr/include/crypt.h ]; then
+if from_dist || [ -e /usr/include/crypt.h ]; then
   python3 "$top/crypt3/library.py" "$library"
   put_shared libpwcrypt
 else
   echo "libpwcrypt: <crypt.h> isn't here, left out" >&2
 fi
-put 644 "$top/include/pwcheck.h" include
+from_dist && header=$top/dist/pwcheck.h || header=$top/include/pwcheck.h
+put 644 "$header" include
 put 644 "$library/lib/pkgconfig/pwcheck.pc" lib/pkgconfig
 for page in "$top"/man/*.[135]; do
   put 644 "$page" "share/man/man${page##*.}"

@@ -8,7 +8,7 @@ PREFIX is what pwcheck.pc names, where the folder is to be moved there (else the
 archive that `rt lib` makes in crates/pwcheck_c, joined with the kit's allocator for C programs to one object that
 defines the exports alone, so that it needs the C library only. Where rt is there, `rt lib` is run always: it does
 nothing where nothing changed. Without it (or with PWCHECK_AS_BUILT=1) the archive is taken as it stands, unless a
-source is newer. It needs gcc and binutils.
+source is newer. It needs gcc and binutils. With PWCHECK_DIST=1 the libraries of dist/ are laid out, and nothing is built.
 """
 import os
 import re
@@ -21,6 +21,7 @@ HERE = os.path.dirname(os.path.abspath(__file__))
 TOP = os.path.dirname(HERE)
 CRATES = os.path.join(TOP, "crates")
 PROGRAM = os.environ.get("PWCHECK", os.path.join(CRATES, "pwcheck", "out", "pwcheck"))
+DIST = os.path.join(TOP, "dist") if os.environ.get("PWCHECK_DIST") else None
 ARCHIVE = os.environ.get("LIBPWCHECK_C", os.path.join(CRATES, "pwcheck_c", "out", "libpwcheck_c.a"))
 
 
@@ -79,6 +80,9 @@ def version():
 
 def make_static(static, scratch):
     """One object with all of both archives, of which the exports alone are global."""
+    if DIST:
+        shutil.copy(os.path.join(DIST, "libpwcheck.a"), static)
+        return
     whole = os.path.join(scratch, "pwcheck.o")
     run("ld", "-r", "-o", whole, "--whole-archive", *archives())
     run("objcopy", "--wildcard", "--keep-global-symbol=pwcheck_*", whole)
@@ -87,18 +91,30 @@ def make_static(static, scratch):
     run("ar", "rcsD", static, whole)
 
 
-def make_shared(lib, static):
-    """The shared library under its full version, with the links that the loader and the linker look for."""
-    full = "libpwcheck.so." + version()
-    soname = "libpwcheck.so." + version().split(".", maxsplit=1)[0]
-    run("gcc", "-shared", "-o", os.path.join(lib, full), "-Wl,-soname," + soname, "-Wl,--whole-archive", static,
-        "-Wl,--no-whole-archive", "-Wl,--version-script," + os.path.join(HERE, "exports.map"), "-Wl,-z,defs,-z,text",
-        "-Wl,-z,relro,-z,now,-z,noexecstack")
-    for link, target in [(soname, full), ("libpwcheck.so", soname)]:
+def make_links(lib, name, full, soname):
+    """The links that the loader and the linker look for."""
+    for link, target in [(soname, full), (name + ".so", soname)]:
         path = os.path.join(lib, link)
         if os.path.lexists(path):
             os.remove(path)
         os.symlink(target, path)
+
+
+def make_shared(lib, static):
+    """The shared library under its full version, with its links."""
+    full = "libpwcheck.so." + version()
+    soname = "libpwcheck.so." + version().split(".", maxsplit=1)[0]
+    if DIST:
+        shutil.copy(os.path.join(DIST, full), lib)
+    else:
+        link_shared(os.path.join(lib, full), soname, static)
+    make_links(lib, "libpwcheck", full, soname)
+
+
+def link_shared(path, soname, static):
+    run("gcc", "-shared", "-o", path, "-Wl,-soname," + soname, "-Wl,--whole-archive", static,
+        "-Wl,--no-whole-archive", "-Wl,--version-script," + os.path.join(HERE, "exports.map"), "-Wl,-z,defs,-z,text",
+        "-Wl,-z,relro,-z,now,-z,noexecstack")
 
 
 def pkg_config(prefix):
@@ -126,5 +142,5 @@ def laid_out(folder, prefix=None):
 
 if __name__ == "__main__":
     need(len(sys.argv) in (2, 3), "usage: library.py FOLDER [PREFIX]")
-    need(shutil.which("gcc") and shutil.which("ld") and shutil.which("objcopy"), "it needs gcc and binutils")
+    need(DIST or shutil.which("gcc") and shutil.which("ld") and shutil.which("objcopy"), "it needs gcc and binutils")
     laid_out(*sys.argv[1:])

@@ -16,9 +16,12 @@ python3 checks/pages.py
 python3 checks/same_numbers.py changed
 python3 bench/pictures.py check
 python3 checks/dist.py
-[ "${1:-}" = quick ] && exit 0
 work=$(mktemp -d)
 trap 'rm -rf "$work"' EXIT
+PWCHECK_DIST=1 ./install.sh "$work/dist" >/dev/null
+("$work/dist/bin/pwcheck" check --count <examples/passwords.txt || true) | cmp - crates/pwcheck/stdout
+echo "install.sh: what dist/ holds, installed, answers as the stored run"
+[ "${1:-}" = quick ] && exit 0
 python3 bindings/library.py "$work/lib"
 python3 checks/exports.py "$work/lib"
 python3 bindings/try.py "$work/try"

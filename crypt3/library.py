@@ -6,10 +6,11 @@ libpwcrypt.so.
 
 It takes the archive that `rt lib` makes in crates/pwcrypt_c, as bindings/library.py takes that of pwcheck_c; the variable
 LIBPWCRYPT_C names another one. It needs gcc, binutils and libxcrypt's <crypt.h> (Debian's libcrypt-dev). CFLAGS are put behind
-the flags of Debian's hardening.
+the flags of Debian's hardening. With PWCHECK_DIST=1 the library of dist/ is laid out, and nothing is built.
 """
 import os
 import shlex
+import shutil
 import sys
 
 HERE = os.path.dirname(os.path.abspath(__file__))
@@ -41,13 +42,12 @@ def laid_out(folder):
     lib = os.path.join(os.path.abspath(folder), "lib")
     os.makedirs(lib, exist_ok=True)
     full, soname = "libpwcrypt.so." + VERSION, "libpwcrypt.so." + VERSION.split(".", maxsplit=1)[0]
-    library.run("gcc", *FLAGS, *shlex.split(os.environ.get("CFLAGS", "")), "-shared", "-o", os.path.join(lib, full),
-                "-Wl,-soname," + soname, *LINK, os.path.join(HERE, "pwcrypt.c"), *map(os.path.abspath, archives()), cwd=TOP)
-    for link, target in [(soname, full), ("libpwcrypt.so", soname)]:
-        path = os.path.join(lib, link)
-        if os.path.lexists(path):
-            os.remove(path)
-        os.symlink(target, path)
+    if library.DIST:
+        shutil.copy(os.path.join(library.DIST, full), lib)
+    else:
+        library.run("gcc", *FLAGS, *shlex.split(os.environ.get("CFLAGS", "")), "-shared", "-o", os.path.join(lib, full),
+                    "-Wl,-soname," + soname, *LINK, os.path.join(HERE, "pwcrypt.c"), *map(os.path.abspath, archives()), cwd=TOP)
+    library.make_links(lib, "libpwcrypt", full, soname)
     return os.path.join(lib, full)
 
 
