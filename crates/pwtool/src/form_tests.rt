@@ -6,15 +6,17 @@ use crate::cli::command;
 use crate::form::{answer, survey, survey_of};
 use crate::make::{cost_of, told};
 use crate::reports;
+use crate::table_form::run_table;
 use crate::tally::{Counts, Tally};
 use any_check::CostLimits;
 use any_make::{MakeCost, MakeEnd, MakeFault, scheme_named};
 use any_survey::LeastCosts;
 use std::cell::Cell;
 use std::fmt::Display;
-use std::io;
+use std::hash::{BuildHasher, RandomState};
 use std::io::Write;
 use std::test::Fail;
+use std::{fs, io};
 
 const LINES: &[u8] = b"secret\t$1$abcdefgh$cHJi5PXp/ki/ktXzqlk6I1\n\
     secret\t$5$abcdefgh$gruCpC7VkOTspMQTTSAR8mtlO9Upms.fwqE5y16JVM.\n";
@@ -380,5 +382,32 @@ fn bounds_by_options(rt: HostRuntime) -> Result<(), Fail> {
     };
     assert_eq!(rt; least_of(matches), least);
     assert!(rt; survey_of(matches).is_none());
+    Ok(())
+}
+
+#[test]
+fn a_table_made_anew(rt: HostRuntime) -> Result<(), Fail> {
+    let key = RandomState::new(&rt)?.hash_one(&0u8);
+    let name = format!(in rt.alloc(); "/tmp/pwtool_{key:x}")?;
+    fs::write(
+        &rt,
+        name.as_str(),
+        b"#pwstore 1\nset\tann\t*\nset\tann\t!\n#",
+    )?;
+    for (action, status) in [("other", 64), ("compact", 0)] {
+        let words = ["pwtool", "table", name.as_str(), action];
+        let Ok(matches) = command(rt.alloc())?.try_get_matches_from(&words) else {
+            panic!(rt; "the words are of a form")
+        };
+        let Some((_, matches)) = matches.subcommand() else {
+            panic!(rt; "a form is named")
+        };
+        assert_eq!(rt; run_table(&rt, matches), status);
+    }
+    assert_eq!(rt;
+        fs::read(&rt, name.as_str())?.as_slice(),
+        b"#pwstore 1\nset\tann\t!\n#".as_slice()
+    );
+    fs::remove_file(&rt, name.as_str())?;
     Ok(())
 }

@@ -1,10 +1,10 @@
-//! The calls over devices in memory, and that each cause is said.
+//! The calls over devices in memory and over files of the system, and that each cause is said.
 
 ghost use Rattle.std.specs.Prelude.{◌≡◌, IfOk};
 ghost use Rattle.line_log.specs.MemoryBytes.{device_bytes};
 
 use crate::messages::Speaker;
-use crate::opened::tell;
+use crate::opened::{compact_file, serve_file, tell};
 use crate::table::{Untaken, compact, serve, store_of};
 use file_device::OpenFault;
 use line_io::{Failed, MemorySink, MemorySource, Sink, Source};
@@ -12,8 +12,9 @@ use line_log::{MemoryDevice, OpenError};
 use std::alloc::{AllocError, Global};
 use std::cell::Cell;
 use std::fmt::Display;
-use std::io;
+use std::hash::{BuildHasher, RandomState};
 use std::test::Fail;
+use std::{fs, io};
 
 const EMPTY: &[u8] = b"#pwstore 1\n#";
 
@@ -366,4 +367,24 @@ fn causes_are_said(rt: HostRuntime) {
         tell(&ear, &speaker, status, takes, None);
         assert_eq!(rt; ear.lines.get(), lines);
     }
+}
+
+#[test]
+fn files_of_the_system(rt: HostRuntime) -> Result<(), Fail> {
+    let key = RandomState::new(&rt)?.hash_one(&0u8);
+    let folder = format!(in rt.alloc(); "/tmp/table_program_{key:x}")?;
+    fs::create_dir(&rt, folder.as_str())?;
+    let name = format!(in rt.alloc(); "{}/table", folder.as_str())?;
+    assert_eq!(rt; compact_file(&rt, "pwstore", name.as_str()), 66);
+    assert_eq!(rt; serve_file(&rt, "pwstore", folder.as_str()), 66);
+    fs::write(&rt, name.as_str(), b"set\tann\t*\n")?;
+    assert_eq!(rt; serve_file(&rt, "pwstore", name.as_str()), 65);
+    fs::write(&rt, name.as_str(), THREE)?;
+    assert_eq!(rt; compact_file(&rt, "pwstore", name.as_str()), 0);
+    assert_eq!(rt;
+        fs::read(&rt, name.as_str())?.as_slice(),
+        b"#pwstore 1\nset\tann\t!\nset\tbob\t$5\n#".as_slice()
+    );
+    fs::remove_dir_all(&rt, folder.as_str())?;
+    Ok(())
 }
