@@ -15,11 +15,12 @@ const SALT: &[u8; 16] = b"\x68\xcd\x79\xef\x5d\xeb\xdd\x7b\x2f\xc5\xb8\xb7\xd6\x
 const COST: Cost = Cost { ln: 4, r: 8, p: 1 };
 
 // Of the password `secret`: openssl, libxcrypt and the program argon2.
-const ANY: [&str; 5] = [
+const ANY: [&str; 6] = [
     "$1$abcdefgh$cHJi5PXp/ki/ktXzqlk6I1",
     "$2b$04$abcdefghijklmnopqrstuu2r9OfJnfCsdneAXAGHnS4UpFFP8WIrW",
     "$argon2id$v=19$m=64,t=1,p=1$c2FsdHNhbHRzYWx0$Sm3MnLdCFk0Af+croKgebRoqqmhbKd88iiW3yUOXn78",
     "$pbkdf2-sha256$i=1000,l=32$c2FsdHNhbHRzYWx0$sVaWem31qy3rw+Ldi3plA/XzhMSNi9/XHnnD1Ytj05o",
+    "$pbkdf2-sha512$i=1000,l=64$c2FsdHNhbHRzYWx0$bePzWo/796SGZ2lBKpZcU2FQhQXnjiEADnvU8yLzaxu1BwlSR076rTWeGRrvgBz757DxNPmtAZpVls5xSi9daw",
     "$y$j75$0123456789ab$kb1fsIrDP1wOa4Q3gNpxZkfwQ3ce8kmPbnemuN65IT2",
 ];
 
