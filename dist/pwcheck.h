@@ -1,4 +1,4 @@
-/* Password verification: stored texts of every scheme checked, those of SHA-crypt and scrypt made, their keys and digests,
+/* Password verification: stored texts of every scheme checked, and made; the keys and digests of SHA-crypt and scrypt;
  * and Base64.
  *
  * What holds of every call
@@ -11,8 +11,8 @@
  *   leaves it, and no call prints, exits or waits.
  * - Only pwcheck_check, pwcheck_check_limited, pwcheck_scrypt and pwcheck_scrypt_text take memory, by malloc and free,
  *   at most 304 MiB, and give it back; so does pwcheck_check_any, which may take more, as the stored text asks: 2 GiB
- *   for Argon2. Bound it. They are not for signal handlers, nor for the forked child of a process with
- *   threads.
+ *   for Argon2. Bound it. pwcheck_yescrypt_text and pwcheck_argon2id_text take what the numbers of the call ask for.
+ *   They are not for signal handlers, nor for the forked child of a process with threads.
  * - The time of a check is told by the stored text: its rounds, or the parameters of scrypt. SHA-crypt's grows with the
  *   square of the password's length too, so it takes passwords of at most 4,096 bytes. A stored text of another's
  *   choice may ask for hours: bound it by pwcheck_check_limited, or by the limits of pwcheck_check_any.
@@ -28,6 +28,14 @@
  * - For a user that doesn't exist check the password against a fixed text of the same scheme and cost as the others,
  *   and throw the answer away. Else the time tells who exists.
  * - Draw salts by getrandom(2), arc4random_buf(3) or what else the system has for secrets, never by rand(3).
+ *
+ * How to make a text to store, with PWCHECK_DONE the one status that it is there:
+ *       uint8_t salt[PWCHECK_SALT_SIZE], text[PWCHECK_TEXT_MAX];
+ *       size_t n;
+ *       if (getrandom(salt, sizeof salt, 0) == sizeof salt
+ *           && pwcheck_bcrypt_text(password, len, salt, sizeof salt, PWCHECK_RECOMMENDED_BCRYPT_COST,
+ *                                  text, sizeof text, &n) == PWCHECK_DONE)
+ *           keep(text, n);                                  n bytes, and no zero behind them
  */
 #ifndef PWCHECK_H
 #define PWCHECK_H
@@ -125,9 +133,14 @@ enum pwcheck_answer {
 enum pwcheck_status {
     PWCHECK_DONE = 0,
     PWCHECK_OUT_OF_RANGE = -1,      /* a number or a length isn't taken; nothing was written */
-    PWCHECK_NO_MEMORY = -2,         /* there is no memory for scrypt; nothing was written */
+    PWCHECK_NO_MEMORY = -2,         /* there is no memory for the key; nothing was written */
     PWCHECK_NO_ROOM = -3,           /* the buffer is too short; nothing was written */
-    PWCHECK_NOT_BASE64 = -4         /* the text is the encoding of no bytes */
+    PWCHECK_NOT_BASE64 = -4,        /* the text is the encoding of no bytes */
+
+    /* -5 to -7, from version 1.1 on: the password is refused, and nothing was written. Its user may choose another */
+    PWCHECK_REFUSED_LENGTH = -5,    /* more than 4,096 bytes; for bcrypt, of which no more count, more than 72 */
+    PWCHECK_REFUSED_UTF8 = -6,      /* it isn't UTF-8 */
+    PWCHECK_REFUSED_ZERO = -7       /* a zero byte, at which crypt(3), whose scheme it is, takes a password to end */
 };
 
 /* Alphabets of Base64. */
@@ -142,8 +155,8 @@ enum pwcheck_alphabet {
     PWCHECK_BASE64_SHA_CRYPT = 7    /* "./0-9A-Za-z", the low bits first */
 };
 
-/* Lengths in bytes: room for each word and its zero, digests, hash fields, the longest texts (without a zero), the
- * salt of a scrypt text, and the longest password of a check. */
+/* Lengths in bytes: room for each word and its zero, digests, hash fields, the longest texts (without a zero), of all
+ * schemes PWCHECK_TEXT_MAX, the salt of a text but of SHA-crypt, and the longest password of a check. */
 #define PWCHECK_WORD_SIZE 18
 #define PWCHECK_SHA256_DIGEST_SIZE 32
 #define PWCHECK_SHA512_DIGEST_SIZE 64
@@ -152,8 +165,29 @@ enum pwcheck_alphabet {
 #define PWCHECK_SHA256_TEXT_MAX 80
 #define PWCHECK_SHA512_TEXT_MAX 123
 #define PWCHECK_SCRYPT_TEXT_MAX 93
+#define PWCHECK_TEXT_MAX 123
 #define PWCHECK_SCRYPT_SALT_SIZE 16
+#define PWCHECK_SALT_SIZE 16
 #define PWCHECK_PASSWORD_MAX 4096
+#define PWCHECK_BCRYPT_PASSWORD_MAX 72
+
+/* What a new text should cost, under the name of the call that makes it (from version 1.1 on; a later version may
+ * recommend more). For SHA-crypt and bcrypt these are the defaults of passlib 1.7.4 (bcrypt's is PHP 8.4's too), for
+ * scrypt and PBKDF2 what OWASP's Password Storage Cheat Sheet names, for yescrypt what libxcrypt 4.4 makes by default
+ * (16 MiB of memory), for Argon2id the second recommended option of RFC 9106, section 4 (64 MiB). */
+#define PWCHECK_RECOMMENDED_SHA256_CRYPT_ROUNDS 535000
+#define PWCHECK_RECOMMENDED_SHA512_CRYPT_ROUNDS 656000
+#define PWCHECK_RECOMMENDED_SCRYPT_LN 17
+#define PWCHECK_RECOMMENDED_SCRYPT_R 8
+#define PWCHECK_RECOMMENDED_SCRYPT_P 1
+#define PWCHECK_RECOMMENDED_BCRYPT_COST 12
+#define PWCHECK_RECOMMENDED_YESCRYPT_LN 12
+#define PWCHECK_RECOMMENDED_YESCRYPT_R 32
+#define PWCHECK_RECOMMENDED_YESCRYPT_T 0
+#define PWCHECK_RECOMMENDED_ARGON2ID_MEMORY 65536
+#define PWCHECK_RECOMMENDED_ARGON2ID_PASSES 3
+#define PWCHECK_RECOMMENDED_ARGON2ID_LANES 4
+#define PWCHECK_RECOMMENDED_PBKDF2_SHA256_ROUNDS 600000
 
 /* Checks a password against a stored text, SHA-crypt or a PHC record of scrypt. Compare the answer with
  * PWCHECK_MATCH, and with nothing less. */
@@ -188,9 +222,9 @@ struct pwcheck_limits {
      UINT32_MAX, UINT32_MAX, UINT32_MAX}
 
 /* Checks a password against a stored text of every scheme: SHA-crypt ($5$, $6$), md5-crypt ($1$, $apr1$), bcrypt ($2a$,
- * $2b$, $2y$), yescrypt ($y$), scrypt ($7$), or a PHC record of scrypt, PBKDF2 with SHA-256 or Argon2. A valid text that
- * asks for more than a limit is answered by PWCHECK_OVER_COST, and nothing is hashed for it. Compare the answer with
- * PWCHECK_MATCH, and with nothing less. From version 1.1 on. */
+ * $2b$, $2y$), yescrypt ($y$), scrypt ($7$), or a PHC record of scrypt, PBKDF2 (with SHA-256 or SHA-512) or Argon2. A valid
+ * text that asks for more than a limit is answered by PWCHECK_OVER_COST, and nothing is hashed for it. Compare the answer
+ * with PWCHECK_MATCH, and with nothing less. From version 1.1 on. */
 PWCHECK_MUST_USE PWCHECK_NONNULL
 int32_t pwcheck_check_any(const uint8_t *password, size_t password_len, const uint8_t *stored, size_t stored_len,
                           const struct pwcheck_limits *limits);
@@ -255,6 +289,36 @@ int32_t pwcheck_sha256_crypt_text(const uint8_t *password, size_t password_len, 
 PWCHECK_MUST_USE PWCHECK_NONNULL
 int32_t pwcheck_sha512_crypt_text(const uint8_t *password, size_t password_len, const uint8_t *salt, size_t salt_len,
                                   uint32_t rounds, uint8_t *out, size_t out_len, size_t *len);
+
+/* The whole text of bcrypt, yescrypt, Argon2id and PBKDF2 with SHA-256, without a zero behind it; `*len` is its length,
+ * and is written only with PWCHECK_DONE. The salt is 16 bytes, which the caller draws at random; a key has 32 bytes.
+ * A salt of another length and a number that isn't taken are PWCHECK_OUT_OF_RANGE, whatever the password is; then the
+ * password is refused by the first of PWCHECK_REFUSED_LENGTH, _UTF8 and _ZERO, this one by bcrypt and yescrypt alone.
+ * pwcheck_check_any answers the text with PWCHECK_MATCH, within limits that aren't below the numbers of the call. From
+ * version 1.1 on.
+ *
+ * `$2b$cost$..`, 60 characters, with a cost of 4 to 31: 2^cost turns. */
+PWCHECK_MUST_USE PWCHECK_NONNULL
+int32_t pwcheck_bcrypt_text(const uint8_t *password, size_t password_len, const uint8_t *salt, size_t salt_len,
+                            uint32_t cost, uint8_t *out, size_t out_len, size_t *len);
+
+/* `$y$..`, as crypt(3) writes it, with N = 2^ln and memory of 128 r N bytes: ln is at least 2, r at least 1 and below
+ * 2^19, the memory at most 2^30 bytes, and t, so many turns more than the default, at most 1,024. */
+PWCHECK_MUST_USE PWCHECK_NONNULL
+int32_t pwcheck_yescrypt_text(const uint8_t *password, size_t password_len, const uint8_t *salt, size_t salt_len,
+                              uint32_t ln, uint32_t r, uint32_t t, uint8_t *out, size_t out_len, size_t *len);
+
+/* `$argon2id$v=19$m=M,t=T,p=P$salt$key` (RFC 9106), with so many KiB of memory, at least 8 for each lane and at most
+ * 2^21, at least one pass over it and one lane; passes times memory is at most 2^24. */
+PWCHECK_MUST_USE PWCHECK_NONNULL
+int32_t pwcheck_argon2id_text(const uint8_t *password, size_t password_len, const uint8_t *salt, size_t salt_len,
+                              uint32_t memory, uint32_t passes, uint32_t lanes, uint8_t *out, size_t out_len,
+                              size_t *len);
+
+/* `$pbkdf2-sha256$i=N,l=32$salt$key`, as RustCrypto's pbkdf2 writes it, of 1 to 10,000,000 rounds. */
+PWCHECK_MUST_USE PWCHECK_NONNULL
+int32_t pwcheck_pbkdf2_sha256_text(const uint8_t *password, size_t password_len, const uint8_t *salt, size_t salt_len,
+                                   uint32_t rounds, uint8_t *out, size_t out_len, size_t *len);
 
 /* How many characters encode n bytes, with their padding; 0 for more than SIZE_MAX / 4 bytes and for another
  * alphabet. */
