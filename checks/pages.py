@@ -7,9 +7,8 @@ import glob
 import itertools
 import os
 import re
-import sys
 
-from page_texts import TOP, page_texts
+from page_texts import TOP, end, page_texts
 
 ROOTS = ("crates", "docs", "bench", "examples", "bindings", "include", "man", "scale", "packaging", "checks", "crypt3")
 
@@ -54,10 +53,7 @@ def main():
         faults += dead_paths(page, text)
         if page == "docs/ARCHITECTURE.md":
             faults += dead_edits(text)
-    for fault in faults:
-        print(fault)
-    print(f"pages: {len(pages)} read, {len(faults)} faults")
-    sys.exit(1 if faults else 0)
+    end(faults, f"pages: {len(pages)} read")
 
 
 if __name__ == "__main__":

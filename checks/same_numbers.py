@@ -12,7 +12,7 @@ import os
 import re
 import sys
 
-from page_texts import TOP, page_texts
+from page_texts import TOP, end, page_texts
 
 CLI = "crates/pwtool/src/cli.rt"
 BOUNDS = "crates/pwtool/src/bounds.rt"
@@ -147,10 +147,7 @@ def main():
         count += len(stated)
         if sys.argv[1:] == ["changed"]:
             faults += unseen(fact, pages, stated)
-    for fault in faults:
-        print(fault)
-    print(f"same_numbers: {len(FACTS)} facts, stated {count} times, {len(faults)} faults")
-    sys.exit(1 if faults else 0)
+    end(faults, f"same_numbers: {len(FACTS)} facts, stated {count} times")
 
 
 if __name__ == "__main__":
