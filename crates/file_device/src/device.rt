@@ -1,7 +1,8 @@
 //! A file of the system as a device: each call makes one call of the system, or a few, and then notes what was done.
 
-ghost use Rattle.std.specs.Prelude.{◌≡◌, ◌∷◌, is_ok, length};
-ghost use Rattle.file_device.specs.Calls.{call_by};
+ghost use Rattle.std.specs.Prelude.{◌≡◌, ◌≤◌, ◌∷◌, true, is_ok, length, OnOk};
+ghost use Rattle.std.specs.Option.{ForNone};
+ghost use Rattle.file_device.specs.Calls.{call_by, faults, is_renewed};
 
 use crate::record::Record;
 use crate::replacing::new_replacement;
@@ -14,7 +15,7 @@ use std::os::unix::fs::FileExt;
 // The kinds of calls, as specs/Calls numbers them.
 pub(crate) const OPENED: u64 = 0;
 
-const WROTE: u64 = 1;
+pub(crate) const WROTE: u64 = 1;
 
 const CUT: u64 = 2;
 
@@ -47,6 +48,9 @@ pub(crate) struct Replacement {
 ///
 /// What its contracts say of bytes is what is argued from the calls that were made: no memory holds it, and no read
 /// gives it.
+///
+/// Once a call has failed no sync is made any more, and each fails: the system gives up what it couldn't put on the disk,
+/// and a sync behind that one answers as if all were there.
 #[derive(Drop)]
 pub struct FileDevice<'a> {
     pub(crate) rt: &'a HostRuntime,
@@ -56,9 +60,11 @@ pub struct FileDevice<'a> {
     pub(crate) replacement: Option<Replacement>,
     /// Whether the folder's new entry isn't synced yet.
     pub(crate) is_renamed: bool,
-    /// Why the last call that failed did so.
+    /// Why the first call that failed did so.
     pub(crate) cause: Option<io::Error>,
     pub(crate) record: Record,
+    pub(crate) ghost healthy: { ForNone cause (faults record.calls ≡ 0) },
+    pub(crate) ghost renewed: { is_renewed record.calls ≡ true },
 }
 
 // Why there is nothing to call.
@@ -106,7 +112,7 @@ fn sync_new(replacement: &Option<Replacement>) -> io::Result<()> {
 }
 
 impl FileDevice<'_> {
-    /// Why the last call that failed did so.
+    /// Why the first call that failed did so.
     pub fn cause(&self) -> Option<io::Error> {
         self.cause
     }
@@ -119,6 +125,7 @@ impl FileDevice<'_> {
         at: usize,
         bytes: &[u8],
     ) -> Result<(), Failed>
+        requires kind { 1 ≤ kind }
         ensures call { self.new.record.calls ≡ call_by kind (is_ok done) at bytes.now ∷ self.old.record.calls }
         ensures result { is_ok result ≡ is_ok done }
     {
@@ -129,7 +136,9 @@ impl FileDevice<'_> {
             }
             Err(error) => {
                 self.record = Record::noted(&self.record, &[kind, 0, at as u64], bytes);
-                self.cause = Some(error);
+                if self.cause.is_none() {
+                    self.cause = Some(error);
+                }
                 Err(Failed)
             }
         }
@@ -138,13 +147,27 @@ impl FileDevice<'_> {
     // Syncs the file, and before it the folder, where the file's name is a new one.
     fn sync_file(&mut self) -> io::Result<()>
         ensures calls { self.new.record.calls ≡ self.old.record.calls }
+        ensures healthy { OnOk result (faults self.old.record.calls ≡ 0) }
     {
+        if let Some(cause) = self.cause {
+            return Err(cause);
+        }
         if self.is_renamed {
             self.place.folder.sync_all()?;
         }
         sync(&self.file)?;
         self.is_renamed = false;
         Ok(())
+    }
+
+    // Syncs the file that is to replace this one.
+    fn sync_made(&self) -> io::Result<()>
+        ensures healthy { OnOk result (faults self.now.record.calls ≡ 0) }
+    {
+        match self.cause {
+            Some(cause) => Err(cause),
+            None => sync_new(&self.replacement),
+        }
     }
 
     // Begins a file that is to replace this one.
@@ -223,7 +246,7 @@ impl Device for FileDevice<'_> {
     }
 
     fn sync_replacement(&mut self) -> Result<(), Failed> {
-        let done = sync_new(&self.replacement);
+        let done = self.sync_made();
         self.note(SYNCED_NEW, done, 0, &[])
     }
 

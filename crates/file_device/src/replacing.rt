@@ -74,8 +74,8 @@ pub(crate) fn new_replacement(
 ) -> io::Result<File> {
     let file = made_anew(rt, place, NEW_MODE)?;
     match lock(&file)? {
-        Holder::Own => {}
-        Holder::Other => return Err(io::ErrorKind::WouldBlock.into()),
+        Holder::Own if is_named(rt, &file, place.new_name.as_str())? => {}
+        _ => return Err(io::ErrorKind::WouldBlock.into()),
     }
     match old {
         Some(old) => copy_access(old, &file)?,
