@@ -5,6 +5,7 @@
 mod access;
 mod device;
 mod fault;
+pub mod laws;
 mod locking;
 mod opening;
 mod record;
