@@ -6,7 +6,7 @@ ghost use Rattle.line_log.specs.Log.{IsSettled};
 
 use file_device::{DeviceFault, FileDevice, Opened, open};
 use line_log::{FILE_MAX, LineLog, Taker, create, is_group, recover};
-use std::alloc::{AllocError, Global};
+use std::alloc::AllocError;
 use std::hash::{BuildHasher, RandomState};
 use std::os::unix::fs::PermissionsExt;
 use std::{fs, io};
@@ -156,18 +156,22 @@ pub fn rewritten(rt: &HostRuntime, name: &str, group: &[u8]) -> Result<(), Optio
     }
 }
 
-/// A file of lines of so many bytes each.
-pub fn file_of(rt: &HostRuntime, lens: &[usize]) -> Option<Vec<u8>> {
-    file_with(rt.alloc(), lens).ok()
+/// Lines of so many bytes each.
+pub fn lines_of(rt: &HostRuntime, lens: &[usize]) -> Option<Vec<u8>> {
+    let mut lines = Vec::new(rt.alloc());
+    for len in lens {
+        add_line(&mut lines, *len).ok()?;
+    }
+    Some(lines)
 }
 
-fn file_with(alloc: Global, lens: &[usize]) -> Result<Vec<u8>, AllocError> {
-    let mut file = b"#pwstore 1\n".to_vec(alloc)?;
-    for len in lens {
-        add_line(&mut file, *len)?;
-    }
-    file.push(b'#')?;
-    Ok(file)
+/// A file of these lines.
+pub fn file_of(rt: &HostRuntime, lens: &[usize]) -> Option<Vec<u8>> {
+    let lines = lines_of(rt, lens)?;
+    let mut file = b"#pwstore 1\n".to_vec(rt.alloc()).ok()?;
+    file.extend_from_slice(&lines).ok()?;
+    file.push(b'#').ok()?;
+    Some(file)
 }
 
 // Adds a line of so many bytes.

@@ -1,8 +1,8 @@
 //! The new file that replaces another: its name, what may be there before it, whose it is, and where it goes at a fault.
 
 use crate::helpers::{
-    GROUP, NONE, TWO, clear, file_of, has, is_free, log, made_by, new_place, opened, rewrite,
-    rewritten, write, write_as,
+    GROUP, NONE, TWO, clear, file_of, has, is_free, lines_of, log, made_by, new_place, opened,
+    rewrite, rewritten, write, write_as,
 };
 use file_device::DeviceFault;
 use line_log::Device;
@@ -27,10 +27,10 @@ fn owner_group_and_mode_stay(rt: HostRuntime) {
     // Only root may give a file away: for others it stays their own.
     let _ = chown(&rt, name, Some(1), Some(2));
     let old = access_of(&rt, name);
-    let Some(after) = file_of(&rt, &[3_000]) else {
+    let (Some(group), Some(after)) = (lines_of(&rt, &[3_000]), file_of(&rt, &[3_000])) else {
         panic!(rt; "memory is wanting")
     };
-    assert!(rt; after.len() == 3_012 && rewritten(&rt, name, &after[11..3_011]).is_ok());
+    assert!(rt; after.len() == 3_012 && rewritten(&rt, name, &group).is_ok());
     let new = access_of(&rt, name);
     assert!(rt; new.0 == old.0 && new.1 == old.1 && new.2 == old.2 && new.2 & 0o777 == 0o700);
     assert!(rt; new.3 != old.3);

@@ -1,8 +1,8 @@
 //! Files that are made, written, read, locked and moved.
 
 use crate::helpers::{
-    GROUP, NONE, TWO, clear, file_of, has, is_free, log, new_place, opened, opens, put, rewrite,
-    write, write_as,
+    GROUP, NONE, TWO, clear, file_of, has, is_free, lines_of, log, new_place, opened, opens, put,
+    rewrite, write, write_as,
 };
 use file_device::{DeviceFault, OpenFault, open};
 use line_log::Device;
@@ -55,14 +55,18 @@ fn long_files_and_long_groups(rt: HostRuntime) {
         panic!(rt; "no folder is made")
     };
     let name = place.name.as_str();
-    let Some(after) = file_of(&rt, &[15_000, 15_000, 15_000, 15_000, 3_000]) else {
+    let (Some(before), Some(group), Some(after)) = (
+        file_of(&rt, &[15_000, 15_000, 15_000, 15_000]),
+        lines_of(&rt, &[3_000]),
+        file_of(&rt, &[15_000, 15_000, 15_000, 15_000, 3_000]),
+    ) else {
         panic!(rt; "memory is wanting")
     };
-    assert!(rt; after.len() == 63_012 && write(&rt, name, &after[..60_011]));
+    assert!(rt; after.len() == 63_012 && write(&rt, name, &before));
     let Some(mut grown) = log(&rt, name) else {
         panic!(rt; "it is opened")
     };
-    assert!(rt; grown.end == 60_011 && put(&mut grown, &after[60_011..63_011]));
+    assert!(rt; grown.end == 60_011 && put(&mut grown, &group));
     drop(grown);
     assert!(rt; has(&rt, name, &after));
     match open(&rt, name) {

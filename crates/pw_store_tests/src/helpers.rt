@@ -1,6 +1,6 @@
 //! Files in memory, their stores, and what crashes leave of them.
 
-ghost use Rattle.std.specs.Prelude.{◌≡◌, IfSome};
+ghost use Rattle.std.specs.Prelude.{◌≡◌, IfOk, IfSome};
 ghost use Rattle.line_log.specs.MemoryBytes.{device_bytes};
 ghost use Rattle.pw_file.specs.StoredTexts.{stored_texts};
 ghost use Rattle.pw_store.specs.Stored.{IsSound};
