@@ -1,18 +1,16 @@
 //! What programs over a table of users in a file share: the table of its file, the commands on it and the file made anew, over
 //! any device ([`store_of`], [`serve`], [`compact`]) and over a file of the system ([`serve_file`], [`compact_file`]).
 //!
-//! What is said on standard error begins with the name of the program, which is handed in. The statuses are those of
+//! What is said on standard error ([`messages`]) begins with the name of the program, which is handed in. The statuses are those of
 //! `line_program` and `pw_store`, and those of [`status`].
 #![tactic(auto)]
 
 mod help;
-mod messages;
+pub mod messages;
 mod opened;
 pub mod status;
 mod table;
-#[cfg(test)]
-mod tests;
 
 pub use help::HELP;
-pub use opened::{compact_file, serve_file};
+pub use opened::{compact_file, serve_file, tell};
 pub use table::{Untaken, compact, serve, store_of};

@@ -5,14 +5,14 @@ use line_log::OpenError;
 
 /// The program that speaks, and the file that it speaks of, by their names.
 #[derive(Clone, Copy, Debug)]
-pub(crate) struct Speaker<'a> {
+pub struct Speaker<'a> {
     pub program: &'a str,
     pub file: &'a str,
 }
 
 /// Why a call of the file failed, where the device tells, and the name of the new file that would have replaced it.
 #[derive(Clone, Copy, Debug)]
-pub(crate) struct Failure<'a> {
+pub struct Failure<'a> {
     pub cause: Option<DeviceFault>,
     pub new_name: &'a str,
 }
@@ -38,6 +38,13 @@ impl Speaker<'_> {
     pub fn say_at(&self, rt: &impl Eprint, cause: &str) {
         let (program, file) = (self.program, self.file);
         let _ = eprintln!(rt; "{program}: {file}: {cause}");
+    }
+
+    /// Says that others can read or write the file, where they can.
+    pub fn say_shared(&self, rt: &impl Eprint, is_shared: bool) {
+        if is_shared {
+            self.say_at(rt, "others than its owner may read or write it");
+        }
     }
 
     /// Says why the file isn't opened.

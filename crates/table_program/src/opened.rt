@@ -75,15 +75,8 @@ fn store_in<'a>(
     }
 }
 
-// Says that others can read or write the file.
-fn say_shared(rt: &HostRuntime, speaker: &Speaker<'_>, is_shared: bool) {
-    if is_shared {
-        speaker.say_at(rt, "others than its owner may read or write it");
-    }
-}
-
 /// Says why a run ended before the end of its input, or that a write of the file failed.
-pub(crate) fn tell(
+pub fn tell(
     rt: &impl Eprint,
     speaker: &Speaker<'_>,
     status: u8,
@@ -135,7 +128,7 @@ pub fn serve_file(rt: &HostRuntime, program: &str, file: &str) -> u8
     let speaker = Speaker { program, file };
     match open(rt, file) {
         Ok(opened) => {
-            say_shared(rt, &speaker, opened.is_shared);
+            speaker.say_shared(rt, opened.is_shared);
             match store_in(rt, &speaker, opened) {
                 Ok(store) => serve_store(rt, &speaker, store),
                 Err(status) => status,
@@ -184,7 +177,7 @@ pub fn compact_file(rt: &HostRuntime, program: &str, file: &str) -> u8
                 speaker.say_at(rt, "there is no such file");
                 return NO_FILE;
             }
-            say_shared(rt, &speaker, opened.is_shared);
+            speaker.say_shared(rt, opened.is_shared);
             match store_in(rt, &speaker, opened) {
                 Ok(store) => compact_store(rt, &speaker, store),
                 Err(status) => status,
