@@ -10,8 +10,6 @@ mod memory;
 mod read;
 mod reopen;
 mod rewrite;
-#[cfg(test)]
-mod tests;
 
 pub use device::Device;
 pub use line_io::Failed;

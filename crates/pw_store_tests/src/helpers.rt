@@ -1,9 +1,9 @@
 //! Files in memory, their stores, and what crashes leave of them.
 
-ghost use Rattle.std.specs.Prelude.{◌≡◌, IfOk, IfSome};
+ghost use Rattle.std.specs.Prelude.{◌≡◌, true, IfOk, IfSome};
 ghost use Rattle.line_log.specs.MemoryBytes.{device_bytes};
 ghost use Rattle.pw_file.specs.StoredTexts.{stored_texts};
-ghost use Rattle.pw_store.specs.Stored.{IsSound};
+ghost use Rattle.pw_store.specs.Stored.{IsSound, takes_changes};
 
 use line_log::{Device, MemoryDevice, OpenError};
 use pw_file::{StoredTexts, UserName};
@@ -33,6 +33,7 @@ fn opened<D: Device + Drop>(
     bytes: &[u8],
 ) -> Result<Store<D, StoredTexts>, OpenError>
     requires bytes { bytes.now ≡ D.seen device }
+    ensures takes { IfOk result (λ store. takes_changes store ≡ true) }
     ensures sound { IfOk result (λ store. IsSound stored_texts D.seen D.may_leave store) }
 {
     let mut device = device;
@@ -57,6 +58,7 @@ pub fn store_of(
     file: &[u8],
     failing: u64,
 ) -> Option<Store<MemoryDevice, StoredTexts>>
+    ensures takes { IfSome result (λ store. takes_changes store ≡ true) }
     ensures sound { IfSome result (λ store. IsSound stored_texts ⟦<MemoryDevice as Device>⟧.seen ⟦<MemoryDevice as Device>⟧.may_leave store) }
 {
     let (device, bytes) = memory(alloc, file, failing)?;
