@@ -7,6 +7,7 @@
 # What isn't built is built first, and so proved (see install.sh). dist/ is renewed with each version, not with each change:
 # checks/dist.py says whether it is of the sources that stand here.
 set -eu
+unset PWCHECK_DIST PWCHECK_AS_BUILT
 top=$(cd "$(dirname "$0")/.." && pwd)
 folder=${1:-$top/dist}
 work=$(mktemp -d)

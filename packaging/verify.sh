@@ -5,6 +5,8 @@
 #
 # It ends with 0 where both are the same, and else with 1 and the files that differ.
 set -eu
+# What would copy from dist/, or take what is built as it is, in place of building it.
+unset PWCHECK_DIST PWCHECK_AS_BUILT
 top=$(cd "$(dirname "$0")/.." && pwd)
 folder=$(cd "${1:?packaging/verify.sh FOLDER}" && pwd)
 work=$(mktemp -d)
