@@ -24,6 +24,7 @@ cp "\$from"/lib* "\$DESTDIR/usr/lib"
 SH
 chmod +x "$work/top/install.sh"
 python3 "$work/top/packaging/sources.py" >"$work/top/dist/SOURCES"
+{ gcc --version; ld --version; } | grep -E "^(gcc|GNU ld)" >"$work/top/dist/COMPILER"
 sums() { (cd "$work/top/dist" && find . -type f ! -name SHA256SUMS -printf '%f\0' | LC_ALL=C sort -z | xargs -0 sha256sum -- >SHA256SUMS); }
 sums
 "$work/top/packaging/verify.sh" "$work/top/dist" >/dev/null || { echo "verify_try.sh: verify.sh doesn't take a true dist/"; exit 1; }
