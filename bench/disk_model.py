@@ -91,8 +91,19 @@ class File:
 
 
 def torn(change, old, chance, most, only_zeros):
-    """What a power cut may leave of one write over the bytes before it."""
+    """What a power cut may leave of one write over the bytes before it. A byte that the write doesn't change stays."""
     new, at = change.data, change.at
+    same = [place for place in range(at, min(at + len(new), len(old))) if old[place] == new[place - at]]
+    for left in torn_anyhow(new, at, old, chance, most, only_zeros):
+        if same:
+            left = bytearray(left)
+            for place in same:
+                left[place] = old[place]
+        yield bytes(left)
+
+
+def torn_anyhow(new, at, old, chance, most, only_zeros):
+    """The same, where the bytes that the write doesn't change may be torn too."""
     under = (old + bytes(max(0, at + len(new) - len(old))))[at:at + len(new)]
     cuts = range(1, len(new) + 1)
     if len(new) > most:
