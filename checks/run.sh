@@ -45,7 +45,7 @@ if [ -e /usr/include/crypt.h ]; then
 fi
 # The programs are built once; the prefixes take what is built.
 ./install.sh "$work/first" >&2
-PWSTORE="$work/first/bin/pwstore" python3 bench/pwstore_names.py 40
-PWSTORE="$work/first/bin/pwtool table" python3 bench/pwstore_names.py 40
+PWSTORE="$work/first/bin/pwstore" python3 bench/pwstore_hostile.py
+PWSTORE="$work/first/bin/pwtool table" python3 bench/pwstore_hostile.py
 checks/use_from.sh "$work/first"
 PWCHECK_AS_BUILT=1 checks/prefixes.sh "$work/prefixes"
