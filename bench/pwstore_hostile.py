@@ -11,7 +11,7 @@
 4. A second process is refused (75); one after a kill of the first isn't.
 5. A file that others may read is told on standard error and isn't made anew (73); without their rights owner, group and mode stay. A file
    with an access control list isn't either (wants a file system that has them). A new file has the mode 0600, whatever the umask is.
-6. The new file, `.FILE.pwstore-new`: what a killed run has left there is taken away, anything else stays (73), at a compaction and at a
+6. The new file, `.FILE.pwstore-new`: what a killed run or a power cut has left there is taken away, anything else stays (73), at a compaction and at a
    first start; FILE.new is never touched. A compaction on a full disk takes it away, and the next change is taken.
 7. Standard input, output or error closed: refused (66), and nothing is written into a table.
 8. Two first starts at once (the lock delayed by a preload; wants gcc), and many: one makes the file, each other one ends with 75.
@@ -194,7 +194,7 @@ def new_files(folder):
     write(plain, b"#pwstore 1\nset\tother\t*\n#")
     whole = b"#pwstore 1\nset\tann\t*\nset\tann\t!\n#"
     for there in (True, False):
-        for left in (b"", b"#pws", b"#pwstore 1\n", b"#pwstore 1\nset\tcleo\t*\n#"):
+        for left in (b"", b"#pws", b"#pwstore 1\n", b"#pwstore 1\nset\tcleo\t*\n#", b"\0" * 20, b"#pws" + bytes(30)):
             if there:
                 write(name, whole)
             elif os.path.exists(name):
@@ -203,7 +203,7 @@ def new_files(folder):
             got = run(name, b"list\n", ["compact"] if there else [])
             holds(f"left by a run, {left}, at a {'compaction' if there else 'first start'}",
                   got[0] == 0 and got[2] == "" and os.listdir(place) and sorted(os.listdir(place)) == ["table", "table.new"])
-        for other in (b"#pwstore 2\n", b"root:*:\n", b"\0" * 20, "folder", "link", "fifo", "locked"):
+        for other in (b"#pwstore 2\n", b"root:*:\n", b"a", bytes(8) + b"\0\0x", "folder", "link", "fifo", "locked"):
             if there:
                 write(name, whole)
             elif os.path.exists(name):

@@ -40,12 +40,18 @@ fn found_at(rt: &HostRuntime, name: &str) -> Result<Option<File>, DeviceFault> {
     }
 }
 
-// Whether a run that was ended can have left this: nothing yet, or a beginning of what it writes.
+// Whether a run that was ended can have left this: nothing yet, or a beginning of what it writes. A power cut may leave zeros
+// in the place of bytes whose length alone had reached the disk.
 fn is_leftover(file: &File) -> io::Result<bool> {
     let mut begin = [0; 11];
     let len = (file.metadata()?.len() as usize).min(begin.len());
     file.read_exact_at(&mut begin[..len], 0)?;
-    Ok(HEADER.starts_with(&begin[..len]))
+    for (found, wanted) in begin.iter().zip(HEADER.iter()) {
+        if *found != 0 && found != wanted {
+            return Ok(false);
+        }
+    }
+    Ok(true)
 }
 
 // Takes away what a run that was ended has left at the name. Where anything else has it, that stays.

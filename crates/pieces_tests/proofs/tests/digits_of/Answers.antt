@@ -1,6 +1,6 @@
 use Rattle.std.proofs.Common.{rules, arith, lit<, ◌≡◌, ◌^◌, ◌<◌, length}
 use Rattle.std.proofs.lemmas.Fmt.{length-decimal-le}
-use Rattle.pieces.proofs.tests.digits_of.Goals as goal
+use Rattle.pieces_tests.proofs.tests.digits_of.Goals as goal
 
 pub push_decimal-requires : goal.push_decimal-requires
 push_decimal-requires c =

@@ -1,6 +1,6 @@
 ghost use Rattle.std.specs.Prelude.{◌≤◌, ◌<◌, ◌^◌};
 
-use crate::{
+use line_io::{
     Failed, Line, LineBuffer, MemorySink, MemorySource, OutputBuffer, Sink, Source, StdSink,
     StdSource, write_all,
 };
@@ -38,7 +38,7 @@ fn expect_answers<R: Abort>(
     let mut buffer = LineBuffer::new(max);
     for want in expected {
         let answer = buffer.next_line(&mut source);
-        assert_eq!(rt; answer, *want, "step {step}, max {max}");
+        assert!(rt; answer == *want, "step {step}, max {max}");
         match answer {
             Line::Whole(_) | Line::TooLong => {}
             Line::End | Line::Failed | Line::Budget => return,
@@ -139,38 +139,46 @@ fn budgets_and_faults(rt: HostRuntime) {
 fn lines_as_they_stand(rt: HostRuntime) {
     let mut source = MemorySource::new(b"one\r\n\n\xff\ntwo", 2, &[]);
     let mut buffer = LineBuffer::new(100);
-    assert_eq!(rt; buffer.line(), b"".as_slice());
-    assert_eq!(rt; buffer.next_line(&mut source), Line::Whole(4));
-    assert_eq!(rt; buffer.line(), b"one\r".as_slice());
-    assert_eq!(rt; buffer.next_line(&mut source), Line::Whole(0));
-    assert_eq!(rt; buffer.line(), b"".as_slice());
-    assert_eq!(rt; buffer.next_line(&mut source), Line::Whole(1));
-    assert_eq!(rt; buffer.line(), b"\xff".as_slice());
-    assert_eq!(rt; buffer.next_line(&mut source), Line::Whole(3));
-    assert_eq!(rt; buffer.line(), b"two".as_slice());
-    assert_eq!(rt; buffer.next_line(&mut source), Line::End);
-    assert_eq!(rt; buffer.line(), b"".as_slice());
+    assert!(rt; buffer.line() == b"".as_slice());
+    let rows: [(Line, &[u8]); 5] = [
+        (Line::Whole(4), b"one\r"),
+        (Line::Whole(0), b""),
+        (Line::Whole(1), b"\xff"),
+        (Line::Whole(3), b"two"),
+        (Line::End, b""),
+    ];
+    for row in rows {
+        let answer = buffer.next_line(&mut source);
+        assert!(rt; answer == row.0, "{row:?}");
+        assert!(rt; buffer.line() == row.1, "{row:?}");
+        if answer == Line::End {
+            return;
+        }
+    }
 }
 
 #[test]
-fn memory_reads_and_writes(rt: HostRuntime) {
-    let mut room = [0; 4];
+fn memory_reads(rt: HostRuntime) {
     let mut source = MemorySource::new(b"abcdefgh", 5, &[1]);
     let mut buf = [0; 7];
-    assert_eq!(rt; source.read(&mut buf[..3]), Ok(3));
-    assert_eq!(rt; source.read(&mut buf[3..]), Err(Failed));
-    assert_eq!(rt; source.read(&mut buf[3..]), Ok(4));
-    assert_eq!(rt; buf, *b"abcdefg");
-    assert_eq!(rt; source.read(&mut buf), Ok(1));
-    assert_eq!(rt; source.read(&mut buf), Ok(0));
+    assert!(rt; source.read(&mut buf[..3]) == Ok(3));
+    assert!(rt; source.read(&mut buf[3..]) == Err(Failed));
+    assert!(rt; source.read(&mut buf[3..]) == Ok(4));
+    assert!(rt; buf == *b"abcdefg");
+    assert!(rt; source.read(&mut buf) == Ok(1));
+    assert!(rt; source.read(&mut buf) == Ok(0));
+}
 
+#[test]
+fn memory_writes(rt: HostRuntime) {
+    let mut room = [0; 4];
     let mut sink = MemorySink::new(&mut room, 3, &[1]);
-    assert_eq!(rt; sink.write(b"abcd"), Ok(3));
-    assert_eq!(rt; sink.write(b"d"), Err(Failed));
-    assert_eq!(rt; sink.write(b"de"), Ok(1));
-    assert_eq!(rt; sink.write(b"e"), Err(Failed));
-    assert_eq!(rt; sink.write(b""), Ok(0));
-    assert_eq!(rt; sink.bytes(), b"abcd".as_slice());
+    assert!(rt; sink.write(b"abcd") == Ok(3));
+    assert!(rt; sink.write(b"d") == Err(Failed));
+    assert!(rt; sink.write(b"de") == Ok(1));
+    assert!(rt; sink.write(b"e") == Err(Failed));
+    assert!(rt; sink.write(b"") == Ok(0));
+    assert!(rt; sink.bytes() == b"abcd".as_slice());
 }
 
 /// Some interruptions, then some faults, and then it goes well.
@@ -240,7 +248,7 @@ fn well(interrupts: u32) -> Script {
 
 // Interruptions are tried again, faults are not: behind one fault the next call goes well, and only the next.
 #[test]
-fn system_calls_are_tried_again(rt: HostRuntime) {
+fn system_reads_are_tried_again(rt: HostRuntime) {
     let mut buf = [0; 4];
     // The bytes that a call gives, the script, and the answers of two reads.
     for (count, bytes, first, second) in [
@@ -255,10 +263,14 @@ fn system_calls_are_tried_again(rt: HostRuntime) {
             bytes,
             flush: WELL,
         });
-        assert_eq!(rt; source.read(&mut buf), first, "{bytes:?}");
-        assert_eq!(rt; source.read(&mut buf), second, "{bytes:?}");
+        assert!(rt; source.read(&mut buf) == first, "{bytes:?}");
+        assert!(rt; source.read(&mut buf) == second, "{bytes:?}");
     }
-    // The same for a write and its flush.
+}
+
+// The same for a write and its flush.
+#[test]
+fn system_writes_are_tried_again(rt: HostRuntime) {
     for (count, bytes, flush, first, second) in [
         (3, WELL, WELL, Ok(3), Ok(3)),
         (9, well(2), well(3), Ok(4), Ok(4)),
@@ -274,8 +286,8 @@ fn system_calls_are_tried_again(rt: HostRuntime) {
             bytes,
             flush,
         });
-        assert_eq!(rt; sink.write(b"abcd"), first, "{bytes:?} {flush:?}");
-        assert_eq!(rt; sink.write(b"abcd"), second, "{bytes:?} {flush:?}");
+        assert!(rt; sink.write(b"abcd") == first, "{bytes:?} {flush:?}");
+        assert!(rt; sink.write(b"abcd") == second, "{bytes:?} {flush:?}");
     }
 }
 
@@ -285,10 +297,10 @@ fn system_bytes(rt: HostRuntime) -> Result<(), Fail> {
     let mut buffer = LineBuffer::new(100);
     let mut written = Vec::new(rt.alloc());
     let mut sink = StdSink::new(&mut written);
-    assert_eq!(rt; buffer.next_line(&mut source), Line::Whole(3));
-    assert_eq!(rt; sink.write(buffer.line()), Ok(3));
-    assert_eq!(rt; sink.write(b""), Ok(0));
-    assert_eq!(rt; written.as_slice(), b"one".as_slice());
+    assert!(rt; buffer.next_line(&mut source) == Line::Whole(3));
+    assert!(rt; sink.write(buffer.line()) == Ok(3));
+    assert!(rt; sink.write(b"") == Ok(0));
+    assert!(rt; written.as_slice() == b"one".as_slice());
     Ok(())
 }
 
@@ -296,31 +308,34 @@ fn system_bytes(rt: HostRuntime) -> Result<(), Fail> {
 fn lines_that_are_pending(rt: HostRuntime) {
     let mut source = MemorySource::new(b"ab\ncd\nef", 8, &[]);
     let mut buffer = LineBuffer::new(100);
-    assert_eq!(rt; buffer.next_pending(), None);
-    assert_eq!(rt; buffer.next_line(&mut source), Line::Whole(2));
-    assert_eq!(rt; buffer.next_pending(), Some(Line::Whole(2)));
-    assert_eq!(rt; buffer.line(), b"cd".as_slice());
-    assert_eq!(rt; buffer.next_pending(), None);
-    assert_eq!(rt; buffer.next_line(&mut source), Line::Whole(2));
-    assert_eq!(rt; buffer.line(), b"ef".as_slice());
-    assert_eq!(rt; buffer.next_line(&mut source), Line::End);
+    assert!(rt; buffer.next_pending() == None);
+    assert!(rt; buffer.next_line(&mut source) == Line::Whole(2));
+    assert!(rt; buffer.next_pending() == Some(Line::Whole(2)));
+    assert!(rt; buffer.line() == b"cd".as_slice());
+    assert!(rt; buffer.next_pending() == None);
+    assert!(rt; buffer.next_line(&mut source) == Line::Whole(2));
+    assert!(rt; buffer.line() == b"ef".as_slice());
+    assert!(rt; buffer.next_line(&mut source) == Line::End);
+}
 
+#[test]
+fn pending_bytes_that_do_not_count(rt: HostRuntime) {
     // Of these bytes five count.
     let mut source = MemorySource::new(b"ab\ncd\n", 8, &[]);
     let mut buffer = LineBuffer::new(5);
-    assert_eq!(rt; buffer.next_line(&mut source), Line::Whole(2));
-    assert_eq!(rt; buffer.next_pending(), None);
-    assert_eq!(rt; buffer.next_line(&mut source), Line::Budget);
+    assert!(rt; buffer.next_line(&mut source) == Line::Whole(2));
+    assert!(rt; buffer.next_pending() == None);
+    assert!(rt; buffer.next_line(&mut source) == Line::Budget);
 }
 
 #[test]
 fn pieces_are_written_whole(rt: HostRuntime) {
     let mut room = [0; 16];
     let mut sink = MemorySink::new(&mut room, 3, &[4]);
-    assert_eq!(rt; write_all(&mut sink, b"abcdefg"), Ok(()));
-    assert_eq!(rt; write_all(&mut sink, b""), Ok(()));
-    assert_eq!(rt; write_all(&mut sink, b"hijklmn"), Err(Failed));
-    assert_eq!(rt; sink.bytes(), b"abcdefghij".as_slice());
+    assert!(rt; write_all(&mut sink, b"abcdefg") == Ok(()));
+    assert!(rt; write_all(&mut sink, b"") == Ok(()));
+    assert!(rt; write_all(&mut sink, b"hijklmn") == Err(Failed));
+    assert!(rt; sink.bytes() == b"abcdefghij".as_slice());
 }
 
 // A sink's bytes of a write, the write that fails, whether the pieces are lines, the pieces, what is written at a
@@ -353,13 +368,16 @@ fn gathered_until_a_flush(rt: HostRuntime) {
                 out.put(&mut sink, piece);
             }
         }
-        assert_eq!(rt; sink.bytes(), b"".as_slice());
+        assert!(rt; sink.bytes() == b"".as_slice(), "{step} {are_lines}");
         out.flush(&mut sink);
-        assert_eq!(rt; sink.bytes(), flushed);
-        assert_eq!(rt; out.has_failed(), failing.len() > 0);
+        assert!(rt; sink.bytes() == flushed, "{step} {are_lines}");
+        assert!(rt;
+            out.has_failed() == (failing.len() > 0),
+            "{step} {are_lines}"
+        );
         out.put(&mut sink, b"x");
         out.flush(&mut sink);
-        assert_eq!(rt; sink.bytes(), more);
+        assert!(rt; sink.bytes() == more, "{step} {are_lines}");
     }
 }
 
@@ -371,11 +389,11 @@ fn pieces_longer_than_the_buffer(rt: HostRuntime) {
     let mut out = OutputBuffer::new();
     out.put(&mut sink, b"b");
     out.put(&mut sink, &piece[..16_384]);
-    assert_eq!(rt; sink.bytes(), b"b".as_slice());
+    assert!(rt; sink.bytes() == b"b".as_slice());
     out.put(&mut sink, &piece);
-    assert_eq!(rt; sink.bytes().len(), 32_770);
+    assert!(rt; sink.bytes().len() == 32_770);
     out.flush(&mut sink);
-    assert_eq!(rt; sink.bytes().len(), 32_770);
+    assert!(rt; sink.bytes().len() == 32_770);
 }
 
 #[test]
@@ -384,8 +402,8 @@ fn a_line_as_long_as_the_buffer(rt: HostRuntime) {
     let mut sink = MemorySink::new(&mut room, 16_400, &[]);
     let mut out = OutputBuffer::new();
     out.put_line(&mut sink, &[b'a'; 16_384]);
-    assert_eq!(rt; sink.bytes().len(), 16_384);
+    assert!(rt; sink.bytes().len() == 16_384);
     out.flush(&mut sink);
-    assert_eq!(rt; sink.bytes().len(), 16_385);
-    assert_eq!(rt; sink.bytes().last(), Some(&b'\n'));
+    assert!(rt; sink.bytes().len() == 16_385);
+    assert!(rt; sink.bytes().last() == Some(&b'\n'));
 }

@@ -1,8 +1,8 @@
 """The exports of libpwcheck.so by ctypes. The file is named by LIBPWCHECK, or found as the loader finds libraries.
 
 Each check returns an `Answer`, of which `MATCH` alone is leave to enter: compare with it, since `MATCH` is 0 and false.
-A number or a length that is out of range raises ValueError, want of memory for a key MemoryError.
-Passwords, stored texts and salts are bytes, of which the library keeps none.
+A number or a length that is out of range raises ValueError, a value of another type TypeError, out of memory for a key MemoryError.
+Passwords, stored texts and salts are bytes-like objects (bytes, bytearray, memoryview), of which the library keeps none.
 
     stored = pwcheck.make("argon2id", b"correct horse")
     if pwcheck.check_any(b"correct horse", stored, pwcheck.Limits(argon2_memory=65536)) == pwcheck.Answer.MATCH: ...
@@ -11,11 +11,14 @@ import ctypes as c
 import enum
 import os
 import secrets
-from typing import Any, Callable, Dict, Optional
+from typing import Any, Callable, Dict, List, Optional, Union
 
-__all__ = ["Answer", "Alphabet", "Limits", "PasswordRefused", "RECOMMENDED", "Status", "VERSION", "check", "check_any", "check_limited",
+__all__ = ["Answer", "Alphabet", "Data", "Limits", "PasswordRefused", "RECOMMENDED", "Status", "VERSION", "check", "check_any", "check_limited",
            "make", "sha_check", "word", "version", "scrypt", "scrypt_text", "sha_digest", "sha_field", "sha_text", "b64encode",
            "b64decode", "same"]
+
+
+Data = Union[bytes, bytearray, memoryview]
 
 
 class Answer(enum.IntEnum):
@@ -114,9 +117,12 @@ class Limits(c.Structure):
     def __init__(self, **limits: int) -> None:
         super().__init__(*[(1 << 32) - 1] * len(self._fields_))
         for name, number in limits.items():
-            if name not in dict(self._fields_):
-                raise TypeError(f"{name} is no limit")
-            setattr(self, name, _natural(number))
+            setattr(self, name, number)
+
+    def __setattr__(self, name: str, number: int) -> None:
+        if name not in dict(self._fields_):
+            raise TypeError(f"{name} is no limit")
+        super().__setattr__(name, _natural(number))
 
 
 WORD_SIZE = 18
@@ -133,7 +139,11 @@ RECOMMENDED_ARGON2ID_MEMORY, RECOMMENDED_ARGON2ID_PASSES, RECOMMENDED_ARGON2ID_L
 VERSION_MAJOR, VERSION_MINOR = 1, 1
 VERSION = f"{VERSION_MAJOR}.{VERSION_MINOR}"
 
-_lib = c.CDLL(os.environ.get("LIBPWCHECK", f"libpwcheck.so.{VERSION_MAJOR}"))
+_FILE = os.environ.get("LIBPWCHECK", f"libpwcheck.so.{VERSION_MAJOR}")
+try:
+    _lib = c.CDLL(_FILE)
+except OSError as _error:
+    raise ImportError(f"{_FILE} isn't found or can't be loaded ({_error}): LIBPWCHECK names the file of the library") from None
 _bytes = [c.c_char_p, c.c_size_t]
 _len = c.POINTER(c.c_size_t)
 _sha = [*_bytes, *_bytes, c.c_uint32, *_bytes]
@@ -190,9 +200,21 @@ _SHA_SALT_SIZE = 16 * 6 // 8
 
 def _natural(n: int, bits: int = 32) -> int:
     """The number, which ctypes would otherwise take modulo 2^bits."""
+    if not isinstance(n, int):
+        raise TypeError(f"a number is wanted, not {type(n).__name__}")
     if not 0 <= n < 1 << bits:
         raise ValueError(f"{n} is out of range")
     return n
+
+
+def _data(*data: Data) -> List[Any]:
+    """Each of the bytes-like objects as bytes, with its length."""
+    words: List[Any] = []
+    for one in data:
+        if not isinstance(one, (bytes, bytearray, memoryview)):
+            raise TypeError(f"a bytes-like object is wanted, not {type(one).__name__}")
+        words += [bytes(one), len(bytes(one))]
+    return words
 
 
 def _of(calls: dict, bits: int) -> Any:
@@ -230,27 +252,29 @@ def _told(room: int, call: Callable[..., int], *arguments: Any) -> str:
     return out.value.decode()
 
 
-def check(password: bytes, stored: bytes) -> Answer:
+def check(password: Data, stored: Data) -> Answer:
     """Checks a password against a stored text, SHA-crypt or a PHC record of scrypt."""
-    return Answer(_check(password, len(password), stored, len(stored)))
+    return Answer(_check(*_data(password, stored)))
 
 
-def check_limited(password: bytes, stored: bytes, max_rounds: int, max_bytes: int) -> Answer:
+def check_limited(password: Data, stored: Data, max_rounds: int, max_bytes: int) -> Answer:
     """Checks as `check`, but answers OVER_COST, and computes nothing, for a valid text of more than `max_rounds` rounds
     of SHA-crypt, or of scrypt that mixes more than `max_bytes` bytes (128 r p 2^ln)."""
-    return Answer(_check_limited(password, len(password), stored, len(stored), _natural(max_rounds),
+    return Answer(_check_limited(*_data(password, stored), _natural(max_rounds),
                                  _natural(max_bytes, 64)))
 
 
-def check_any(password: bytes, stored: bytes, limits: Optional[Limits] = None) -> Answer:
+def check_any(password: Data, stored: Data, limits: Optional[Limits] = None) -> Answer:
     """Checks a password against a stored text of every scheme, and answers OVER_COST, and hashes nothing, for a valid text
     that asks for more than a limit. Without limits a text of another's choice may ask for hours and for gigabytes."""
-    return Answer(_check_any(password, len(password), stored, len(stored), c.byref(limits or Limits())))
+    if not isinstance(limits, (Limits, type(None))):
+        raise TypeError(f"limits are Limits or None, not {type(limits).__name__}")
+    return Answer(_check_any(*_data(password, stored), c.byref(Limits() if limits is None else limits)))
 
 
-def sha_check(bits: int, password: bytes, stored: bytes) -> Answer:
+def sha_check(bits: int, password: Data, stored: Data) -> Answer:
     """Checks a password against a text of SHA-256-crypt or SHA-512-crypt alone (`bits` is 256 or 512)."""
-    return Answer(_of(_checks, bits)(password, len(password), stored, len(stored)))
+    return Answer(_of(_checks, bits)(*_data(password, stored)))
 
 
 def word(answer: int) -> str:
@@ -268,56 +292,55 @@ def version() -> str:
     return _told(32, _version)
 
 
-def scrypt(password: bytes, salt: bytes, ln: int, r: int, p: int, size: int) -> bytes:
+def scrypt(password: Data, salt: Data, ln: int, r: int, p: int, size: int) -> bytes:
     """The key of scrypt (RFC 7914) of 1 to 64 bytes, with N = 2^ln."""
-    return _filled(_natural(size, 16), _scrypt, password, len(password), salt, len(salt), _natural(ln), _natural(r),
-                   _natural(p))
+    return _filled(_natural(size, 16), _scrypt, *_data(password, salt), _natural(ln), _natural(r), _natural(p))
 
 
-def scrypt_text(password: bytes, salt: bytes, ln: int = 14, r: int = 8, p: int = 1) -> bytes:
+def scrypt_text(password: Data, salt: Data, ln: int = 14, r: int = 8, p: int = 1) -> bytes:
     """The PHC text of a password of at most 4,096 bytes of UTF-8, for a salt of 16 bytes, as `os.urandom(16)`."""
-    return _written(SCRYPT_TEXT_MAX, _scrypt_text, password, len(password), salt, len(salt), _natural(ln), _natural(r),
-                    _natural(p))
+    return _written(SCRYPT_TEXT_MAX, _scrypt_text, *_data(password, salt), _natural(ln), _natural(r), _natural(p))
 
 
-def sha_digest(bits: int, password: bytes, salt: bytes, rounds: int = 5000) -> bytes:
+def sha_digest(bits: int, password: Data, salt: Data, rounds: int = 5000) -> bytes:
     """The digest of SHA-256-crypt or SHA-512-crypt, of which the first 16 bytes of the salt count."""
-    return _filled(_of(_DIGEST_SIZES, bits), _digests[bits], password, len(password), salt, len(salt), _natural(rounds))
+    return _filled(_of(_DIGEST_SIZES, bits), _digests[bits], *_data(password, salt), _natural(rounds))
 
 
-def sha_field(bits: int, password: bytes, salt: bytes, rounds: int = 5000) -> bytes:
+def sha_field(bits: int, password: Data, salt: Data, rounds: int = 5000) -> bytes:
     """The hash field of that digest."""
-    return _filled(_of(_FIELD_SIZES, bits), _fields[bits], password, len(password), salt, len(salt), _natural(rounds))
+    return _filled(_of(_FIELD_SIZES, bits), _fields[bits], *_data(password, salt), _natural(rounds))
 
 
-def sha_text(bits: int, password: bytes, salt: bytes, rounds: int = 5000) -> bytes:
+def sha_text(bits: int, password: Data, salt: Data, rounds: int = 5000) -> bytes:
     """The text `$5$..` or `$6$..` of a password of at most 4,096 bytes of UTF-8, for a salt of 1 to 16 characters of
     [./0-9A-Za-z] that the caller draws, as by `secrets.choice`."""
-    return _written(_of(_TEXT_MAX, bits), _texts[bits], password, len(password), salt, len(salt), _natural(rounds))
+    return _written(_of(_TEXT_MAX, bits), _texts[bits], *_data(password, salt), _natural(rounds))
 
 
-def _fit(password: bytes, zero: bool) -> None:
+def _fit(password: Data, zero: bool) -> None:
     """Refuses a password as the library's newer calls do, for SHA-crypt and scrypt, whose older ones say out of range."""
-    if len(password) > PASSWORD_MAX:
+    whole = _data(password)[0]
+    if len(whole) > PASSWORD_MAX:
         raise PasswordRefused(Status.REFUSED_LENGTH)
     try:
-        password.decode()
+        whole.decode()
     except UnicodeDecodeError:
         raise PasswordRefused(Status.REFUSED_UTF8) from None
-    if not zero and b"\0" in password:
+    if not zero and b"\0" in whole:
         raise PasswordRefused(Status.REFUSED_ZERO)
 
 
-def _made(scheme: str, password: bytes, salt: bytes, numbers: Dict[str, int]) -> bytes:
+def _made(scheme: str, password: Data, salt: Data, numbers: Dict[str, int]) -> bytes:
     if scheme in _makers:
-        return _written(TEXT_MAX, _makers[scheme], password, len(password), salt, len(salt), *map(_natural, numbers.values()))
+        return _written(TEXT_MAX, _makers[scheme], *_data(password, salt), *map(_natural, numbers.values()))
     _fit(password, zero=scheme == "scrypt")
     if scheme == "scrypt":
         return scrypt_text(password, salt, **numbers)
     return sha_text(_SHA_BITS[scheme], password, b64encode(Alphabet.BASE64_SHA_CRYPT, salt), **numbers)
 
 
-def make(scheme: str, password: bytes, salt: Optional[bytes] = None, **costs: int) -> bytes:
+def make(scheme: str, password: Data, salt: Optional[Data] = None, **costs: int) -> bytes:
     """The text to store of a password, which `check_any` answers with MATCH.
 
     The scheme is one of `RECOMMENDED`, which says what the text costs where a number is left out: `make("bcrypt", password,
@@ -332,23 +355,23 @@ def make(scheme: str, password: bytes, salt: Optional[bytes] = None, **costs: in
     size = _SHA_SALT_SIZE if scheme in _SHA_BITS else SALT_SIZE
     if salt is None:
         salt = secrets.token_bytes(size)
-    if len(salt) != size:
-        raise ValueError("out of range")
+    if _data(salt)[1] != size:
+        raise ValueError(f"a salt of {scheme} has {size} bytes")
     return _made(scheme, password, salt, numbers)
 
 
-def b64encode(alphabet: int, data: bytes) -> bytes:
+def b64encode(alphabet: int, data: Data) -> bytes:
     """The encoding of bytes in an alphabet."""
     n = _natural(alphabet)
-    return _written(_encoded_len(n, len(data)), _encode, n, data, len(data))
+    return _written(_encoded_len(n, _data(data)[1]), _encode, n, *_data(data))
 
 
-def b64decode(alphabet: int, text: bytes) -> bytes:
+def b64decode(alphabet: int, text: Data) -> bytes:
     """The bytes whose one encoding in an alphabet is this text."""
     n = _natural(alphabet)
-    return _written(_decoded_len(n, text, len(text)), _decode, n, text, len(text))
+    return _written(_decoded_len(n, *_data(text)), _decode, n, *_data(text))
 
 
-def same(a: bytes, b: bytes) -> bool:
+def same(a: Data, b: Data) -> bool:
     """Whether two lists of bytes are the same, by steps that depend on their lengths alone."""
-    return bool(_same(a, len(a), b, len(b)))
+    return bool(_same(*_data(a, b)))

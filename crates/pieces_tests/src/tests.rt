@@ -1,11 +1,10 @@
 //! Texts and their pieces.
 
-use crate::characters::{has_name_bytes, is_name_byte};
-use crate::places::{first_place, last_place};
-use crate::short_bytes::ShortBytes;
-use crate::text::text_of;
-use crate::{begins_with, behind, ends_in, first_piece, is_end, next_piece};
-use std::test::Fail;
+use pieces::characters::{has_name_bytes, is_name_byte};
+use pieces::places::{first_place, last_place};
+use pieces::short_bytes::ShortBytes;
+use pieces::text::text_of;
+use pieces::{begins_with, behind, ends_in, first_piece, is_end, next_piece};
 
 // A text and its first three pieces.
 const CUTS: [(&str, [Option<&str>; 3]); 6] = [
@@ -22,26 +21,33 @@ fn pieces_in_turn(rt: HostRuntime) {
     for (text, pieces) in CUTS {
         let mut left = Some(text);
         for wanted in pieces {
-            assert_eq!(rt; is_end(left), wanted.is_none());
+            assert!(rt; is_end(left) == wanted.is_none(), "{text:?}");
             let (piece, others) = next_piece(left, '$');
-            assert_eq!(rt; piece, wanted);
+            assert!(rt; piece == wanted, "{text:?}");
             left = others;
         }
     }
 }
 
 #[test]
-fn each_call_once(rt: HostRuntime) -> Result<(), Fail> {
+fn first_pieces(rt: HostRuntime) {
     let (piece, rest) = first_piece("id=7,salt", ',');
-    assert_eq!(rt; piece, "id=7");
-    assert_eq!(rt; rest.ok_or("a rest")?, "salt");
+    assert!(rt; piece == "id=7");
+    assert!(rt; rest == Some("salt"));
+}
+
+#[test]
+fn fronts_and_ends(rt: HostRuntime) {
     assert!(rt; begins_with("rounds=5000", "rounds="));
     assert!(rt; !begins_with("round", "rounds="));
     assert!(rt; ends_in("$6$", "$"));
     assert!(rt; !ends_in("$6", "$"));
-    assert_eq!(rt; behind("rounds=5000", "rounds=").ok_or("a number")?, "5000");
-    assert_eq!(rt; behind("salt", "rounds="), None);
-    Ok(())
+}
+
+#[test]
+fn texts_after_a_front(rt: HostRuntime) {
+    assert!(rt; behind("rounds=5000", "rounds=") == Some("5000"));
+    assert!(rt; behind("salt", "rounds=") == None);
 }
 
 // Numbers and their decimals.
@@ -62,13 +68,20 @@ fn digits_of(number: u64) -> ShortBytes<20> {
 fn short_bytes(rt: HostRuntime) {
     for (number, digits) in DECIMALS {
         let text = digits_of(number);
-        assert_eq!(rt; text.as_slice(), digits.as_bytes());
-        assert_eq!(rt; text.len(), digits.len());
-        assert!(rt; text == ShortBytes::from_slice(digits.as_bytes()));
+        assert!(rt; text.as_slice() == digits.as_bytes(), "{number}");
+        assert!(rt; text.len() == digits.len(), "{number}");
+        assert!(rt;
+            text == ShortBytes::from_slice(digits.as_bytes()),
+            "{number}"
+        );
     }
+}
+
+#[test]
+fn short_bytes_joined(rt: HostRuntime) {
     let mut word: ShortBytes<8> = ShortBytes::from_slice(b"ln=");
     word.push_all(b"14");
-    assert_eq!(rt; word.as_slice(), b"ln=14".as_slice());
+    assert!(rt; word.as_slice() == b"ln=14".as_slice());
     assert!(rt; word != ShortBytes::from_slice(b"ln=1"));
 }
 
@@ -89,7 +102,7 @@ const PLACES: [(&str, Option<usize>); 10] = [
 #[test]
 fn places_in_short_and_long_texts(rt: HostRuntime) {
     for (text, place) in PLACES {
-        assert_eq!(rt; first_place(text.as_bytes(), b'$'), place);
+        assert!(rt; first_place(text.as_bytes(), b'$') == place, "{text:?}");
     }
 }
 
@@ -106,17 +119,17 @@ const LAST_PLACES: [(&str, Option<usize>); 6] = [
 #[test]
 fn last_places(rt: HostRuntime) {
     for (text, place) in LAST_PLACES {
-        assert_eq!(rt; last_place(text.as_bytes(), b'$'), place);
+        assert!(rt; last_place(text.as_bytes(), b'$') == place, "{text:?}");
     }
 }
 
 #[test]
 fn texts_of_bytes(rt: HostRuntime) {
     for text in ["", "salt", "abcdefghijklmnopq", "abcdefghijklmn\u{e9}opq"] {
-        assert_eq!(rt; text_of(text.as_bytes()), Some(text));
+        assert!(rt; text_of(text.as_bytes()) == Some(text), "{text:?}");
     }
     for bytes in [b"salt\xff".as_slice(), b"abcdefghijklmnop\xff".as_slice()] {
-        assert_eq!(rt; text_of(bytes), None);
+        assert!(rt; text_of(bytes) == None, "{bytes:?}");
     }
 }
 
@@ -128,7 +141,7 @@ fn bytes_of_names(rt: HostRuntime) {
         ("a_b", false),
         ("Az", false),
     ] {
-        assert_eq!(rt; has_name_bytes(text.as_bytes()), all);
+        assert!(rt; has_name_bytes(text.as_bytes()) == all, "{text:?}");
     }
     assert!(rt; is_name_byte(b'-') && !is_name_byte(b'.'));
 }
