@@ -5,7 +5,7 @@ ghost use Rattle.std.specs.Option.{ForNone};
 ghost use Rattle.file_device.specs.Calls.{call_by, faults, is_renewed};
 
 use crate::fault::DeviceFault;
-use crate::locking::is_named;
+use crate::locking::{FileId, has_name, id_of};
 use crate::record::Record;
 use crate::replacing::{new_replacement, take_away};
 use line_io::Failed;
@@ -39,10 +39,11 @@ pub(crate) struct Place {
     pub folder: File,
 }
 
-/// A file that is to replace another, and how many bytes were added to it.
+/// A file that is to replace another, which file it is, and how many bytes were added to it.
 #[derive(Drop)]
 pub(crate) struct Replacement {
     pub file: File,
+    pub id: FileId,
     pub len: u64,
 }
 
@@ -59,6 +60,10 @@ pub struct FileDevice<'a> {
     pub(crate) place: Place,
     /// The file, if there is one.
     pub(crate) file: Option<File>,
+    /// Which file it is, if there is one.
+    pub(crate) id: Option<FileId>,
+    /// How many writes weren't synced yet.
+    pub(crate) unsynced: u8,
     pub(crate) replacement: Option<Replacement>,
     /// Whether the folder's new entry isn't synced yet.
     pub(crate) is_renamed: bool,
@@ -88,16 +93,19 @@ fn cut_file(file: &Option<File>, len: usize) -> Result<(), DeviceFault> {
     }
 }
 
-// Syncs a file. Where its name leads to it no more, what it has would be lost with it.
-fn sync(rt: &HostRuntime, file: &Option<File>, name: &str) -> Result<(), DeviceFault> {
-    let Some(file) = file else {
-        return Err(no_file());
-    };
-    file.sync_data()?;
-    if is_named(rt, file, name)? {
-        Ok(())
-    } else {
-        Err(DeviceFault::Moved)
+fn sync(file: &Option<File>) -> Result<(), DeviceFault> {
+    match file {
+        Some(file) => Ok(file.sync_data()?),
+        None => Err(no_file()),
+    }
+}
+
+// Looks whether the name leads to the file: where it does no more, what the file has would be lost with it.
+fn look_up(rt: &HostRuntime, id: Option<FileId>, name: &str) -> Result<(), DeviceFault> {
+    match id {
+        Some(id) if has_name(rt, id, name)? => Ok(()),
+        Some(_) => Err(DeviceFault::Moved),
+        None => Err(no_file()),
     }
 }
 
@@ -129,12 +137,9 @@ fn rename(
         return Err(no_file());
     };
     let new_name = place.new_name.as_str();
-    if is_named(rt, &replacement.file, new_name)? {
-        fs::rename(rt, new_name, place.name.as_str())?;
-        Ok(())
-    } else {
-        Err(DeviceFault::Moved)
-    }
+    look_up(rt, Some(replacement.id), new_name)?;
+    fs::rename(rt, new_name, place.name.as_str())?;
+    Ok(())
 }
 
 // Takes away a file that was to replace another, after a call has failed.
@@ -192,7 +197,12 @@ impl FileDevice<'_> {
         if self.is_renamed {
             self.place.folder.sync_all()?;
         }
-        sync(self.rt, &self.file, self.place.name.as_str())?;
+        sync(&self.file)?;
+        // Two writes stage a group, and one opens it: the name is looked up once a group, before it is opened.
+        if self.unsynced > 1 {
+            look_up(self.rt, self.id, self.place.name.as_str())?;
+        }
+        self.unsynced = 0;
         self.is_renamed = false;
         Ok(())
     }
@@ -212,7 +222,8 @@ impl FileDevice<'_> {
         ensures calls { self.new.record.calls ≡ self.old.record.calls }
     {
         let file = new_replacement(self.rt, &self.place, &self.file)?;
-        self.replacement = Some(Replacement { file, len: 0 });
+        let id = id_of(&file)?;
+        self.replacement = Some(Replacement { file, id, len: 0 });
         Ok(())
     }
 
@@ -221,7 +232,10 @@ impl FileDevice<'_> {
         ensures calls { self.new.record.calls ≡ self.old.record.calls }
     {
         rename(self.rt, &self.place, &self.replacement)?;
-        self.file = self.replacement.take().map(|replacement| replacement.file);
+        if let Some(replacement) = self.replacement.take() {
+            self.id = Some(replacement.id);
+            self.file = Some(replacement.file);
+        }
         self.is_renamed = true;
         Ok(())
     }
@@ -252,6 +266,7 @@ impl Device for FileDevice<'_> {
 
     fn write_at(&mut self, at: usize, bytes: &[u8]) -> Result<(), Failed> {
         let done = write_file(&self.file, at, bytes);
+        self.unsynced = self.unsynced.saturating_add(1);
         self.note(WROTE, done, at, bytes)
     }
 

@@ -25,14 +25,34 @@ pub(crate) fn lock(file: &File) -> io::Result<Holder> {
     }
 }
 
-/// Whether the file is the one that has the name now.
-pub(crate) fn is_named(rt: &HostRuntime, file: &File, name: &str) -> io::Result<bool> {
+/// Which file it is, whatever its names are.
+#[derive(Clone, Copy, Debug, PartialEq, Eq)]
+pub(crate) struct FileId {
+    pub dev: u64,
+    pub ino: u64,
+}
+
+/// Which file an open one is. That stays as long as it is open.
+pub(crate) fn id_of(file: &File) -> io::Result<FileId> {
     let here = file.metadata()?;
+    Ok(FileId {
+        dev: here.dev(),
+        ino: here.ino(),
+    })
+}
+
+/// Whether this file is the one that has the name now.
+pub(crate) fn has_name(rt: &HostRuntime, id: FileId, name: &str) -> io::Result<bool> {
     match fs::symlink_metadata(rt, name) {
-        Ok(there) => Ok(here.dev() == there.dev() && here.ino() == there.ino()),
+        Ok(there) => Ok(there.dev() == id.dev && there.ino() == id.ino),
         Err(error) if error.kind() == io::ErrorKind::NotFound => Ok(false),
         Err(error) => Err(error),
     }
+}
+
+/// The same of an open file.
+pub(crate) fn is_named(rt: &HostRuntime, file: &File, name: &str) -> io::Result<bool> {
+    has_name(rt, id_of(file)?, name)
 }
 
 /// Whether the file has taken the place of standard input, output or error, which was closed. What the program says would

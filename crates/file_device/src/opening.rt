@@ -5,7 +5,7 @@ ghost use Rattle.file_device.specs.Calls.{faults, is_renewed, seen};
 
 use crate::access::is_shared;
 use crate::device::{FileDevice, OPENED, Place, WROTE};
-use crate::locking::{Holder, MOST_TRIES, is_named, is_standard, lock};
+use crate::locking::{Holder, MOST_TRIES, id_of, is_named, is_standard, lock};
 use crate::record::Record;
 use std::alloc::{AllocError, Global};
 use std::fs::{self, File, OpenOptions};
@@ -178,9 +178,9 @@ pub fn open<'a>(rt: &'a HostRuntime, name: &str) -> Result<Opened<'a>, OpenFault
     let place = place_of(rt, name)?;
     let file = open_locked(rt, name)?;
     let (bytes, record) = read_renewed(rt, &file, &place.folder)?;
-    let shared = match &file {
-        Some(file) => is_shared(file)?,
-        None => false,
+    let (id, shared) = match &file {
+        Some(file) => (Some(id_of(file)?), is_shared(file)?),
+        None => (None, false),
     };
     Ok(Opened {
         is_there: file.is_some(),
@@ -189,6 +189,8 @@ pub fn open<'a>(rt: &'a HostRuntime, name: &str) -> Result<Opened<'a>, OpenFault
             rt,
             place,
             file,
+            id,
+            unsynced: 0,
             replacement: None,
             is_renamed: false,
             cause: None,
