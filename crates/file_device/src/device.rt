@@ -5,7 +5,7 @@ ghost use Rattle.std.specs.Option.{ForNone};
 ghost use Rattle.file_device.specs.Calls.{call_by, faults, is_renewed};
 
 use crate::fault::DeviceFault;
-use crate::locking::{FileId, has_name, id_of};
+use crate::locking::{FileId, has_name};
 use crate::record::Record;
 use crate::replacing::{new_replacement, take_away};
 use line_io::Failed;
@@ -221,9 +221,8 @@ impl FileDevice<'_> {
     fn make_replacement(&mut self) -> Result<(), DeviceFault>
         ensures calls { self.new.record.calls ≡ self.old.record.calls }
     {
-        let file = new_replacement(self.rt, &self.place, &self.file)?;
-        let id = id_of(&file)?;
-        self.replacement = Some(Replacement { file, id, len: 0 });
+        let replacement = new_replacement(self.rt, &self.place, &self.file)?;
+        self.replacement = Some(replacement);
         Ok(())
     }
 

@@ -1,9 +1,9 @@
 //! The file that is to replace another: made new, beside it, and locked before it takes the name.
 
 use crate::access::{copy_access, is_shared};
-use crate::device::Place;
+use crate::device::{Place, Replacement};
 use crate::fault::DeviceFault;
-use crate::locking::{Holder, MOST_TRIES, is_named, is_standard, lock};
+use crate::locking::{FileId, Holder, MOST_TRIES, id_of, is_named, is_standard, lock};
 use line_log::HEADER;
 use std::fs::{self, File, OpenOptions, Permissions};
 use std::io;
@@ -106,13 +106,13 @@ fn is_there(rt: &HostRuntime, name: &str) -> io::Result<bool> {
     }
 }
 
-// Gives a new file the access that it has to have, and looks whether the name is as it was.
+// Gives a new file the access that it has to have, looks whether the name is as it was, and tells which file it is.
 fn prepare(
     rt: &HostRuntime,
     place: &Place,
     old: &Option<File>,
     new: &File,
-) -> Result<(), DeviceFault> {
+) -> Result<FileId, DeviceFault> {
     if is_standard(new) {
         return Err(io::Error::other("standard input, output or error is closed").into());
     }
@@ -122,12 +122,12 @@ fn prepare(
         return if is_there(rt, place.name.as_str())? {
             Err(DeviceFault::InUse)
         } else {
-            Ok(())
+            Ok(id_of(new)?)
         };
     };
     copy_access(old, new)?;
     if is_named(rt, old, place.name.as_str())? {
-        Ok(())
+        Ok(id_of(new)?)
     } else {
         Err(DeviceFault::Moved)
     }
@@ -141,7 +141,7 @@ pub(crate) fn new_replacement(
     rt: &HostRuntime,
     place: &Place,
     old: &Option<File>,
-) -> Result<File, DeviceFault> {
+) -> Result<Replacement, DeviceFault> {
     if let Some(old) = old {
         if is_shared(old)? {
             return Err(DeviceFault::Shared);
@@ -154,7 +154,7 @@ pub(crate) fn new_replacement(
         made => made?,
     };
     match prepare(rt, place, old, &file) {
-        Ok(()) => Ok(file),
+        Ok(id) => Ok(Replacement { file, id, len: 0 }),
         Err(fault) => {
             take_away(rt, &file, name);
             Err(fault)

@@ -62,7 +62,12 @@ fn what_a_run_has_left_is_taken_away(rt: HostRuntime) {
     };
     assert!(rt; write(&rt, place.other.as_str(), TWO));
     assert!(rt; write(&rt, place.name.as_str(), NONE));
-    for left in [b"".as_slice(), b"#pws", b"#pwstore 1\nset\tann"] {
+    for left in [
+        b"".as_slice(),
+        b"#pws",
+        b"#pwstore 1\nset\tann",
+        b"#pw\0\0\0\0\0\0\0\0set\tann",
+    ] {
         assert!(rt; write(&rt, place.new_name.as_str(), left));
         assert!(rt; rewritten(&rt, place.name.as_str(), GROUP).is_ok());
         assert!(rt; has(&rt, place.name.as_str(), TWO) && is_free(&rt, place.new_name.as_str()));
