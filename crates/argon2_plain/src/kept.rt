@@ -62,6 +62,8 @@ impl Argon2Kept {
 // Makes a table of at least `len` words. A smaller one is given back before the larger is asked for.
 fn grow(alloc: Global, table: &mut Vec<u64>, len: usize) -> Result<(), AllocError>
     ensures room { OnOk result (len ≤ vec_len table.new) }
+    ensures kept { len ≤ vec_len table.old → table.new ≡ table.old }
+    ensures grown { vec_len table.old < len → OnOk result (vec_len table.new ≡ len) }
 {
     if table.len() >= len {
         return Ok(());

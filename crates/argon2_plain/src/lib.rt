@@ -132,6 +132,3 @@ pub fn argon2(
     );
     Ok(())
 }
-
-#[cfg(test)]
-mod tests;

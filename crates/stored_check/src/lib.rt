@@ -11,8 +11,6 @@ mod kdf;
 pub mod laws;
 mod names;
 mod normal;
-#[cfg(test)]
-mod tests;
 mod words;
 
 pub use check::{PASSWORD_MAX, check_stored, check_stored_counted};

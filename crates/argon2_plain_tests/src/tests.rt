@@ -1,9 +1,11 @@
 //! Vectors of RFC 9106, section 5, and tags of the reference program.
 
-use crate::{Argon2Kept, Argon2Plain, Params, Variant, argon2, argon2_in, laws, variable_hash};
+use argon2_plain::{
+    Argon2Kept, Argon2Plain, Params, Variant, argon2, argon2_in, laws, variable_hash,
+};
 use phc::PasswordHash;
 use std::test::Fail;
-use stored_check::{PhcKdf, check_stored};
+use stored_check::{PhcKdf, StoredError, check_stored};
 
 // RFC 9106, sections 5.1 to 5.3: a password of 32 bytes 01, a salt of 16 bytes 02, a secret of 8 bytes 03, data of 12
 // bytes 04, 3 passes over 32 KiB in 4 lanes.
@@ -102,7 +104,7 @@ fn vectors(rt: HostRuntime) -> Result<(), Fail> {
             &[4; 12],
             &mut out,
         )?;
-        assert_eq!(rt; out.as_slice(), tag.as_slice(), "{variant:?}");
+        assert!(rt; out.as_slice() == tag.as_slice(), "{variant:?}");
     }
     Ok(())
 }
@@ -128,30 +130,82 @@ fn tags_in_used_memory(rt: HostRuntime) -> Result<(), Fail> {
             work.as_mut_slice(),
             &mut out[..n],
         );
-        assert_eq!(rt; &out[..n], tag, "{params:?}");
-        assert_eq!(rt; &out[n..], &[0u8; 97][n..], "{params:?}");
+        assert!(rt; &out[..n] == tag, "{params:?}");
+        assert!(rt; &out[n..] == &[0u8; 97][n..], "{params:?}");
     }
     Ok(())
 }
 
 #[test]
-fn records(rt: HostRuntime) -> Result<(), Fail> {
-    let kept = Argon2Kept::new(rt.alloc());
+fn records(rt: HostRuntime) {
     for text in RECORDS {
         for (password, same) in [("password", true), ("passwore", false)] {
-            assert_eq!(rt;
-                check_stored(rt.alloc(), &Argon2Plain, password, text),
-                Ok(same),
-                "{text:?}"
-            );
-            assert_eq!(rt;
-                check_stored(rt.alloc(), &kept, password, text),
-                Ok(same),
-                "{text:?}"
+            assert!(rt;
+                check_stored(rt.alloc(), &Argon2Plain, password, text) == Ok(same),
+                "{text}"
             );
         }
     }
+}
+
+// How often this asks for memory is told in bench/refused_memory.py: four times, as the table grows for 8, 64, 256 and 512 KiB
+// alone. Where a request is refused, this ends by the want of memory.
+#[test]
+fn records_in_a_kept_table(rt: HostRuntime) -> Result<(), Fail> {
+    let kept = Argon2Kept::new(rt.alloc());
+    for text in RECORDS {
+        for (password, same) in [("password", true), ("passwore", false)] {
+            let found = check_stored(rt.alloc(), &kept, password, text);
+            if found == Err(StoredError::OutOfMemory) {
+                return Err("want of memory".into());
+            }
+            assert!(rt; found == Ok(same), "{text}");
+        }
+    }
     Ok(())
+}
+
+// One request, as bench/refused_memory.py tells: a vector that is refused is not asked for again.
+#[test]
+fn a_record_in_one_vector(rt: HostRuntime) -> Result<(), Fail> {
+    let found = check_stored(rt.alloc(), &Argon2Plain, "password", RECORDS[1]);
+    if found == Err(StoredError::OutOfMemory) {
+        return Err("want of memory".into());
+    }
+    assert!(rt; found == Ok(true));
+    Ok(())
+}
+
+// No request, as bench/refused_memory.py tells: a password too long, a text with a fault and a record that is not taken are
+// answered before memory is asked for.
+#[test]
+fn answers_before_memory(rt: HostRuntime) {
+    let letters = [b'a'; 4_097];
+    let Ok(long) = str::from_utf8(&letters) else {
+        panic!(rt; "letters are text")
+    };
+    for (password, text, fault) in [
+        (long, RECORDS[1], StoredError::PasswordTooLong),
+        (
+            "password",
+            "$argon2id$v=19$m=64,t=2,p=2$c29tZXNhbHQ",
+            StoredError::NoHash,
+        ),
+        (
+            "password",
+            "$argon2id$v=19$m=7,t=2,p=1$c29tZXNhbHQ$NQrDciL0Nsy1wJcvHr079rlYvyBxhBNi",
+            StoredError::Kdf,
+        ),
+    ] {
+        assert!(rt;
+            check_stored(rt.alloc(), &Argon2Plain, password, text) == Err(fault),
+            "{text}"
+        );
+        assert!(rt;
+            check_stored(rt.alloc(), &Argon2Kept::new(rt.alloc()), password, text) == Err(fault),
+            "{text}"
+        );
+    }
 }
 
 // Passes, KiB, lanes, and whether they are taken: each bound, from both sides.
@@ -181,7 +235,7 @@ fn bounds(rt: HostRuntime) -> Result<(), Fail> {
             memory,
             lanes,
         };
-        assert_eq!(rt; params.are_in_bounds(), taken, "{params:?}");
+        assert!(rt; params.are_in_bounds() == taken, "{params:?}");
     }
     let params = Params {
         variant: Variant::Id,
@@ -192,7 +246,7 @@ fn bounds(rt: HostRuntime) -> Result<(), Fail> {
     if !params.are_in_bounds() {
         return Err("50 KiB in 3 lanes are taken".into());
     }
-    assert_eq!(rt; params.work_len(), 128 * 48);
+    assert!(rt; params.work_len() == 128 * 48);
     Ok(())
 }
 
@@ -221,15 +275,13 @@ fn records_taken(rt: HostRuntime) -> Result<(), Fail> {
         let record = PasswordHash::new(text)
             .ok()
             .ok_or("a row that is no record")?;
-        assert_eq!(rt;
-            Argon2Plain.accepts(&record, b"saltsalt", length),
-            taken,
-            "{text:?}"
+        assert!(rt;
+            Argon2Plain.accepts(&record, b"saltsalt", length) == taken,
+            "{text}"
         );
-        assert_eq!(rt;
-            kept.accepts(&record, b"saltsalt", length),
-            taken,
-            "{text:?}"
+        assert!(rt;
+            kept.accepts(&record, b"saltsalt", length) == taken,
+            "{text}"
         );
     }
     Ok(())
@@ -245,5 +297,5 @@ fn laws_stand(rt: HostRuntime) {
     laws::tag_length();
     let mut out = [0u8; 65];
     variable_hash(b"", &mut out);
-    assert_eq!(rt; out.as_slice(), LONG.as_slice());
+    assert!(rt; out.as_slice() == LONG.as_slice());
 }

@@ -3,13 +3,13 @@
 ghost use Rattle.std.specs.Prelude.{false, replicate, true};
 ghost use Rattle.std.proofs.lemmas.List.{length-replicate};
 
-use crate::{
-    McfFault, PhcFault, PhcKdf, ShaFault, ShaFormat, StoredError, check_stored,
-    check_stored_counted, laws, mcf_name, normal_text, word, write_normal,
-};
 use base64ct::Counts;
 use phc::PasswordHash;
 use std::alloc::{AllocError, Global};
+use stored_check::{
+    McfFault, PhcFault, PhcKdf, ShaFault, ShaFormat, StoredError, check_stored,
+    check_stored_counted, laws, mcf_name, normal_text, word, write_normal,
+};
 
 // A derivation of zeros, for every record and without memory.
 struct Zeros;
@@ -160,7 +160,7 @@ fn verdicts(rt: HostRuntime) {
     for (stored, verdict) in VERDICTS {
         assert!(rt;
             check_stored(rt.alloc(), &Zeros, "Hello world!", stored) == verdict,
-            "{stored:?}"
+            "{stored}"
         );
     }
 }
@@ -201,11 +201,10 @@ fn counts_of_verdicts(rt: HostRuntime) {
     for (stored, looks, sames) in COUNTS {
         let mut counts = Counts::new();
         let answer = check_stored_counted(rt.alloc(), &Zeros, "Hello world!", stored, &mut counts);
-        assert!(rt; answer == Ok(true), "{stored:?}");
-        assert_eq!(rt;
-            (counts.looks(), counts.sames()),
-            (looks, sames),
-            "{stored:?}"
+        assert!(rt; answer == Ok(true), "{stored}");
+        assert!(rt;
+            (counts.looks(), counts.sames()) == (looks, sames),
+            "{stored}"
         );
     }
 }
@@ -265,14 +264,14 @@ fn normal_texts(rt: HostRuntime) {
         let mut expected = [b'x'; 100];
         expected[..normal.len()].copy_from_slice(normal.as_bytes());
         let mut room = [b'x'; 100];
-        assert_eq!(rt; normal_text(stored, &mut room), normal);
-        assert!(rt; room == expected, "{stored:?}");
+        assert!(rt; normal_text(stored, &mut room) == normal, "{stored}");
+        assert!(rt; room == expected, "{stored}");
         let mut room = [b'x'; 100];
-        assert_eq!(rt; write_normal(stored, &mut room), normal.len());
-        assert!(rt; room == expected, "{stored:?}");
+        assert!(rt; write_normal(stored, &mut room) == normal.len(), "{stored}");
+        assert!(rt; room == expected, "{stored}");
         assert!(rt;
             check_stored(rt.alloc(), &Zeros, "Hello world!", normal) == verdict,
-            "{stored:?}"
+            "{stored}"
         );
         laws::normal_verdict(&Zeros, b"Hello world!", stored.as_bytes());
         laws::normal_twice(stored.as_bytes());
@@ -299,7 +298,7 @@ fn words_of_answers(rt: HostRuntime) {
         (Err(StoredError::Kdf), "kdf"),
     ] {
         if answer != Err(StoredError::OutOfMemory) {
-            assert_eq!(rt; word(&answer), text);
+            assert!(rt; word(&answer) == text, "{text}");
         }
     }
 }
