@@ -1,6 +1,6 @@
 //! Texts that outside programs made: openssl, glibc's and libxcrypt's crypt, Python's hashlib and the program argon2.
 
-use crate::{
+use any_check::{
     AnyError, AnyScheme, CostLimits, any_word, check_any, check_any_within, record_kdf, run_any,
     scheme_of_text,
 };
@@ -40,7 +40,7 @@ const TEXTS: [&str; 16] = [
 ];
 
 // Texts without a verdict, and their words.
-const FAULTS: [(&str, &str); 31] = [
+pub const FAULTS: [(&str, &str); 31] = [
     ("$1$abcdefgh", "md5-format"),
     ("$1$abcdefghi$cHJi5PXp/ki/ktXzqlk6I1", "md5-format"),
     ("$apr1$", "mcf-delimiter"),
@@ -122,18 +122,18 @@ fn words(rt: HostRuntime) {
     let kept = CryptKept::new(rt.alloc());
     for stored in TEXTS {
         let answer = check_any(rt.alloc(), &kdf, &kept, "secret", stored);
-        assert_eq!(rt; word_of(&answer), "match", "{stored}");
+        assert!(rt; word_of(&answer) == "match", "{stored}");
         let answer = check_any(rt.alloc(), &kdf, &kept, "Secret", stored);
-        assert_eq!(rt; word_of(&answer), "mismatch", "{stored}");
+        assert!(rt; word_of(&answer) == "mismatch", "{stored}");
     }
     for (stored, word) in FAULTS {
         let answer = check_any(rt.alloc(), &kdf, &kept, "secret", stored);
-        assert_eq!(rt; word_of(&answer), word, "{stored}");
+        assert!(rt; word_of(&answer) == word, "{stored}");
     }
 }
 
 // The least bound under which each text gets its verdict.
-fn least() -> CostLimits {
+pub fn least() -> CostLimits {
     CostLimits {
         sha_rounds: 5_000,
         bcrypt_cost: 5,
@@ -156,9 +156,9 @@ fn bounds_reached(rt: HostRuntime) {
     let kept = CryptKept::new(rt.alloc());
     for stored in TEXTS {
         let answer = check_any_within(rt.alloc(), &kdf, &kept, &least(), "secret", stored);
-        assert_eq!(rt; word_of(&answer), "match", "{stored}");
+        assert!(rt; word_of(&answer) == "match", "{stored}");
         let answer = check_any_within(rt.alloc(), &kdf, &kept, &least(), "Secret", stored);
-        assert_eq!(rt; word_of(&answer), "mismatch", "{stored}");
+        assert!(rt; word_of(&answer) == "mismatch", "{stored}");
     }
     let none = CostLimits {
         sha_rounds: 0,
@@ -176,7 +176,7 @@ fn bounds_reached(rt: HostRuntime) {
     };
     for (stored, word) in FAULTS {
         let answer = check_any_within(rt.alloc(), &kdf, &kept, &none, "secret", stored);
-        assert_eq!(rt; word_of(&answer), word, "{stored}");
+        assert!(rt; word_of(&answer) == word, "{stored}");
     }
 }
 
@@ -287,47 +287,56 @@ fn bounds_passed(rt: HostRuntime) {
         for (i, stored) in TEXTS.into_iter().enumerate() {
             let answer = check_any_within(rt.alloc(), &kdf, &kept, &low, "secret", stored);
             if i == number {
-                assert_eq!(rt; word_of(&answer), "too-costly", "{stored}");
+                assert!(rt; word_of(&answer) == "too-costly", "{stored}");
             } else if number != 2 && number != 4 && number != 15 {
-                assert_eq!(rt; word_of(&answer), "match", "{stored}");
+                assert!(rt; word_of(&answer) == "match", "{stored}");
             }
         }
     }
 }
 
 #[test]
-fn first_causes(rt: HostRuntime) {
+fn long_passwords(rt: HostRuntime) {
     let kdf = record_kdf(rt.alloc());
     let kept = CryptKept::new(rt.alloc());
     let bytes = [b'a'; 4097];
     let Ok(long) = str::from_utf8(&bytes) else {
         panic!(rt; "letters are text")
     };
+    let too_long = Err(AnyError::Stored(StoredError::PasswordTooLong));
     for stored in TEXTS {
         let answer = check_any(rt.alloc(), &kdf, &kept, long, stored);
-        assert_eq!(rt;
-            answer,
-            Err(AnyError::Stored(StoredError::PasswordTooLong)),
-            "{stored}"
-        );
+        assert!(rt; answer == too_long, "{stored}");
         let answer = check_any_within(rt.alloc(), &kdf, &kept, &least(), long, stored);
-        assert_eq!(rt;
-            answer,
-            Err(AnyError::Stored(StoredError::PasswordTooLong)),
-            "{stored}"
-        );
+        assert!(rt; answer == too_long, "{stored}");
         let answer = check_any(rt.alloc(), &kdf, &kept, &long[1..], stored);
-        assert_eq!(rt; answer, Ok(false), "{stored}");
+        assert!(rt; answer == Ok(false), "{stored}");
     }
     let answer = check_any(rt.alloc(), &kdf, &kept, long, "*");
-    assert_eq!(rt; answer, Err(AnyError::Stored(StoredError::PasswordTooLong)));
-    let answer = check_any(rt.alloc(), &kdf, &kept, "secret", "$1$abcdefgh");
-    assert_eq!(rt; answer, Err(AnyError::Md5(Md5Fault::NoHash)));
-    let answer = check_any(rt.alloc(), &kdf, &kept, "secret", "$2a$04");
-    assert_eq!(rt; answer, Err(AnyError::Bcrypt(BcryptFault::NoHash)));
+    assert!(rt; answer == too_long);
+}
+
+// Passwords and texts without a verdict, and the first cause.
+const CAUSES: [(&str, &str, AnyError); 3] = [
+    ("secret", "$1$abcdefgh", AnyError::Md5(Md5Fault::NoHash)),
+    ("secret", "$2a$04", AnyError::Bcrypt(BcryptFault::NoHash)),
+    (
+        "sec\0ret",
+        "$2b$04$abcdefghijklmnopqrstuu2r9OfJnfCsdneAXAGHnS4UpFFP8WIrW",
+        AnyError::ZeroByte,
+    ),
+];
+
+#[test]
+fn first_causes(rt: HostRuntime) {
+    let kdf = record_kdf(rt.alloc());
+    let kept = CryptKept::new(rt.alloc());
+    for (password, stored, cause) in CAUSES {
+        let answer = check_any(rt.alloc(), &kdf, &kept, password, stored);
+        assert!(rt; answer == Err(cause), "{stored}");
+    }
     let answer = check_any(rt.alloc(), &kdf, &kept, "sec\0ret", TEXTS[5]);
-    assert_eq!(rt; answer, Err(AnyError::ZeroByte));
-    assert_eq!(rt; word_of(&answer), "zero-byte");
+    assert!(rt; word_of(&answer) == "zero-byte");
 }
 
 #[test]
@@ -345,8 +354,12 @@ fn schemes(rt: HostRuntime) {
         ("$argon2i", AnyScheme::Record),
         ("$pbkdf2-sha512$x", AnyScheme::Record),
     ] {
-        assert_eq!(rt; scheme_of_text(stored), Some(scheme), "{stored}");
+        assert!(rt; scheme_of_text(stored) == Some(scheme), "{stored}");
     }
+}
+
+#[test]
+fn no_scheme(rt: HostRuntime) {
     for stored in [
         "",
         "$",
@@ -358,62 +371,64 @@ fn schemes(rt: HostRuntime) {
         "$gy$x",
         "!",
     ] {
-        assert_eq!(rt; scheme_of_text(stored), None, "{stored}");
+        assert!(rt; scheme_of_text(stored) == None, "{stored}");
     }
 }
 
+const LINES: &[u8] = b"secret\t$1$abcdefgh$cHJi5PXp/ki/ktXzqlk6I1\n\
+    Secret\t$2b$04$abcdefghijklmnopqrstuu2r9OfJnfCsdneAXAGHnS4UpFFP8WIrW\n\
+    a\tb\t*\nno tab\n\xff\t*\nsec\0ret\t$2y$05$abcdefghijklmnopqrstuuOQiyCxlgf/oeuTqixKmWdcYUh4Hjl0a\n\
+    secret\t$argon2d$v=19$m=128,t=1,p=1$c2FsdHNhbHRzYWx0$cnmEAHaXnZyNK8al32lcZA";
+
 #[test]
 fn lines(rt: HostRuntime) {
-    let input = b"secret\t$1$abcdefgh$cHJi5PXp/ki/ktXzqlk6I1\n\
-        Secret\t$2b$04$abcdefghijklmnopqrstuu2r9OfJnfCsdneAXAGHnS4UpFFP8WIrW\n\
-        a\tb\t*\nno tab\n\xff\t*\nsec\0ret\t$2y$05$abcdefghijklmnopqrstuuOQiyCxlgf/oeuTqixKmWdcYUh4Hjl0a\n\
-        secret\t$argon2d$v=19$m=128,t=1,p=1$c2FsdHNhbHRzYWx0$cnmEAHaXnZyNK8al32lcZA";
-    let words = b"match\nmismatch\nno-scheme\nbadline\nbadline\nzero-byte\nmatch\n".as_slice();
-    let mut room = [0; 100];
-    let mut source = MemorySource::new(input, 50, &[]);
-    let mut sink = MemorySink::new(&mut room, 7, &[]);
-    assert_eq!(rt; run_any(rt.alloc(), None, &mut source, &mut sink, 1000), 1);
-    assert_eq!(rt; sink.bytes(), words);
-    let mut room = [0; 100];
-    let mut source = MemorySource::new(input, 1000, &[]);
-    let mut sink = MemorySink::new(&mut room, 100, &[]);
     let limits = CostLimits {
         argon2_memory: 64,
         ..least()
     };
-    assert_eq!(rt;
-        run_any(rt.alloc(), Some(limits), &mut source, &mut sink, 1000),
-        1
-    );
-    assert_eq!(rt;
-        sink.bytes(),
-        b"match\nmismatch\nno-scheme\nbadline\nbadline\nzero-byte\ntoo-costly\n".as_slice()
-    );
+    for (limits, step, words) in [
+        (
+            None,
+            7,
+            b"match\nmismatch\nno-scheme\nbadline\nbadline\nzero-byte\nmatch\n".as_slice(),
+        ),
+        (
+            Some(limits),
+            100,
+            b"match\nmismatch\nno-scheme\nbadline\nbadline\nzero-byte\ntoo-costly\n",
+        ),
+    ] {
+        let mut room = [0; 100];
+        let mut source = MemorySource::new(LINES, 50, &[]);
+        let mut sink = MemorySink::new(&mut room, step, &[]);
+        let status = run_any(rt.alloc(), limits, &mut source, &mut sink, 1000);
+        assert!(rt; status == 1, "{step}: {status}");
+        assert!(rt; sink.bytes() == words, "{step}");
+    }
 }
+
+// The most bytes of a read and the read that fails, the same of a write, the bound, the output and the status.
+type Devices = (usize, &'static [u64], usize, &'static [u64], u64);
+
+const STATUSES: [(Devices, &[u8], u8); 4] = [
+    ((64, &[], 64, &[], 64), b"match\n", 0),
+    ((20, &[1], 64, &[], 64), b"", 3),
+    ((64, &[], 4, &[1], 64), b"matc", 4),
+    ((64, &[], 64, &[], 20), b"", 6),
+];
 
 #[test]
 fn statuses(rt: HostRuntime) {
     let line = b"secret\t$1$abcdefgh$cHJi5PXp/ki/ktXzqlk6I1\n".as_slice();
-    let mut room = [0; 16];
-    let mut source = MemorySource::new(line, 64, &[]);
-    let mut sink = MemorySink::new(&mut room, 64, &[]);
-    assert_eq!(rt; run_any(rt.alloc(), None, &mut source, &mut sink, 64), 0);
-    assert_eq!(rt; sink.bytes(), b"match\n".as_slice());
-    let mut room = [0; 16];
-    let mut source = MemorySource::new(line, 20, &[1]);
-    let mut sink = MemorySink::new(&mut room, 64, &[]);
-    assert_eq!(rt; run_any(rt.alloc(), None, &mut source, &mut sink, 64), 3);
-    assert_eq!(rt; sink.bytes(), b"".as_slice());
-    let mut room = [0; 16];
-    let mut source = MemorySource::new(line, 64, &[]);
-    let mut sink = MemorySink::new(&mut room, 4, &[1]);
-    assert_eq!(rt; run_any(rt.alloc(), None, &mut source, &mut sink, 64), 4);
-    assert_eq!(rt; sink.bytes(), b"matc".as_slice());
-    let mut room = [0; 16];
-    let mut source = MemorySource::new(line, 64, &[]);
-    let mut sink = MemorySink::new(&mut room, 64, &[]);
-    assert_eq!(rt; run_any(rt.alloc(), None, &mut source, &mut sink, 20), 6);
-    assert_eq!(rt; sink.bytes(), b"".as_slice());
+    for ((read, bad_reads, write, bad_writes, max), output, status) in STATUSES {
+        assert!(rt; read >= 1 && write >= 1 && max <= 64);
+        let mut room = [0; 16];
+        let mut source = MemorySource::new(line, read, bad_reads);
+        let mut sink = MemorySink::new(&mut room, write, bad_writes);
+        let got = run_any(rt.alloc(), None, &mut source, &mut sink, max);
+        assert!(rt; got == status, "{status}: {got}");
+        assert!(rt; sink.bytes() == output, "{status}");
+    }
 }
 
 #[test]
@@ -423,23 +438,36 @@ fn long_lines(rt: HostRuntime) {
     let mut room = [0; 16];
     let mut source = MemorySource::new(&input, 8194, &[]);
     let mut sink = MemorySink::new(&mut room, 64, &[]);
-    assert_eq!(rt;
-        run_any(rt.alloc(), None, &mut source, &mut sink, 10_000),
-        1
-    );
-    assert_eq!(rt; sink.bytes(), b"toolong\n".as_slice());
+    assert!(rt; run_any(rt.alloc(), None, &mut source, &mut sink, 10_000) == 1);
+    assert!(rt; sink.bytes() == b"toolong\n".as_slice());
 }
 
-// Valid texts of which each digest takes a second and more.
-const DEAR: [&str; 8] = [
+// Valid texts of which each digest takes a tenth of a second and more: of each variant and type, and where its texts have several
+// lengths, another one of more than 140 bytes or the shortest.
+pub const DEAR: [&str; 23] = [
     "$5$rounds=999999999$abcdefgh$gruCpC7VkOTspMQTTSAR8mtlO9Upms.fwqE5y16JVM.",
+    "$5$rounds=999999999$a$gruCpC7VkOTspMQTTSAR8mtlO9Upms.fwqE5y16JVM.",
+    "$6$rounds=999999999$abcdefgh$ltjgWl6579NluT/Vi1nwEvcil.G5Nbc4NiXZaNGStk8PSwGfQv72N2CKPPrVACtLtip/cZ/1GM/O6IND4WQhG.",
+    "$6$rounds=999999999$a$ltjgWl6579NluT/Vi1nwEvcil.G5Nbc4NiXZaNGStk8PSwGfQv72N2CKPPrVACtLtip/cZ/1GM/O6IND4WQhG.",
+    "$2a$31$abcdefghijklmnopqrstuu2r9OfJnfCsdneAXAGHnS4UpFFP8WIrW",
     "$2b$31$abcdefghijklmnopqrstuu2r9OfJnfCsdneAXAGHnS4UpFFP8WIrW",
+    "$2y$31$abcdefghijklmnopqrstuu2r9OfJnfCsdneAXAGHnS4UpFFP8WIrW",
     "$y$jFT$0123456789ab$kb1fsIrDP1wOa4Q3gNpxZkfwQ3ce8kmPbnemuN65IT2",
+    "$y$jFT$0123456789ab0123456789ab0123456789ab0123456789ab0123456789ab0123456789ab0123456789ab01$kb1fsIrDP1wOa4Q3gNpxZkfwQ3ce8kmPbnemuN65IT2",
     "$7$EU..../....SodiumChloride$V4S.p0ArbLXh9bvI9g1ReO/qmFMyvEX4e98XynaDdN9",
+    "$7$EU..../....SodiumChlorideSodiumChlorideSodiumChlorideSodiumChlorideSodiumChlorideSodiumChlorideSo$V4S.p0ArbLXh9bvI9g1ReO/qmFMyvEX4e98XynaDdN9",
     "$scrypt$ln=17,r=8,p=1024$c2FsdHNhbHRzYWx0$09/untC+3Bg44eiJQ8bqhTXgE2ali+ykLaojkJZlF9U",
+    "$scrypt$ln=17,r=8,p=1024$c2FsdHNhbHRzYWx0c2FsdHNhbHRzYWx0c2FsdHNhbHRzYWx0c2FsdHNhbHRzYWx0$GK6ZfhTx3pI28IQ6HYQzaUek5XduggVQ0zhLSF6WB1ROBlCW2ybd4hR7tgTVg/2i//vv5K7hcJGgBedoUEO6ag",
     "$pbkdf2-sha256$i=10000000,l=32$c2FsdHNhbHRzYWx0$sVaWem31qy3rw+Ldi3plA/XzhMSNi9/XHnnD1Ytj05o",
+    "$pbkdf2-sha256$i=10000000$c2FsdHNhbHRzYWx0c2FsdHNhbHRzYWx0c2FsdHNhbHRzYWx0c2FsdHNhbHRzYWx0$GK6ZfhTx3pI28IQ6HYQzaUek5XduggVQ0zhLSF6WB1ROBlCW2ybd4hR7tgTVg/2i//vv5K7hcJGgBedoUEO6ag",
     "$pbkdf2-sha512$i=10000000$c2FsdHNhbHRzYWx0$GK6ZfhTx3pI28IQ6HYQzaUek5XduggVQ0zhLSF6WB1ROBlCW2ybd4hR7tgTVg/2i//vv5K7hcJGgBedoUEO6ag",
+    "$pbkdf2-sha512$i=10000000$c2FsdHNhbHRzYWx0c2FsdHNhbHRzYWx0c2FsdHNhbHRzYWx0c2FsdHNhbHRzYWx0$GK6ZfhTx3pI28IQ6HYQzaUek5XduggVQ0zhLSF6WB1ROBlCW2ybd4hR7tgTVg/2i//vv5K7hcJGgBedoUEO6ag",
     "$argon2id$v=19$m=2097152,t=1,p=1$c2FsdHNhbHRzYWx0$Sm3MnLdCFk0Af+croKgebRoqqmhbKd88iiW3yUOXn78",
+    "$argon2id$v=19$m=2097152,t=1,p=1$c2FsdHNhbHRzYWx0c2FsdHNhbHRzYWx0c2FsdHNhbHRzYWx0c2FsdHNhbHRzYWx0$GK6ZfhTx3pI28IQ6HYQzaUek5XduggVQ0zhLSF6WB1ROBlCW2ybd4hR7tgTVg/2i//vv5K7hcJGgBedoUEO6ag",
+    "$argon2i$v=19$m=2097152,t=1,p=1$c2FsdHNhbHRzYWx0$Sm3MnLdCFk0Af+croKgebRoqqmhbKd88iiW3yUOXn78",
+    "$argon2i$v=19$m=2097152,t=1,p=1$c2FsdHNhbHRzYWx0c2FsdHNhbHRzYWx0c2FsdHNhbHRzYWx0c2FsdHNhbHRzYWx0$GK6ZfhTx3pI28IQ6HYQzaUek5XduggVQ0zhLSF6WB1ROBlCW2ybd4hR7tgTVg/2i//vv5K7hcJGgBedoUEO6ag",
+    "$argon2d$v=19$m=2097152,t=1,p=1$c2FsdHNhbHRzYWx0$Sm3MnLdCFk0Af+croKgebRoqqmhbKd88iiW3yUOXn78",
+    "$argon2d$v=19$m=2097152,t=1,p=1$c2FsdHNhbHRzYWx0c2FsdHNhbHRzYWx0c2FsdHNhbHRzYWx0c2FsdHNhbHRzYWx0$GK6ZfhTx3pI28IQ6HYQzaUek5XduggVQ0zhLSF6WB1ROBlCW2ybd4hR7tgTVg/2i//vv5K7hcJGgBedoUEO6ag",
 ];
 
 // A thousand digests of such a text take more time than a test has.
@@ -450,32 +478,43 @@ fn nothing_is_hashed(rt: HostRuntime) {
     for stored in DEAR {
         for _ in 0..1_000 {
             let answer = check_any_within(rt.alloc(), &kdf, &kept, &least(), "secret", stored);
-            assert_eq!(rt; answer, Err(AnyError::TooCostly), "{stored}");
+            assert!(rt; answer == Err(AnyError::TooCostly), "{stored}");
         }
     }
 }
 
-// A line with a verdict is written at once: the second write comes behind it. Other words wait.
+// An input, the writes that fail, the output and the status. A line with a verdict is written at once: the second write comes
+// behind it. Other words wait.
+const WRITES: [(&[u8], &[u64], &[u8], u8); 6] = [
+    (TWO_VERDICTS, &[], b"match\nmismatch\n", 1),
+    (TWO_VERDICTS, &[1], b"match\n", 4),
+    (
+        b"x\nsecret\t$1$abcdefgh$cHJi5PXp/ki/ktXzqlk6I1\nx\n",
+        &[1],
+        b"badline\nmatch\n",
+        4,
+    ),
+    (
+        b"Secret\t$1$abcdefgh$cHJi5PXp/ki/ktXzqlk6I1\nx\n",
+        &[1],
+        b"mismatch\n",
+        4,
+    ),
+    (b"x\na\t*\n", &[1], b"badline\nno-scheme\n", 1),
+    (b"x\na\t*\n", &[0], b"", 4),
+];
+
+const TWO_VERDICTS: &[u8] = b"secret\t$1$abcdefgh$cHJi5PXp/ki/ktXzqlk6I1\n\
+    Secret\t$1$abcdefgh$cHJi5PXp/ki/ktXzqlk6I1\n";
+
 #[test]
 fn written_behind_a_verdict(rt: HostRuntime) {
-    let checked = b"secret\t$1$abcdefgh$cHJi5PXp/ki/ktXzqlk6I1\n\
-        Secret\t$1$abcdefgh$cHJi5PXp/ki/ktXzqlk6I1\n"
-        .as_slice();
-    let one = b"x\nsecret\t$1$abcdefgh$cHJi5PXp/ki/ktXzqlk6I1\nx\n".as_slice();
-    let others = b"x\na\t*\n".as_slice();
-    let rows: [(&[u8], &[u64], &[u8], u8); 5] = [
-        (checked, &[], b"match\nmismatch\n", 1),
-        (checked, &[1], b"match\n", 4),
-        (one, &[1], b"badline\nmatch\n", 4),
-        (others, &[1], b"badline\nno-scheme\n", 1),
-        (others, &[0], b"", 4),
-    ];
-    for (input, failing, output, status) in rows {
+    for (input, failing, output, status) in WRITES {
         let mut room = [0; 32];
         let mut source = MemorySource::new(input, 1_000, &[]);
         let mut sink = MemorySink::new(&mut room, 1_000, failing);
         let got = run_any(rt.alloc(), None, &mut source, &mut sink, 1_000);
-        assert_eq!(rt; got, status, "{output:?}");
-        assert_eq!(rt; sink.bytes(), output);
+        assert!(rt; got == status, "{output:?}: {got}");
+        assert!(rt; sink.bytes() == output, "{output:?}");
     }
 }
