@@ -3,21 +3,37 @@
 # under a prefix.
 #
 #     ./install.sh [PREFIX]      (/usr/local if left out; DESTDIR is put before it; PREFIX may be relative)
+#     ./install.sh --help
 #
 # Where the kit's rt is there, it is asked for each build (`rt run`, `rt lib`): that proves what isn't proved, and does
 # nothing where nothing changed. Without rt, or with PWCHECK_AS_BUILT=1, what stands in crates/*/out is installed as it
 # is, unless a source is newer: that is refused. With PWCHECK_DIST=1 what dist/ holds is installed, by its SHA256SUMS, and nothing is
-# built: that needs no kit. It says what it did.
+# built: that needs no kit. Each way needs python3; a build needs gcc and binutils too. It says what it did, and what a C program
+# needs to find the library there.
 set -eu
 top=$(cd "$(dirname "$0")" && pwd)
-prefix=$(realpath -m -- "${1:-/usr/local}")
-root=${DESTDIR:-}$prefix
 programs="pwcheck pwtool wrapstream pwkdf pwlegacy pwfile pwstore"
 
 fail() {
   echo "install.sh: $*" >&2
   exit 1
 }
+
+case ${1:-} in
+  --help)
+    sed -n '2,/^set -eu$/{/^set -eu$/d; s/^# \{0,1\}//; p}' "$0"
+    exit 0 ;;
+  -*) fail "$1 is no option and no PREFIX (a folder of that name is ./$1); install.sh --help says more" ;;
+esac
+[ $# -le 1 ] || fail "one PREFIX at most"
+prefix=$(realpath -m -- "${1:-/usr/local}")
+root=${DESTDIR:-}$prefix
+command -v python3 >/dev/null 2>&1 || fail "it needs python3, which isn't here"
+if [ -z "${PWCHECK_DIST:-}" ]; then
+  for command in gcc ld objcopy; do
+    command -v "$command" >/dev/null 2>&1 || fail "a build needs gcc and binutils, and $command isn't here; PWCHECK_DIST=1 installs what dist/ holds"
+  done
+fi
 
 put() { # MODE FILE FOLDER
   install -d "$root/$3"
@@ -52,7 +68,7 @@ else
 fi
 library=$(mktemp -d)
 trap 'rm -rf "$library"' EXIT
-python3 "$top/bindings/library.py" "$library" "$prefix"
+python3 "$top/bindings/library.py" "$library" "${PWCHECK_PC_PREFIX:-$prefix}"
 for program in $programs; do
   from_dist && place=$top/dist/$program || place=$top/crates/$program/out/$program
   put 755 "$place" bin
@@ -80,10 +96,26 @@ else
 fi
 from_dist && header=$top/dist/pwcheck.h || header=$top/include/pwcheck.h
 put 644 "$header" include
-put 644 "$library/lib/pkgconfig/pwcheck.pc" lib/pkgconfig
+for name in pwcheck pwcrypt; do
+  [ "$name" = pwcrypt ] && [ ! -e "$root/lib/libpwcrypt.so.1" ] && continue
+  put 644 "$library/lib/pkgconfig/$name.pc" lib/pkgconfig
+done
 for page in "$top"/man/*.[135]; do
   put 644 "$page" "share/man/man${page##*.}"
 done
 for text in LICENSE-MIT LICENSE-APACHE NOTICE; do
   put 644 "$top/$text" share/doc/pwcheck
 done
+
+# What a program needs to find the libraries: the loader's list made anew where it has the folder, and else the two lines.
+if [ -z "${DESTDIR:-}" ]; then
+  if ldconfig -v -N 2>/dev/null | grep -q "^$prefix/lib:"; then
+    if [ "$(id -u)" = 0 ]; then
+      ldconfig
+      echo "the loader's list of libraries is renewed (ldconfig)"
+    else
+      echo "run ldconfig as root, so that programs find the libraries"
+    fi
+  fi
+  [ "$prefix" = /usr ] || [ "$prefix" = /usr/local ] || echo "pkg-config finds them by: export PKG_CONFIG_PATH=$(printf %q "$prefix")/lib/pkgconfig"
+fi

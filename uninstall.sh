@@ -2,8 +2,17 @@
 # Takes away what install.sh put under a prefix, and nothing else.
 #
 #     ./uninstall.sh [PREFIX]      (/usr/local if left out; DESTDIR is put before it; PREFIX may be relative)
+#     ./uninstall.sh --help
 set -eu
 top=$(cd "$(dirname "$0")" && pwd)
+case ${1:-} in
+  --help)
+    sed -n '2,/^set -eu$/{/^set -eu$/d; s/^# \{0,1\}//; p}' "$0"
+    exit 0 ;;
+  -*)
+    echo "uninstall.sh: $1 is no option and no PREFIX (a folder of that name is ./$1); uninstall.sh --help says more" >&2
+    exit 1 ;;
+esac
 root=${DESTDIR:-}$(realpath -m -- "${1:-/usr/local}")
 
 take() { # FILE
@@ -15,7 +24,7 @@ take() { # FILE
 
 version=$(sed -n 's/^#define PWCHECK_VERSION "\(.*\)"$/\1/p' "$top/include/pwcheck.h")
 for file in bin/pwcheck bin/pwtool bin/wrapstream bin/pwkdf bin/pwlegacy bin/pwfile bin/pwstore include/pwcheck.h \
-  lib/pkgconfig/pwcheck.pc lib/libpwcheck.a lib/libpwcheck.so "lib/libpwcheck.so.${version%%.*}" "lib/libpwcheck.so.$version" \
+  lib/pkgconfig/pwcheck.pc lib/pkgconfig/pwcrypt.pc lib/libpwcheck.a lib/libpwcheck.so "lib/libpwcheck.so.${version%%.*}" "lib/libpwcheck.so.$version" \
   lib/libpwcrypt.so lib/libpwcrypt.so.1 lib/libpwcrypt.so.1.0; do
   take "$file"
 done

@@ -3,7 +3,7 @@
 
 Each call derives one tag of 32 bytes with memory taken afresh. The calls are interleaved, and of each the least time
 counts. All tags must agree. Ours is bench/argon2_time.txt, the source of a program that calls `argon2_plain::argon2`; the
-script proves and builds it under bench/out/, over the repository's crates. The peers are called through ctypes, and one
+script proves and builds it outside of the checkout, over the repository's crates. The peers are called through ctypes, and one
 that is absent is skipped: libargon2.so.1 (Debian's libargon2-1) and libsodium.so.23 (Debian's libsodium23).
 It installs nothing.
 

@@ -2,7 +2,7 @@
 """Compares tags of `argon2_plain::argon2` with libargon2's, for costs and inputs that are drawn by a seed.
 
 Ours is a program that draws the rows by a generator of its own and prints the tags; the script proves and builds it under
-bench/out/ over the repository's crates, draws the same rows, and compares each tag with libargon2's; of the rows that its words
+outside of the checkout over the repository's crates, draws the same rows, and compares each tag with libargon2's; of the rows that its words
 can say it also asks the program `argon2` (Debian's packages libargon2-1 and argon2).
 
 usage: bench/argon2_tags.py [SEED [ROWS]]      (1 and 300 if left out)

@@ -4,7 +4,7 @@
 Each process encodes and decodes 64 KiB 200 times for each alphabet. The processes are interleaved, and of each
 alphabet the least time counts.
 
-Ours is bench/base64_ours.txt, the source of a program, which the script proves and builds under bench/out/ over the
+Ours is bench/base64_ours.txt, the source of a program, which the script proves and builds outside of the checkout over the
 repository's crates. The peer is bench/base64_peer.rs, built by cargo in release. Its crate is that of Debian's package
 librust-base64ct-dev: the script looks in /usr/share/cargo/registry, or in the folder that BASE64CT names (after
 `apt-get download librust-base64ct-dev` and `dpkg -x`). Debian's 1.5.1 has no alphabet of SHA-crypt; its alphabet of

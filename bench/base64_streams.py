@@ -3,7 +3,7 @@
 beside our own one-shot calls and the crate base64ct of Debian; and whole programs: `pwcheck wrap 76` and `unwrap 76`
 beside coreutils' `base64` and `openssl enc -base64`.
 
-Ours is bench/base64_streams_ours.txt, which the script proves and builds under bench/out/; the peer is
+Ours is bench/base64_streams_ours.txt, which the script proves and builds outside of the checkout; the peer is
 bench/base64_streams_peer.rs, built by cargo over Debian's librust-base64ct-dev (/usr/share/cargo/registry, or the folder
 that BASE64CT names). The processes are interleaved, and of each the best time counts. The programs read a file and write
 to /dev/null; `pwcheck` is crates/pwcheck/out/pwcheck, or what PWCHECK names. It installs nothing.

@@ -3,7 +3,7 @@
 
 The batches are interleaved by rounds, and of each the least time counts. All hashes must agree. Ours is
 bench/bcrypt_time.txt, the source of a program that calls `bcrypt_plain::bcrypt`; the script proves and builds it under
-bench/out/, over the repository's crates. libxcrypt's crypt_r (libcrypt.so.1) is called through ctypes, python3-bcrypt as
+outside of the checkout, over the repository's crates. libxcrypt's crypt_r (libcrypt.so.1) is called through ctypes, python3-bcrypt as
 a module of /usr/bin/python3 in a process of its own, whose clock it is. `htpasswd -nbB` draws its own salt: it is the
 processor's time of a run less that of a run of the same program over a hash that costs little (`-s`). A peer that is
 absent is skipped. The goal is at most 1.0 of libxcrypt's time. It installs nothing.

@@ -3,7 +3,7 @@
 
 300 texts that libxcrypt's crypt makes of random passwords and salts, with the identifiers 2a, 2b and 2y in turn, must
 match their password, and no other one, by `bcrypt_check`; and 300 texts that `bcrypt_simple` makes must be given back by
-libxcrypt for their password. It proves and builds bench/bcrypt_texts_ours.txt under bench/out/ over the repository's
+libxcrypt for their password. It proves and builds bench/bcrypt_texts_ours.txt outside of the checkout over the repository's
 crates, and calls libcrypt.so.1 through ctypes. It installs nothing.
 """
 import random

@@ -1,12 +1,17 @@
-"""What the timing scripts share: programs of ours and peers of Debian's crate base64ct, built under bench/out/, which git
-and `rt ci` ignore."""
+"""What the timing scripts share: programs of ours and peers of Debian's crate base64ct, built outside of the checkout, in a folder of the
+temporary files with a copy of crates/. `rt ci` refuses a checkout in which a crate is built that crates.txt doesn't name."""
+import filecmp
 import glob
+import hashlib
 import os
 import shutil
 import subprocess
 import sys
+import tempfile
 
 HERE = os.path.dirname(os.path.abspath(__file__))
+TOP = os.path.dirname(HERE)
+WORK = os.path.join(tempfile.gettempdir(), f"bench-{os.getuid()}-{hashlib.sha256(TOP.encode()).hexdigest()[:12]}")
 
 
 def need(condition, text):
@@ -15,7 +20,7 @@ def need(condition, text):
 
 
 def _write(folder, name, text):
-    os.makedirs(os.path.join(folder, "src"), exist_ok=True)
+    os.makedirs(folder, exist_ok=True)
     with open(os.path.join(folder, name), "w", encoding="utf-8") as file:
         file.write(text)
 
@@ -28,13 +33,32 @@ def answers(program, lines):
     return out
 
 
+def copied():
+    """Brings the copy of crates/ up to date. What was built there stays, and files that are gone here go there too."""
+    for at, folders, names in os.walk(os.path.join(TOP, "crates")):
+        folders[:] = [name for name in folders if name not in ("out", "must-fail")]
+        there = os.path.join(WORK, os.path.relpath(at, TOP))
+        os.makedirs(there, exist_ok=True)
+        for name in set(os.listdir(there)) - set(names) - set(folders) - {"out"}:
+            path = os.path.join(there, name)
+            if os.path.isfile(path):
+                os.remove(path)
+            elif at != os.path.join(TOP, "crates"):
+                shutil.rmtree(path)
+        for name in names:
+            new, old = os.path.join(at, name), os.path.join(there, name)
+            if not os.path.exists(old) or not filecmp.cmp(new, old, shallow=False):
+                shutil.copy(new, old)
+
+
 def built(name, source, *crates):
     """Proves and builds the program of a source in bench/ over crates of the repository, or of the kit where they begin
     with `@rattle//`, and answers its file."""
-    folder = os.path.join(HERE, "out", name)
-    deps = ", ".join(f'"{crate}"' if crate.startswith("@") else f'"//crates/{crate}"' for crate in crates)
-    _write(folder, "BUILD.bazel", 'load("@rattle//build:rattle.bzl", "rattle_crate")\n\n'
-           f'rattle_crate(\n    name = "{name}",\n    deps = [{deps}],\n)\n')
+    copied()
+    folder = os.path.join(WORK, "crates", name)
+    with open(os.path.join(TOP, "crates.txt"), encoding="utf-8") as file:
+        _write(WORK, "crates.txt", f"{file.read()}{name}: {' '.join(os.path.basename(crate) for crate in crates)}\n")
+    os.makedirs(os.path.join(folder, "src"), exist_ok=True)
     shutil.copy(os.path.join(HERE, source), os.path.join(folder, "src", "main.rt"))
     made = subprocess.run(["rt", "run"], cwd=folder, input="", capture_output=True, text=True, check=False)
     program = os.path.join(folder, "out", name)
@@ -46,7 +70,8 @@ def peer(name):
     """Builds bench/NAME.rs by cargo over Debian's crate base64ct, and answers its file."""
     found = [os.environ["BASE64CT"]] if "BASE64CT" in os.environ else glob.glob("/usr/share/cargo/registry/base64ct-1*")
     need(found, "no librust-base64ct-dev; see the head of the script")
-    folder = os.path.join(HERE, "out", name)
+    folder = os.path.join(WORK, "peers", name)
+    os.makedirs(os.path.join(folder, "src"), exist_ok=True)
     _write(folder, "Cargo.toml", f'[package]\nname = "{name}"\nversion = "0.0.0"\nedition = "2021"\n\n[workspace]\n\n'
            f'[dependencies]\nbase64ct = {{ path = "{os.path.abspath(found[-1])}", features = ["alloc"] }}\n')
     shutil.copy(os.path.join(HERE, name + ".rs"), os.path.join(folder, "src", "main.rs"))

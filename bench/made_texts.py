@@ -1,7 +1,7 @@
 #!/usr/bin/env python3
 """Hands texts that sha_crypt's simple calls make to libxcrypt's crypt, which must give them back.
 
-It proves and builds bench/made_texts_ours.txt under bench/out/ over the repository's crates, and calls libcrypt.so.1 through
+It proves and builds bench/made_texts_ours.txt outside of the checkout over the repository's crates, and calls libcrypt.so.1 through
 ctypes. It installs nothing.
 """
 import subprocess

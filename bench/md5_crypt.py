@@ -5,7 +5,7 @@ Each batch makes ten digests of one password, some 1.5 to 3 ms: short enough tha
 undisturbed. The batches are interleaved by sixties, and of each the least time counts. All hash fields must agree.
 
 Ours is bench/md5_crypt_time.txt, the source of a program that calls `md5_crypt::md5_crypt`; the script proves and
-builds it under bench/out/, over the repository's crates. The peers are libxcrypt's crypt_r (libcrypt.so.1) for `$1$`,
+builds it outside of the checkout, over the repository's crates. The peers are libxcrypt's crypt_r (libcrypt.so.1) for `$1$`,
 through ctypes, and `openssl passwd -apr1`: the processor's time of a run over 400 lines less that of a run over one,
 as its function can't be called from outside. The goals are at most 1.0 of libxcrypt's time and 0.35 of OpenSSL's. It
 installs nothing.

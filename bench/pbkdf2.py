@@ -5,7 +5,7 @@ Each batch derives one key of 32 bytes with 2,000 rounds, some 1 to 2 ms: short 
 runs undisturbed. The batches are interleaved by sixties, and of each the least time counts. All keys must agree.
 
 Ours is bench/pbkdf2_time.txt, the source of a program that calls `pbkdf2_sha256` and `pbkdf2_sha512` of `pbkdf2_plain`; the
-script proves and builds it under bench/out/, over the repository's crates. The peers are PKCS5_PBKDF2_HMAC of libcrypto.so.3, through ctypes,
+script proves and builds it outside of the checkout, over the repository's crates. The peers are PKCS5_PBKDF2_HMAC of libcrypto.so.3, through ctypes,
 and Python's hashlib. The goal is at most 0.92 of the time of each, with either hash function. It installs nothing.
 
 usage: bench/pbkdf2.py [ROUNDS]      (8 if left out)

@@ -1,6 +1,6 @@
 #!/usr/bin/env python3
-"""Draws docs/parts.svg, the crates by what they stand on, from crates.txt, and docs/speeds.svg, our time beside others', from
-bench/speeds.csv, whose numbers are those of docs/SPEED.md. Both can be read on light and on dark backgrounds.
+"""Draws docs/parts.svg, the crates in the layers of crates.txt with what each uses, and docs/speeds.svg, our time beside others', from
+bench/speeds.csv, whose numbers are those of docs/SPEED.md. Both have a ground of their own, for light and for dark viewers.
 
 usage: bench/pictures.py         (it writes both)
        bench/pictures.py check   (it ends with 1 where a picture isn't the one that it would draw)
@@ -12,28 +12,19 @@ from html import escape
 
 HERE = os.path.dirname(os.path.abspath(__file__))
 TOP = os.path.dirname(HERE)
+sys.path.insert(0, os.path.join(TOP, "checks"))
+import layers  # noqa: E402
+
 STYLE = (
     "<style>text{font:13px system-ui,sans-serif;fill:#1f2328}.small{font-size:11px;fill:#59636e}.line{stroke:#8c959f}"
-    ".box{fill:#ddf4ff;stroke:#0969da}.bar{fill:#0969da}"
-    "@media(prefers-color-scheme:dark){text{fill:#f0f6fc}.small{fill:#9198a1}.box{fill:#0c2d6b;stroke:#4493f8}.bar{fill:#4493f8}}</style>"
+    ".ground{fill:#ffffff}.band{fill:#f6f8fa}.tip{fill:#8c959f}.box{fill:#ddf4ff;stroke:#0969da}.bar{fill:#0969da}"
+    "@media(prefers-color-scheme:dark){text{fill:#f0f6fc}.small{fill:#9198a1}.ground{fill:#0d1117}.band{fill:#151b23}"
+    ".line{stroke:#656c76}.tip{fill:#656c76}.box{fill:#0c2d6b;stroke:#4493f8}.bar{fill:#4493f8}}</style>"
 )
-# The layers of the first picture, from what people run down to what all stands on.
-LAYERS = [
-    ("programs, C libraries", ["pwtool", "pwcheck", "pwfile", "pwstore", "pwkdf", "pwlegacy", "wrapstream", "pwcheck_c", "pwcrypt_c"]),
-    ("forms of programs", ["pwcheck_run"]),
-    ("lines of users", ["any_users", "any_survey", "foreign_lines", "user_lines"]),
-    ("tables of users", ["table_program", "pw_store", "any_table", "pw_file"]),
-    ("loops over lines", ["line_state", "line_program", "wrap_stream"]),
-    ("verdicts, texts made", ["any_check", "stored_check", "any_make", "crypt_text", "crypt_law"]),
-    ("schemes", ["sha_crypt", "yescrypt_plain", "bcrypt_plain", "argon2_plain", "scrypt_plain", "pbkdf2_plain", "md5_crypt"]),
-    ("texts", ["phc", "mcf", "foreign_text", "base64ct", "pieces"]),
-    ("ground", ["subtle", "blake2b", "line_io", "line_log", "file_device"]),
-]
-
-
 def picture(width, height, parts):
     head = f'<svg xmlns="http://www.w3.org/2000/svg" viewBox="0 0 {width} {height}" width="{width}" height="{height}">'
-    return "\n".join([head, STYLE, *parts, "</svg>", ""])
+    ground = f'<rect class="ground" width="{width}" height="{height}"/>'
+    return "\n".join([head, STYLE, ground, *parts, "</svg>", ""])
 
 
 def text(x, y, words, kind="", anchor="start"):
@@ -41,28 +32,118 @@ def text(x, y, words, kind="", anchor="start"):
     return f'<text x="{x}" y="{y}"{name} text-anchor="{anchor}">{escape(words, quote=False)}</text>'
 
 
-def crates():
-    with open(os.path.join(TOP, "crates.txt"), encoding="utf-8") as file:
-        return {line.split(":")[0].split()[0] for line in file if line.strip()}
+def rows_of(layer, uses):
+    """The crates of a layer in rows: a crate is above those of its layer that it uses, and a row has at most seven."""
+    height = {}
+
+    def level(name):
+        if name not in height:
+            height[name] = 1 + max((level(use) for use in uses[name] if use in layer), default=-1)
+        return height[name]
+
+    rows = {}
+    for name in layer:
+        rows.setdefault(level(name), []).append(name)
+    return [names[place:place + 7] for _, names in sorted(rows.items(), reverse=True) for place in range(0, len(names), 7)]
+
+
+class Drawing:
+    """Crates in rows, from top to bottom, and a path for each crate that others use: through each row between, its own place."""
+
+    def __init__(self, rows, arrows):
+        self.row = {name: number for number, row in enumerate(rows) for name in row}
+        self.rows = [list(row) for row in rows]
+        self.steps = []
+        for name, its in arrows.items():
+            for use in its:
+                self.lead(name, use)
+        self.order()
+        self.place = self.spread()
+
+    def lead(self, name, use):
+        """The steps from a crate to one that it uses. Paths to the same crate become one where they meet."""
+        at = name
+        for number in range(self.row[name] + 1, self.row[use]):
+            step = (use, number)
+            if step not in self.row:
+                self.row[step] = number
+                self.rows[number].append(step)
+            if (at, step) not in self.steps:
+                self.steps.append((at, step))
+            at = step
+        if (at, use) not in self.steps:
+            self.steps.append((at, use))
+
+    def order(self):
+        """Orders each row by where the steps of the row above, then of the row below, lead."""
+        for turn in range(40):
+            for row in self.rows if turn % 2 else reversed(self.rows):
+                spots = {one: number / (len(its) + 1) for its in self.rows for number, one in enumerate(its, 1)}
+                row.sort(key=lambda one: self.middle(one, spots, turn % 2))
+
+    def middle(self, one, spots, is_down):
+        near = [spots[a if is_down else b] for a, b in self.steps if (b if is_down else a) == one]
+        return sum(near) / len(near) if near else spots[one]
+
+    @staticmethod
+    def half(one):
+        """Half of what a box or a path takes of a row."""
+        return 66 if isinstance(one, str) else 13
+
+    def spread(self):
+        """Where each is: as near to its neighbours as the order of the row allows."""
+        place = {}
+        for row in self.rows:
+            right = 0
+            for one in row:
+                place[one] = right + self.half(one)
+                right += 2 * self.half(one)
+            for one in row:
+                place[one] -= right / 2
+        for turn in range(60):
+            for row in self.rows if turn % 2 else reversed(self.rows):
+                self.relax(row, place)
+        least = min(place[one] - self.half(one) for one in place)
+        return {one: x - least for one, x in place.items()}
+
+    def relax(self, row, place):
+        near = {one: [place[b if a == one else a] for a, b in self.steps if one in (a, b)] for one in row}
+        wished = [sum(near[one]) / len(near[one]) if near[one] else place[one] for one in row]
+        for first, one in enumerate(row):
+            low = place[row[first - 1]] + self.half(row[first - 1]) + self.half(one) if first else -520 + self.half(one)
+            high = place[row[first + 1]] - self.half(row[first + 1]) - self.half(one) if first + 1 < len(row) else 520 - self.half(one)
+            place[one] = min(max(wished[first], low), max(high, low))
 
 
 def parts_picture():
-    drawn = []
-    known = crates()
-    named = {name for _, names in LAYERS for name in names}
-    left_out = sorted(name for name in known - named if not name.endswith("_tests"))
-    if left_out:
-        sys.exit(f"pictures.py: no layer has {', '.join(left_out)}")
-    for row, (title, names) in enumerate(LAYERS):
-        y = 20 + 62 * row
-        drawn.append(text(10, y + 22, title, "small"))
-        for place, name in enumerate(names):
-            if name not in known:
-                sys.exit(f"pictures.py: crates.txt has no {name}")
-            x = 180 + 118 * place
-            drawn.append(f'<rect class="box" x="{x}" y="{y}" width="110" height="36" rx="5"/>')
-            drawn.append(text(x + 55, y + 23, name, anchor="middle"))
-    return picture(190 + 118 * max(len(names) for _, names in LAYERS), 20 + 62 * len(LAYERS), drawn)
+    """The crates in layers, and an arrow to each that a crate uses, where no other arrow implies it. Tests are left out."""
+    all_layers = [layer for layer in layers.layers(TOP) if layer[0] != "tests"]
+    uses = layers.uses_of(all_layers)
+    banded = [(title, rows_of(layer, uses)) for title, layer in reversed(all_layers)]
+    drawing = Drawing([row for _, rows in banded for row in rows], layers.direct(uses))
+    left, bands, tops, y = 120, [], [], 12
+    width = left + max(drawing.place[one] + drawing.half(one) for one in drawing.place) + 20
+    for title, rows in banded:
+        bands.append(f'<rect class="band" x="6" y="{y}" width="{width - 12:.0f}" height="{60 * len(rows) + 4}" rx="6"/>')
+        bands.append(text(14, y + 20, title, "small"))
+        for _ in rows:
+            tops.append(y + 14)
+            y += 60
+        y += 12
+    boxes, lines = [], []
+    for one, row in drawing.row.items():
+        x = left + drawing.place[one]
+        if isinstance(one, str):
+            boxes.append(f'<rect class="box" x="{x - 59:.0f}" y="{tops[row]}" width="118" height="32" rx="5"/>')
+            boxes.append(text(f"{x:.0f}", tops[row] + 21, one, anchor="middle"))
+        else:
+            lines.append(f'<line class="line" x1="{x:.0f}" y1="{tops[row]}" x2="{x:.0f}" y2="{tops[row] + 32}"/>')
+    for a, b in drawing.steps:
+        end = ' marker-end="url(#tip)"' if isinstance(b, str) else ""
+        lines.append(f'<line class="line" x1="{left + drawing.place[a]:.0f}" y1="{tops[drawing.row[a]] + 32}" '
+                     f'x2="{left + drawing.place[b]:.0f}" y2="{tops[drawing.row[b]]}"{end}/>')
+    tip = '<defs><marker id="tip" viewBox="0 0 8 8" refX="7" refY="4" markerWidth="7" markerHeight="7" orient="auto"><path class="tip" d="M0 0 8 4 0 8z"/></marker></defs>'
+    return picture(round(width), y, [tip, *bands, *lines, *boxes])
 
 
 def speeds():

@@ -9,15 +9,23 @@
 3. A file that can't be written (a file system that is mounted read-only; wants root), a folder that isn't there, a folder in the file's
    place, a link, an empty file: status 66 or 65, and one line on standard error.
 4. A second process is refused (75); one after a kill of the first isn't.
-5. A file that others may read is told on standard error, and a new file has the mode 0600.
-6. Each request for memory of a session refused in turn (bench/refuse_nth.c, preloaded; wants gcc): the status is 5, or all is as usual;
+5. A file that others may read is told on standard error and isn't made anew (73); without their rights owner, group and mode stay. A file
+   with an access control list isn't either (wants a file system that has them). A new file has the mode 0600, whatever the umask is.
+6. The new file, `.FILE.pwstore-new`: what a killed run or a power cut has left there is taken away, anything else stays (73), at a compaction and at a
+   first start; FILE.new is never touched. A compaction on a full disk takes it away, and the next change is taken.
+7. Standard input, output or error closed: refused (66), and nothing is written into a table.
+8. Two first starts at once (the lock delayed by a preload; wants gcc), and many: one makes the file, each other one ends with 75.
+9. A file that is moved away, removed or replaced under a run: `disk-fault`, 7, and neither file has the change.
+10. Each request for memory of a session refused in turn (bench/refuse_nth.c, preloaded; wants gcc): the status is 5, or all is as usual;
    the replies are the first ones of a run with memory, and the table is that of them, or of one command more.
 
 usage: bench/pwstore_hostile.py      (PWSTORE is the program, with words behind it where it has other forms: "PATH/pwtool table")
 """
+import fcntl
 import os
 import re
 import shlex
+import struct
 import subprocess
 import sys
 import tempfile
@@ -145,8 +153,174 @@ def modes(folder):
     os.chmod(name, 0o644)
     got = run(name)
     holds("a file that others may read: " + got[2].strip(), got[0] == 0 and got[2].count("\n") == 1 and name in got[2])
-    run(name, words=["compact"])
-    holds("a file made anew keeps its mode", os.stat(name).st_mode & 0o777 == 0o644)
+    before = os.stat(name)
+    for mode in (0o644, 0o640, 0o604, 0o610):
+        os.chmod(name, mode)
+        got = run(name, words=["compact"])
+        told = got[2].split("\n")[-2]
+        holds(f"it isn't made anew with the mode {mode:o}: {told}", got[0] == 73 and os.stat(name).st_ino == before.st_ino and "chmod go=" in told)
+    os.chmod(name, 0o700)
+    if os.geteuid() == 0:
+        os.chown(name, 4, 5)
+    before = os.stat(name)
+    got = run(name, words=["compact"])
+    after = os.stat(name)
+    holds("a file made anew keeps its owner, group and mode", got[0] == 0 and after.st_ino != before.st_ino and
+          [(s.st_uid, s.st_gid, s.st_mode) for s in (before, after)] == [(before.st_uid, before.st_gid, before.st_mode)] * 2)
+    name = os.path.join(folder, "umask")
+    done = subprocess.run([*PROGRAM, name], input=b"list\n", capture_output=True, check=False, umask=0o777)
+    holds("a new file under the umask 0777 has the mode 0600", done.returncode == 0 and os.stat(name).st_mode & 0o777 == 0o600)
+    name = os.path.join(folder, "acl")
+    run(name, b"set\tann\t*\n")
+    # user::rw-, user:1:r--, group::---, mask::r--, other::---, as the kernel has it
+    entries = ((1, 6, 0xffffffff), (2, 4, 1), (4, 0, 0xffffffff), (16, 4, 0xffffffff), (32, 0, 0xffffffff))
+    try:
+        os.setxattr(name, "system.posix_acl_access", struct.pack("<I", 2) + b"".join(struct.pack("<HHI", *entry) for entry in entries))
+    except OSError as error:
+        print(f"skipped: no access control lists here ({error})")
+        return
+    before = os.stat(name), os.getxattr(name, "system.posix_acl_access")
+    got = run(name, words=["compact"])
+    after = os.stat(name), os.getxattr(name, "system.posix_acl_access")
+    holds(f"a file with an access control list, of the mode {before[0].st_mode & 0o777:o}: {got[2].split(chr(10))[-2]}",
+          got[0] == 73 and before[0].st_ino == after[0].st_ino and before[1] == after[1])
+
+
+def new_files(folder):
+    place = os.path.join(folder, "new")
+    os.mkdir(place)
+    name, new = os.path.join(place, "table"), os.path.join(place, ".table.pwstore-new")
+    plain = name + ".new"
+    write(plain, b"#pwstore 1\nset\tother\t*\n#")
+    whole = b"#pwstore 1\nset\tann\t*\nset\tann\t!\n#"
+    for there in (True, False):
+        for left in (b"", b"#pws", b"#pwstore 1\n", b"#pwstore 1\nset\tcleo\t*\n#", b"\0" * 20, b"#pws" + bytes(30)):
+            if there:
+                write(name, whole)
+            elif os.path.exists(name):
+                os.remove(name)
+            write(new, left)
+            got = run(name, b"list\n", ["compact"] if there else [])
+            holds(f"left by a run, {left}, at a {'compaction' if there else 'first start'}",
+                  got[0] == 0 and got[2] == "" and os.listdir(place) and sorted(os.listdir(place)) == ["table", "table.new"])
+        for other in (b"#pwstore 2\n", b"root:*:\n", b"a", bytes(8) + b"\0\0x", "folder", "link", "fifo", "locked"):
+            if there:
+                write(name, whole)
+            elif os.path.exists(name):
+                os.remove(name)
+            held = None
+            if other == "folder":
+                os.mkdir(new)
+            elif other == "link":
+                os.symlink("nowhere", new)
+            elif other == "fifo":
+                os.mkfifo(new)
+            else:
+                write(new, b"#pwstore 1\n#" if other == "locked" else other)
+                if other == "locked":
+                    held = open(new, "rb")
+                    fcntl.flock(held, fcntl.LOCK_EX)
+            before = os.lstat(new)
+            got = run(name, b"list\n", ["compact"] if there else [])
+            after = os.lstat(new)
+            status = 75 if other == "locked" and not there else 73
+            holds(f"{other} at a {'compaction' if there else 'first start'}: {got[2].strip()}",
+                  got[0] == status and got[1] == b"" and got[2].count("\n") == 1 and (status == 75 or new in got[2]) and
+                  (before.st_ino, before.st_size, before.st_mode) == (after.st_ino, after.st_size, after.st_mode) and
+                  (open(name, "rb").read() == whole if there else not os.path.exists(name)))
+            if held:
+                held.close()
+            (os.rmdir if other == "folder" else os.remove)(new)
+    holds("the file table.new is as it was", open(plain, "rb").read() == b"#pwstore 1\nset\tother\t*\n#")
+    place = os.path.join(folder, "tight")
+    if mounted(place, "size=64k"):
+        name = os.path.join(place, "table")
+        run(name, b"".join(b"set\tu%d\t%s\n" % (n, b"x" * 900) for n in range(44)))
+        size = os.stat(name).st_size
+        got = run(name, words=["compact"])
+        holds(f"a compaction of {size} bytes on a disk of 65,536: {got[2].strip()}", got[0] == 7 and os.listdir(place) == ["table"])
+        holds("and the next change is taken", run(name, b"set\tlast\t*\n")[:2] == (0, b"ok\n"))
+        subprocess.run(["umount", place], check=True)
+    for other in ("", "new/", "not_there/.", ".."):
+        got = subprocess.run([*PROGRAM, other], input=b"list\n", capture_output=True, check=False, cwd=folder)
+        holds(f"FILE {other!r}: {got.stderr.decode().strip()}", got.returncode == 66 and got.stdout == b"" and not os.path.exists(os.path.join(folder, ".new")))
+
+
+def closed_streams(folder):
+    for streams in ("<&-", ">&-", "2>&-", ">&- 2>&-", "<&- 2>&-", "<&- >&- 2>&-"):
+        for there in (False, True):
+            name = os.path.join(folder, "closed")
+            if os.path.exists(name):
+                os.remove(name)
+            if there:
+                run(name, b"set\tann\t*\n")
+            before = open(name, "rb").read() if there else None
+            for words in ("", " compact"):
+                command = " ".join(map(shlex.quote, PROGRAM)) + f" {shlex.quote(name)}{words} {streams}"
+                done = subprocess.run(["sh", "-c", command], input=b"set\tbob\t*\n", capture_output=True, check=False)
+                after = open(name, "rb").read() if os.path.exists(name) else None
+                holds(f"{streams}{words}, {'a' if there else 'no'} file: {done.returncode}", done.returncode == 66 and before == after)
+
+
+def first_starts(folder):
+    source, library = os.path.join(folder, "late.c"), os.path.join(folder, "late.so")
+    write(source, b"""#define _GNU_SOURCE
+#include <dlfcn.h>
+#include <stdlib.h>
+#include <unistd.h>
+int flock(int fd, int how) {
+    static int calls;
+    const char *at = getenv("LATE_AT"), *time = getenv("LATE_US");
+    if (at && time && ++calls == atoi(at)) usleep(atoi(time));
+    return ((int (*)(int, int))dlsym(RTLD_NEXT, "flock"))(fd, how);
+}
+""")
+    if subprocess.run(["gcc", "-O2", "-shared", "-fPIC", "-o", library, source, "-ldl"], check=False).returncode:
+        print("skipped: no gcc")
+        return
+    name = os.path.join(folder, "first")
+    first, second = (subprocess.Popen([*PROGRAM, name], stdin=subprocess.PIPE, stdout=subprocess.PIPE, stderr=subprocess.PIPE,
+                                      env={**os.environ, "LD_PRELOAD": library, "LATE_AT": at, "LATE_US": late})
+                     for at, late in (("1", "200000"), ("2", "300000")))
+    ends = [(process.communicate(b"set\t%s\t*\n" % user), process.returncode) for process, user in ((first, b"ann"), (second, b"bob"))]
+    answered = [user for user, (told, status) in zip((b"ann", b"bob"), ends) if told[0] == b"ok\n" and status == 0]
+    listed = run(name)
+    holds(f"two first starts, the lock of each delayed: statuses {[status for _, status in ends]}, answered {answered}",
+          sorted(status for _, status in ends) in ([0, 75], [0, 0], [75, 75]) and all(b"set\t" + user + b"\t*\n" in listed[1] for user in answered)
+          and listed[0] == 0)
+    lost, ended = 0, {}
+    for turn in range(300):
+        name = os.path.join(folder, f"first_{turn}")
+        runs = [subprocess.Popen([*PROGRAM, name], stdin=subprocess.PIPE, stdout=subprocess.PIPE, stderr=subprocess.PIPE) for _ in range(3)]
+        ends = [(process.communicate(b"set\tu%d\t*\n" % n), process.returncode) for n, process in enumerate(runs)]
+        kept = run(name)[1]
+        for n, (told, status) in enumerate(ends):
+            ended[status] = ended.get(status, 0) + 1
+            lost += told[0] == b"ok\n" and b"set\tu%d\t*\n" % n not in kept
+    holds(f"300 times three first starts at once: statuses {ended}, answers lost: {lost}", lost == 0 and set(ended) <= {0, 75})
+
+
+def moved(folder):
+    for how in ("moved", "removed", "replaced"):
+        name, far = os.path.join(folder, "under"), os.path.join(folder, "far")
+        for file in (name, far):
+            if os.path.exists(file):
+                os.remove(file)
+        process = subprocess.Popen([*PROGRAM, name], stdin=subprocess.PIPE, stdout=subprocess.PIPE, stderr=subprocess.PIPE)
+        process.stdin.write(b"set\tann\t*\n")
+        process.stdin.flush()
+        process.stdout.readline()
+        if how == "moved":
+            os.rename(name, far)
+        elif how == "removed":
+            os.remove(name)
+        else:
+            write(far, b"#pwstore 1\nset\tother\t*\n#")
+            os.rename(far, name)
+        out, told = process.communicate(b"set\tbob\t*\nset\tcleo\t*\n")
+        left = [run(file)[1] for file in (name, far) if os.path.exists(file)]
+        holds(f"a file that is {how} under a run: {told.decode().strip()}",
+              out == b"disk-fault\ndisk-fault\n" and process.returncode == 7 and not any(b"bob" in lines for lines in left))
 
 
 def refused_memory(folder):
@@ -185,7 +359,7 @@ def main():
     if not os.path.exists(PROGRAM[0]):
         sys.exit(f"{PROGRAM[0]} isn't built")
     with tempfile.TemporaryDirectory(prefix="pwstore_hostile_") as folder:
-        for part in (damaged, full_disk, unwritable, second_process, modes, refused_memory):
+        for part in (damaged, full_disk, unwritable, second_process, modes, new_files, closed_streams, first_starts, moved, refused_memory):
             part(folder)
     sys.exit(1 if FAILED else 0)
 

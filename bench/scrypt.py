@@ -5,7 +5,7 @@ Each call derives one key at ln = 14 or 16, r = 8, p = 1 with memory taken afres
 each the least time counts. All keys must agree, and at ln = 14 with RFC 7914, section 12.
 
 Ours is bench/scrypt_time.txt, the source of a program that calls `scrypt_plain::scrypt`; the script proves and builds it
-under bench/out/, over the repository's crates. The peers are called through ctypes, and one that is absent is skipped:
+outside of the checkout, over the repository's crates. The peers are called through ctypes, and one that is absent is skipped:
     OpenSSL            Python's hashlib
     libxcrypt $7$      libcrypt.so.1 (Debian's libcrypt1)
     libscrypt          libscrypt.so.0 (Debian's libscrypt0)

@@ -4,7 +4,7 @@
 Each call checks one password: ours by a table of its own (`yescrypt_check`, `scrypt_check`) and by a kept one, which serves
 the next text too (`yescrypt_check_kept`, `scrypt_check_kept`); libxcrypt's by crypt_r, which maps a table for each call.
 The calls are interleaved by rounds, and of each the least time counts. All texts must agree. Ours is
-bench/yescrypt_time.txt, the source of a program that the script proves and builds under bench/out/, over the repository's
+bench/yescrypt_time.txt, the source of a program that the script proves and builds outside of the checkout, over the repository's
 crates. libcrypt.so.1 is called through ctypes. It takes up to 1 GiB, and installs nothing.
 
 usage: bench/yescrypt.py [ROUNDS]      (5 if left out)

@@ -4,7 +4,7 @@
 200 texts of each form that libxcrypt's crypt makes of random passwords, salts and small costs must match their password,
 and no other one; so must texts of each number of rows from 2^2 on with the largest rows within the bound on memory, and of
 each count of crypt_gensalt, 1 to 11 for `$y$` and 6 to 11 for `$7$`; and 200 texts `$y$` that `yescrypt_text` makes must be
-given back by libxcrypt. It proves and builds bench/yescrypt_texts_ours.txt under bench/out/ over the repository's crates,
+given back by libxcrypt. It proves and builds bench/yescrypt_texts_ours.txt outside of the checkout over the repository's crates,
 and calls libcrypt.so.1 through ctypes. It takes up to 1 GiB and some minutes, and installs nothing.
 
 usage: bench/yescrypt_texts.py [SEED]      (34 if left out)

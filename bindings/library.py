@@ -117,12 +117,14 @@ def link_shared(path, soname, static):
         "-Wl,-z,relro,-z,now,-z,noexecstack")
 
 
-def pkg_config(prefix):
-    """The text of pwcheck.pc. A blank, a quotation mark and the like are escaped: pkg-config reads a shell's words."""
-    with open(os.path.join(TOP, "include", "pwcheck.pc.in"), encoding="utf-8") as source:
+def pkg_config(name, prefix):
+    """The text of pwcheck.pc or pwcrypt.pc. A blank, a quotation mark and the like are escaped: pkg-config reads a shell's words. A
+    prefix that begins with ${pcfiledir} goes with the file."""
+    with open(os.path.join(TOP, "include", name + ".pc.in"), encoding="utf-8") as source:
         text = source.read()
-    escaped = re.sub(r"([^A-Za-z0-9_./+@%,:=~-])", r"\\\1", prefix)
-    return text.replace("@VERSION@", version()).replace("@PREFIX@", escaped)
+    escaped = prefix if prefix.startswith("${pcfiledir}") else re.sub(r"([^A-Za-z0-9_./+@%,:=~-])", r"\\\1", prefix)
+    rpath = "" if prefix in ("/usr", "/usr/local") else "-Wl,-rpath,${libdir} "
+    return text.replace("@VERSION@", version()).replace("@PREFIX@", escaped).replace("@RPATH@", rpath)
 
 
 def laid_out(folder, prefix=None):
@@ -135,8 +137,9 @@ def laid_out(folder, prefix=None):
     with tempfile.TemporaryDirectory() as scratch:
         make_static(static, scratch)
     make_shared(lib, static)
-    with open(os.path.join(lib, "pkgconfig", "pwcheck.pc"), "w", encoding="utf-8") as out:
-        out.write(pkg_config(prefix or os.path.abspath(folder)))
+    for name in ("pwcheck", "pwcrypt"):
+        with open(os.path.join(lib, "pkgconfig", name + ".pc"), "w", encoding="utf-8") as out:
+            out.write(pkg_config(name, prefix or os.path.abspath(folder)))
     return lib
 
 

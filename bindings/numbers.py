@@ -212,7 +212,7 @@ def limits_agree(header):
     texts = {
         "pwcheck_c": re.search(r"pub struct Limits \{(.*?)^\}", read("crates", "pwcheck_c", "src", "any.rt"), re.M | re.S),
         "the header": re.search(r"^struct pwcheck_limits \{(.*?)^\};", header, re.M | re.S),
-        "Python": re.search(r"_fields_ = \[(.*?)\]", read("bindings", "python", "pwcheck.py"), re.S),
+        "Python": re.search(r"_fields_ = \[(.*?)\]", read("bindings", "python", "pwcheck", "__init__.py"), re.S),
         "Rust": re.search(r"pub struct Limits \{(.*?)^\}", read("bindings", "rust", "src", "lib.rs"), re.M | re.S),
     }
     for name, found in texts.items():
@@ -230,7 +230,7 @@ def wanted_numbers():
 
 def python_numbers():
     """The numbers of the Python binding, under the names of the header."""
-    text, found = read("bindings", "python", "pwcheck.py"), {}
+    text, found = read("bindings", "python", "pwcheck", "__init__.py"), {}
     for names, values in re.findall(r"^([A-Z][A-Z0-9_, ]*) = ([0-9, ]+)$", text, re.M):
         found.update(zip(names.split(", "), (int(value) for value in values.split(", "))))
     found.update((name, int(n)) for name, n in re.findall(r"^    ([A-Z0-9_]+) = (-?[0-9]+)$", text, re.M))

@@ -143,11 +143,32 @@ def refused(call, *arguments, **more):
 MADE = {
     "bcrypt": ({"cost": 4}, b"$2b$04$KBCwKxOzLha2MUDgW0PjXexGfB5dmDvvvgEVjeeXiTo87i0yXWYau"),
     "yescrypt": ({"ln": 10, "r": 8, "t": 0}, b"$y$j75$k2XAnEHBqQ1Ct2aMXFKNa/$E9XAySfP6N2THWdzNKesSVmhpcmhNusa8y5TMfT668."),
-    "argon2id": ({"memory": 64, "passes": 2, "lanes": 2},
-                 b"$argon2id$v=19$m=64,t=2,p=2$MDEyMzQ1Njc4OWFiY2RlZg$ehqGRlXhNY90u1mXokuaGpor9OaG4WSZVb4jCfev4ys"),
+    "argon2id": ({"memory": 64, "passes": 3, "lanes": 2},
+                 b"$argon2id$v=19$m=64,t=3,p=2$MDEyMzQ1Njc4OWFiY2RlZg$J4kPJI8w65Je5kJ2G7RTwG+seaIDuxomFJ+FRQCXmpY"),
     "pbkdf2-sha256": ({"rounds": 1000},
                       b"$pbkdf2-sha256$i=1000,l=32$MDEyMzQ1Njc4OWFiY2RlZg$cBg8D2DungRB9k76szThf5ehfyBz991ay6PT8Srwk4M"),
 }
+
+
+def compare_types(pwcheck):
+    """What isn't a limit, a number of 32 bits or bytes is refused, and bytes-like objects are taken."""
+    limits = pwcheck.Limits()
+    for attempt in (lambda: setattr(limits, "bcrypt_cots", 3), lambda: pwcheck.Limits(bcrypt_cots=3), lambda: setattr(limits, "bcrypt_cost", 2.5),
+                    lambda: pwcheck.check_any(b"a", b"b", {}), lambda: pwcheck.check_any(b"a", b"b", 0), lambda: pwcheck.check_any("a", b"b"),
+                    lambda: pwcheck.make("sha512-crypt", "a"), lambda: pwcheck.make("bcrypt", b"a", salt="a" * 16), lambda: pwcheck.same("a", b"a")):
+        try:
+            attempt()
+        except TypeError:
+            continue
+        sys.exit("try: a value of another type was taken")
+    refused(setattr, limits, "bcrypt_cost", (1 << 32) + 5)
+    limits.bcrypt_cost = 4
+    need(limits.bcrypt_cost == 4, "a limit that isn't the one assigned")
+    text = MADE["bcrypt"][1]
+    for kind in (bytes, bytearray, memoryview):
+        need(pwcheck.check_any(kind(b"correct horse"), kind(text), limits) == pwcheck.Answer.MATCH, f"no match of {kind.__name__}")
+    limits.bcrypt_cost = 3
+    need(pwcheck.check_any(b"correct horse", text, limits) == pwcheck.Answer.OVER_COST, "a bound that isn't kept")
 
 
 def compare_made(pwcheck):
@@ -297,6 +318,7 @@ def compare_python(lib):
     sys.path.insert(0, os.path.join(HERE, "python"))
     import pwcheck
 
+    compare_types(pwcheck)
     compare_scrypt(pwcheck)
     compare_base64(pwcheck)
     compare_texts(pwcheck)

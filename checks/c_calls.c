@@ -202,7 +202,7 @@ static int32_t yescrypt(const uint8_t *p, size_t n, const uint8_t *s, size_t m, 
 
 static int32_t argon2id(const uint8_t *p, size_t n, const uint8_t *s, size_t m, uint8_t *out, size_t room, size_t *len)
 {
-    return pwcheck_argon2id_text(p, n, s, m, 8, 1, 1, out, room, len);
+    return pwcheck_argon2id_text(p, n, s, m, 16, 3, 2, out, room, len);
 }
 
 static int32_t pbkdf2(const uint8_t *p, size_t n, const uint8_t *s, size_t m, uint8_t *out, size_t room, size_t *len)
@@ -218,7 +218,7 @@ static const struct maker_row {
 } MAKERS[] = {
     {bcrypt, "$2b$04$", PWCHECK_BCRYPT_PASSWORD_MAX, 0},
     {yescrypt, "$y$j/.$", PWCHECK_PASSWORD_MAX, 0},
-    {argon2id, "$argon2id$v=19$m=8,t=1,p=1$", PWCHECK_PASSWORD_MAX, 1},
+    {argon2id, "$argon2id$v=19$m=16,t=3,p=2$", PWCHECK_PASSWORD_MAX, 1},
     {pbkdf2, "$pbkdf2-sha256$i=1,l=32$", PWCHECK_PASSWORD_MAX, 1},
 };
 
@@ -338,6 +338,9 @@ static void keys(const uint8_t *password, size_t n)
     uint8_t *key = room(64);
     NEED(pwcheck_scrypt(password, n, password, n, 1, 1, 1, key, 64) == PWCHECK_DONE);
     NEED(pwcheck_scrypt(password, n, password, n, 1, 1, 1, key, 0) == PWCHECK_OUT_OF_RANGE);
+    /* hashlib.scrypt(b"password", salt=b"NaCl", n=16, r=3, p=2, dklen=32) begins so */
+    NEED(pwcheck_scrypt((const uint8_t *)"password", 8, (const uint8_t *)"NaCl", 4, 4, 3, 2, key, 32) == PWCHECK_DONE);
+    NEED(!memcmp(key, "\xff\xa3\xac\x6d\x2d\x52\x53\x74", 8));
     give_back(key, 64);
 }
 

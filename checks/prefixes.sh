@@ -21,7 +21,7 @@ try_prefix() { # PREFIX
   prefix=$(realpath -m -- "$prefix")
   options=$(PKG_CONFIG_PATH="$prefix/lib/pkgconfig" pkg-config --cflags --libs pwcheck)
   eval "gcc -o caller $(printf %q "$top/bindings/c/check_lines.c") $options"
-  LD_LIBRARY_PATH="$prefix/lib" ./caller <"$top/examples/passwords.txt" >answers
+  ./caller <"$top/examples/passwords.txt" >answers
   "$prefix/bin/pwcheck" check <"$top/examples/passwords.txt" >words || true
   cmp -s answers words || fail "the caller and pwcheck under $prefix answer otherwise"
   "$top/uninstall.sh" "$1" >"$folder/log"

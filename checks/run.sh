@@ -1,8 +1,9 @@
 #!/usr/bin/env bash
-# The repository's own checks, behind the prover's. Each ends with a status that isn't 0 where it finds a fault.
+# The repository's own checks, after the prover's. Each ends with a status that isn't 0 where it finds a fault.
 #
-#     checks/run.sh quick    the numbers of the header and of the bindings, and what the pages name, and the pictures, in a second, without
-#                            any build: for each push
+#     checks/run.sh quick    the numbers of the header and of the bindings, what the pages name, the layers, the pictures, dist/ and its
+#                            comparison, and what crashes leave of a table of the built pwstore, in half a minute, without any build:
+#                            for each push; it needs strace
 #     checks/run.sh          that, and the C library, its callers, a run under sanitizers, the installation, the programs of README.md
 #
 # The second needs gcc, binutils and pkg-config, and builds the library and the programs by rt, which proves what no
@@ -14,8 +15,12 @@ python3 bindings/numbers.py swaps
 python3 crypt3/numbers.py swaps
 python3 checks/pages.py
 python3 checks/same_numbers.py changed
+python3 checks/layers.py
 python3 bench/pictures.py check
 python3 checks/dist.py
+checks/verify_try.sh
+command -v strace >/dev/null 2>&1 || apt-get install -y strace >/dev/null 2>&1 || true
+python3 bench/crashes.py quick
 work=$(mktemp -d)
 trap 'rm -rf "$work"' EXIT
 PWCHECK_DIST=1 ./install.sh "$work/dist" >/dev/null
@@ -40,5 +45,7 @@ if [ -e /usr/include/crypt.h ]; then
 fi
 # The programs are built once; the prefixes take what is built.
 ./install.sh "$work/first" >&2
+PWSTORE="$work/first/bin/pwstore" python3 bench/pwstore_hostile.py
+PWSTORE="$work/first/bin/pwtool table" python3 bench/pwstore_hostile.py
 checks/use_from.sh "$work/first"
 PWCHECK_AS_BUILT=1 checks/prefixes.sh "$work/prefixes"

@@ -37,7 +37,7 @@ run_c() { # FILE
   options=$(PKG_CONFIG_PATH="$prefix/lib/pkgconfig" pkg-config --cflags --libs pwcheck)
   cp "$1" "$work/program.c"
   eval "gcc -std=gnu99 -Wall -Wextra -Werror -o $(printf %q "$work/program") $(printf %q "$work/program.c") $options"
-  LD_LIBRARY_PATH="$prefix/lib" "$work/program"
+  "$work/program"
 }
 
 run_python() { # FILE

@@ -21,11 +21,11 @@ import library  # noqa: E402
 VERSION = "1.0"
 ARCHIVE = os.environ.get("LIBPWCRYPT_C", os.path.join(TOP, "crates", "pwcrypt_c", "out", "libpwcrypt_c.a"))
 # Those of Debian 12 with hardening=+all, and two that its later releases have. The folder stays out of what is built.
-FLAGS = [f"-ffile-prefix-map={TOP}=.", "-std=c11", "-D_GNU_SOURCE", "-O2", "-g", "-Wall", "-Wextra", "-Werror", "-fPIC",
+FLAGS = [f"-ffile-prefix-map={TOP}=.", "-std=c11", "-D_GNU_SOURCE", "-O2", "-Wall", "-Wextra", "-Werror", "-fPIC",
          "-fvisibility=default",
          "-fstack-protector-strong", "-fstack-clash-protection", "-fcf-protection", "-Wformat", "-Werror=format-security",
          "-D_FORTIFY_SOURCE=2"]
-LINK = ["-Wl,-z,relro", "-Wl,-z,now", "-Wl,-z,defs", "-Wl,-z,text", "-Wl,-z,noexecstack", "-Wl,-Bsymbolic",
+LINK = ["-Wl,-z,relro", "-Wl,-z,now", "-Wl,-z,defs", "-Wl,-z,text", "-Wl,-z,noexecstack", "-Wl,-Bsymbolic", "-Wl,--strip-debug",
         "-Wl,--version-script=" + os.path.join(HERE, "exports.map")]
 
 

@@ -5,15 +5,20 @@
 #     examples/first.sh
 set -eu
 cd "$(dirname "$0")/../crates"
+command -v rt >/dev/null 2>&1 || { echo "first.sh: the kit isn't here: there is no command rt, so nothing can be proved or built" >&2; exit 1; }
+logs=$(mktemp -d)
+trap 'rm -rf "$logs"' EXIT
 
 prove() { # CRATES, side by side
-  local crate jobs=()
+  local crate failed=0
   for crate in "$@"; do
-    (cd "$crate" && rt check >/dev/null 2>&1) & jobs+=($!)
+    (cd "$crate" && rt check >"$logs/$crate" 2>&1 || touch "$logs/$crate.failed") &
   done
-  for crate in "${jobs[@]}"; do
-    wait "$crate" || { echo "first.sh: one of $* isn't proved" >&2; exit 1; }
+  wait
+  for crate in "$@"; do
+    [ ! -e "$logs/$crate.failed" ] || { tail -n 20 "$logs/$crate" >&2; echo "first.sh: $crate isn't proved" >&2; failed=1; }
   done
+  [ $failed = 0 ] || exit 1
   echo "proved: $*" >&2
 }
 
@@ -23,4 +28,4 @@ prove line_program mcf phc sha_crypt
 prove stored_check
 prove scrypt_plain
 cd pwcheck
-exec rt run -- check < ../../examples/passwords.txt
+rt run -- check < ../../examples/passwords.txt

@@ -1,12 +1,13 @@
 #!/usr/bin/env bash
-# Makes the folder of what is built, for those who don't have the kit: programs, C libraries, header, SHA256SUMS, and in SOURCES the
-# checksum of the sources that they are of.
+# Makes the folder of what is built, for those who don't have the kit: programs, C libraries, header, SHA256SUMS, in SOURCES the
+# checksum of the sources that they are of, and in COMPILER the compiler and the linker of the shared libraries.
 #
 #     packaging/dist.sh [FOLDER]      (dist/ if left out)
 #
 # What isn't built is built first, and so proved (see install.sh). dist/ is renewed with each version, not with each change:
 # checks/dist.py says whether it is of the sources that stand here.
 set -eu
+unset PWCHECK_DIST PWCHECK_AS_BUILT
 top=$(cd "$(dirname "$0")/.." && pwd)
 folder=${1:-$top/dist}
 work=$(mktemp -d)
@@ -18,5 +19,6 @@ install -m 755 "$work"/usr/bin/* "$folder"
 install -m 644 "$work/usr/lib/libpwcheck.a" "$top/include/pwcheck.h" "$folder"
 find "$work/usr/lib" -maxdepth 1 -type f -name '*.so.*' -exec install -m 644 {} "$folder" \;
 python3 "$top/packaging/sources.py" > "$folder/SOURCES"
+{ gcc --version; ld --version; } | grep -E '^(gcc|GNU ld)' > "$folder/COMPILER"
 (cd "$folder" && find . -type f ! -name SHA256SUMS -printf '%f\0' | LC_ALL=C sort -z | xargs -0 sha256sum -- > SHA256SUMS)
 cat "$folder/SHA256SUMS"

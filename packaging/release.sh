@@ -6,6 +6,7 @@
 # What isn't built is built first, and so proved (see install.sh). Two runs of the same sources give the same bytes, whatever the folder
 # and the clock: times are those of SOURCE_DATE_EPOCH, of the last commit where it isn't set.
 set -eu
+unset PWCHECK_DIST PWCHECK_AS_BUILT
 top=$(cd "$(dirname "$0")/.." && pwd)
 folder=${1:?packaging/release.sh FOLDER}
 mkdir -p "$folder"
@@ -16,7 +17,7 @@ version=$(sed -n 's/^#define PWCHECK_VERSION "\(.*\)"$/\1/p' "$top/include/pwche
 name=bovchiril-$version-x86_64-linux
 work=$(mktemp -d)
 trap 'rm -rf "$work"' EXIT
-DESTDIR=$work/tree "$top/install.sh" /usr >&2
+PWCHECK_PC_PREFIX='${pcfiledir}/../..' DESTDIR=$work/tree "$top/install.sh" /usr >&2
 mkdir "$work/$name"
 mv "$work"/tree/usr/* "$work/$name"
 cp "$top"/{README.md,CHANGELOG.md,SECURITY.md,LICENSE-MIT,LICENSE-APACHE,NOTICE} "$work/$name"

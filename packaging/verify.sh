@@ -5,6 +5,8 @@
 #
 # It ends with 0 where both are the same, and else with 1 and the files that differ.
 set -eu
+# What would copy from dist/, or take what is built as it is, in place of building it.
+unset PWCHECK_DIST PWCHECK_AS_BUILT
 top=$(cd "$(dirname "$0")/.." && pwd)
 folder=$(cd "${1:?packaging/verify.sh FOLDER}" && pwd)
 work=$(mktemp -d)
@@ -18,5 +20,8 @@ if cmp -s "$work/SHA256SUMS" "$folder/SHA256SUMS"; then
   exit 0
 fi
 diff "$folder/SHA256SUMS" "$work/SHA256SUMS" >&2 || true
+if [ -e "$folder/COMPILER" ] && ! cmp -s "$folder/COMPILER" "$work/COMPILER"; then
+  echo "verify.sh: the shared libraries were made by another compiler or linker, which gives other bytes: $(tr '\n' ';' < "$folder/COMPILER")" >&2
+fi
 echo "verify.sh: $folder is of other sources, or was changed" >&2
 exit 1

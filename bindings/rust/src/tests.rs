@@ -75,6 +75,9 @@ fn made() {
     let mut key = [0; 64];
     assert_eq!(scrypt(b"", b"", Cost { ln: 4, r: 1, p: 1 }, &mut key), Ok(()));
     assert_eq!(key[..4], *b"\x77\xd6\x57\x62");
+    // `hashlib.scrypt(b"password", salt=b"NaCl", n=16, r=3, p=2, dklen=64)` begins so.
+    assert_eq!(scrypt(b"password", b"NaCl", Cost { ln: 4, r: 3, p: 2 }, &mut key), Ok(()));
+    assert_eq!(key[..8], *b"\xff\xa3\xac\x6d\x2d\x52\x53\x74");
 }
 
 // Of libxcrypt's crypt_gensalt(3) and crypt(3), Python's hashlib and the program argon2, for one password and one salt.
@@ -83,8 +86,8 @@ const MADE: [(Scheme, &str); 4] = [
     (Scheme::Bcrypt { cost: 4 }, "$2b$04$KBCwKxOzLha2MUDgW0PjXexGfB5dmDvvvgEVjeeXiTo87i0yXWYau"),
     (Scheme::Yescrypt { ln: 10, r: 8, t: 0 }, "$y$j75$k2XAnEHBqQ1Ct2aMXFKNa/$E9XAySfP6N2THWdzNKesSVmhpcmhNusa8y5TMfT668."),
     (
-        Scheme::Argon2id { memory: 64, passes: 2, lanes: 2 },
-        "$argon2id$v=19$m=64,t=2,p=2$MDEyMzQ1Njc4OWFiY2RlZg$ehqGRlXhNY90u1mXokuaGpor9OaG4WSZVb4jCfev4ys",
+        Scheme::Argon2id { memory: 64, passes: 3, lanes: 2 },
+        "$argon2id$v=19$m=64,t=3,p=2$MDEyMzQ1Njc4OWFiY2RlZg$J4kPJI8w65Je5kJ2G7RTwG+seaIDuxomFJ+FRQCXmpY",
     ),
     (
         Scheme::Pbkdf2Sha256 { rounds: 1_000 },

@@ -1,11 +1,11 @@
 -- What is done with a real file, and what is argued of it from that: the bytes that a read gives, and what a crash may leave.
-use Rattle.std.specs.Prelude.{◌≡◌, ◌⊎◌, ℕ, zero, suc, ◌+◌, ◌==◌, ◌≤◌, Bool, true, false, cond, List, [], ◌∷◌, ◌++◌, length, take, drop}
+use Rattle.std.specs.Prelude.{◌≡◌, ◌⊎◌, ℕ, suc, ◌+◌, ◌-◌, ◌==◌, ◌≤◌, nat_le, Bool, true, false, cond, ◌||◌, ◌&&◌, List, [], ◌∷◌, ◌++◌, length, take, drop}
 use Rattle.std.specs.Prelude.{slice_index}
 use Rattle.line_log.specs.Device.{Cut, Torn}
 
 -- a call, and whether it was done
 pub data Call : Type 0 where
-  -- the file was synced and opened, and has these bytes
+  -- the file was opened, and a read gave these bytes
   Opened : (bytes : List ℕ) → Call
   -- bytes were written at a place
   Wrote : (is_done : Bool) (at : ℕ) (bytes : List ℕ) → Call
@@ -63,39 +63,6 @@ unfoldable pub seen : List Call → List ℕ
 seen [] = []
 seen (call ∷ calls) = changed (seen calls) (replacement calls) call
 
--- ---- what a crash may leave
-
--- what it may leave of a replacement of these bytes after a call: of one that was synced these
-abbrev pub HeldAfter : List ℕ → (List ℕ → Type 0) → Call → List ℕ → Type 0
-HeldAfter new held (SyncedNew true) c = c ≡ new
-HeldAfter new held (Began is_done) c = Unit {0}
-HeldAfter new held (Added is_done bytes) c = Unit {0}
-HeldAfter new held call c = held c
-
--- what it may leave of the replacement
-unfoldable pub MayHold : List Call → List ℕ → Type 0
-MayHold [] c = Unit {0}
-MayHold (call ∷ calls) c = HeldAfter (replacement calls) (MayHold calls) call c
-
--- what it may leave of a file of these bytes after a call, by what it might have left before
-abbrev pub LeftAfter : List ℕ → (List ℕ → Type 0) → (List ℕ → Type 0) → Call → List ℕ → Type 0
-LeftAfter old left held (Opened bytes) c = c ≡ bytes
-LeftAfter old left held (Wrote is_done at bytes) c = (d : List ℕ) × left d × Torn at (length bytes) d c
-LeftAfter old left held (CutTo is_done len) c = (d : List ℕ) × left d × Cut len d c
-LeftAfter old left held (Synced true) c = left c × (c ≡ old)
-LeftAfter old left held (Replaced is_done) c = left c ⊎ held c
-LeftAfter old left held call c = left c
-
--- what it may leave of the file
-unfoldable pub MayLeave : List Call → List ℕ → Type 0
-MayLeave [] c = c ≡ []
-MayLeave (call ∷ calls) c = LeftAfter (seen calls) (MayLeave calls) (MayHold calls) call c
-
--- what a crash at some moment since there were t calls might have left
-unfoldable pub LeftSince : List Call → ℕ → List ℕ → Type 0
-LeftSince [] t c = (t ≡ 0) × MayLeave [] c
-LeftSince (call ∷ calls) t c = ((t ≤ length calls) × LeftSince calls t c) ⊎ ((t ≤ suc (length calls)) × MayLeave (call ∷ calls) c)
-
 -- ---- faults
 
 -- whether a call failed
@@ -113,3 +80,69 @@ has_failed (Replaced is_done) = cond is_done 0 1
 unfoldable pub faults : List Call → ℕ
 faults [] = 0
 faults (call ∷ calls) = faults calls + has_failed call
+
+-- ---- what a sync tells
+
+-- A run whose sync failed may have left bytes in the system's memory that a read gives and the disk hasn't, and the next sync
+-- doesn't put them there: only a write does, and a sync behind it. They are among the last ones of the file, so many at most.
+abbrev pub tail_max : ℕ
+tail_max = 32768
+
+-- the place of the first of them in a file of this length
+abbrev pub tail_at : ℕ → ℕ
+tail_at len = len - tail_max
+
+-- whether they were written again, by a call on a file of this length
+abbrev pub renews : ℕ → Bool → Call → Bool
+renews len before (Opened bytes) = false
+renews len before (Wrote true at bytes) = before || (nat_le at (tail_at len) && nat_le len (at + length bytes))
+renews len before (Replaced true) = true
+renews len before call = before
+
+-- whether they were written again since the file was opened
+unfoldable pub is_renewed : List Call → Bool
+is_renewed [] = true
+is_renewed (call ∷ calls) = renews (length (seen calls)) (is_renewed calls) call
+
+-- A sync behind these calls puts on the disk what a read gives: no call failed, and nothing is left that an earlier run's
+-- sync may have missed.
+pub record IsTold (calls : List Call) : Type 0 where
+  pub healthy : faults calls ≡ 0
+  pub renewed : is_renewed calls ≡ true
+
+-- ---- what a crash may leave
+
+-- what it may leave of a replacement of these bytes after a call: of one that was synced, and no call had failed, these
+abbrev pub HeldAfter : ℕ → List ℕ → (List ℕ → Type 0) → Call → List ℕ → Type 0
+HeldAfter failed new held (SyncedNew true) c = failed ≡ 0 → c ≡ new
+HeldAfter failed new held (Began is_done) c = Unit {0}
+HeldAfter failed new held (Added is_done bytes) c = Unit {0}
+HeldAfter failed new held call c = held c
+
+-- what it may leave of the replacement
+unfoldable pub MayHold : List Call → List ℕ → Type 0
+MayHold [] c = Unit {0}
+MayHold (call ∷ calls) c = HeldAfter (faults calls) (replacement calls) (MayHold calls) call c
+
+-- what it may leave of a file that was read: all but the last of its bytes
+abbrev pub HasFront : List ℕ → List ℕ → Type 0
+HasFront bytes c = take (tail_at (length bytes)) c ≡ take (tail_at (length bytes)) bytes
+
+-- what it may leave of a file of these bytes after a call, by what it might have left before, where a sync tells or doesn't
+abbrev pub LeftAfter : Type 0 → List ℕ → (List ℕ → Type 0) → (List ℕ → Type 0) → Call → List ℕ → Type 0
+LeftAfter told old left held (Opened bytes) c = HasFront bytes c
+LeftAfter told old left held (Wrote is_done at bytes) c = (d : List ℕ) × left d × Torn at (length bytes) d c
+LeftAfter told old left held (CutTo is_done len) c = (d : List ℕ) × left d × Cut len d c
+LeftAfter told old left held (Synced true) c = left c × (told → c ≡ old)
+LeftAfter told old left held (Replaced is_done) c = left c ⊎ held c
+LeftAfter told old left held call c = left c
+
+-- what it may leave of the file
+unfoldable pub MayLeave : List Call → List ℕ → Type 0
+MayLeave [] c = c ≡ []
+MayLeave (call ∷ calls) c = LeftAfter (IsTold calls) (seen calls) (MayLeave calls) (MayHold calls) call c
+
+-- what a crash at some moment since there were t calls might have left
+unfoldable pub LeftSince : List Call → ℕ → List ℕ → Type 0
+LeftSince [] t c = (t ≡ 0) × MayLeave [] c
+LeftSince (call ∷ calls) t c = ((t ≤ length calls) × LeftSince calls t c) ⊎ ((t ≤ suc (length calls)) × MayLeave (call ∷ calls) c)

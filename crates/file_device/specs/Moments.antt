@@ -1,6 +1,6 @@
 -- Moments of a device: proofs, which the members of its trait need. No public clause names these words.
-use Rattle.std.specs.Prelude.{◌≡◌, ◌⊎◌, ℕ, zero, suc, ◌≤◌, List, [], ◌∷◌, length}
-use Rattle.std.proofs.Common.{arith, inl, inr, refl}
+use Rattle.std.specs.Prelude.{ℕ, ◌≤◌, List, [], ◌∷◌, length}
+use Rattle.std.proofs.Common.{arith, inl, inr}
 use Rattle.file_device.specs.Calls.{Call, LeftSince, MayLeave}
 
 -- what a crash may leave now counts as left since any earlier moment

@@ -1,10 +1,13 @@
 //! A file of the system as a device: each call makes one call of the system, or a few, and then notes what was done.
 
-ghost use Rattle.std.specs.Prelude.{◌≡◌, ◌∷◌, is_ok, length};
-ghost use Rattle.file_device.specs.Calls.{call_by};
+ghost use Rattle.std.specs.Prelude.{◌≡◌, ◌≤◌, ◌∷◌, true, is_ok, length, OnOk};
+ghost use Rattle.std.specs.Option.{ForNone};
+ghost use Rattle.file_device.specs.Calls.{call_by, faults, is_renewed};
 
+use crate::fault::DeviceFault;
+use crate::locking::is_named;
 use crate::record::Record;
-use crate::replacing::new_replacement;
+use crate::replacing::{new_replacement, take_away};
 use line_io::Failed;
 use line_log::Device;
 use std::fs::{self, File};
@@ -14,7 +17,7 @@ use std::os::unix::fs::FileExt;
 // The kinds of calls, as specs/Calls numbers them.
 pub(crate) const OPENED: u64 = 0;
 
-const WROTE: u64 = 1;
+pub(crate) const WROTE: u64 = 1;
 
 const CUT: u64 = 2;
 
@@ -47,6 +50,9 @@ pub(crate) struct Replacement {
 ///
 /// What its contracts say of bytes is what is argued from the calls that were made: no memory holds it, and no read
 /// gives it.
+///
+/// Once a call has failed no sync is made any more, and each fails: the system gives up what it couldn't put on the disk,
+/// and a sync behind that one answers as if all were there.
 #[derive(Drop)]
 pub struct FileDevice<'a> {
     pub(crate) rt: &'a HostRuntime,
@@ -56,38 +62,46 @@ pub struct FileDevice<'a> {
     pub(crate) replacement: Option<Replacement>,
     /// Whether the folder's new entry isn't synced yet.
     pub(crate) is_renamed: bool,
-    /// Why the last call that failed did so.
-    pub(crate) cause: Option<io::Error>,
+    /// Why the first call that failed did so.
+    pub(crate) cause: Option<DeviceFault>,
     pub(crate) record: Record,
+    pub(crate) ghost healthy: { ForNone cause (faults record.calls ≡ 0) },
+    pub(crate) ghost renewed: { is_renewed record.calls ≡ true },
 }
 
 // Why there is nothing to call.
-fn no_file() -> io::Error {
-    io::ErrorKind::NotFound.into()
+fn no_file() -> DeviceFault {
+    DeviceFault::Io(io::ErrorKind::NotFound.into())
 }
 
-fn write_file(file: &Option<File>, at: usize, bytes: &[u8]) -> io::Result<()> {
+fn write_file(file: &Option<File>, at: usize, bytes: &[u8]) -> Result<(), DeviceFault> {
     match file {
-        Some(file) => file.write_all_at(bytes, at as u64),
+        Some(file) => Ok(file.write_all_at(bytes, at as u64)?),
         None => Err(no_file()),
     }
 }
 
-fn cut_file(file: &Option<File>, len: usize) -> io::Result<()> {
+fn cut_file(file: &Option<File>, len: usize) -> Result<(), DeviceFault> {
     match file {
-        Some(file) => file.set_len(len as u64),
+        Some(file) => Ok(file.set_len(len as u64)?),
         None => Err(no_file()),
     }
 }
 
-fn sync(file: &Option<File>) -> io::Result<()> {
-    match file {
-        Some(file) => file.sync_data(),
-        None => Err(no_file()),
+// Syncs a file. Where its name leads to it no more, what it has would be lost with it.
+fn sync(rt: &HostRuntime, file: &Option<File>, name: &str) -> Result<(), DeviceFault> {
+    let Some(file) = file else {
+        return Err(no_file());
+    };
+    file.sync_data()?;
+    if is_named(rt, file, name)? {
+        Ok(())
+    } else {
+        Err(DeviceFault::Moved)
     }
 }
 
-fn add(replacement: &mut Option<Replacement>, bytes: &[u8]) -> io::Result<()> {
+fn add(replacement: &mut Option<Replacement>, bytes: &[u8]) -> Result<(), DeviceFault> {
     match replacement {
         Some(replacement) => {
             replacement.file.write_all_at(bytes, replacement.len)?;
@@ -98,27 +112,58 @@ fn add(replacement: &mut Option<Replacement>, bytes: &[u8]) -> io::Result<()> {
     }
 }
 
-fn sync_new(replacement: &Option<Replacement>) -> io::Result<()> {
+fn sync_new(replacement: &Option<Replacement>) -> Result<(), DeviceFault> {
     match replacement {
-        Some(replacement) => replacement.file.sync_all(),
+        Some(replacement) => Ok(replacement.file.sync_all()?),
         None => Err(no_file()),
     }
 }
 
+// Gives the file that is to replace another its name.
+fn rename(
+    rt: &HostRuntime,
+    place: &Place,
+    replacement: &Option<Replacement>,
+) -> Result<(), DeviceFault> {
+    let Some(replacement) = replacement else {
+        return Err(no_file());
+    };
+    let new_name = place.new_name.as_str();
+    if is_named(rt, &replacement.file, new_name)? {
+        fs::rename(rt, new_name, place.name.as_str())?;
+        Ok(())
+    } else {
+        Err(DeviceFault::Moved)
+    }
+}
+
+// Takes away a file that was to replace another, after a call has failed.
+fn give_up(rt: &HostRuntime, place: &Place, replacement: Option<Replacement>) {
+    if let Some(replacement) = replacement {
+        take_away(rt, &replacement.file, place.new_name.as_str());
+    }
+}
+
 impl FileDevice<'_> {
-    /// Why the last call that failed did so.
-    pub fn cause(&self) -> Option<io::Error> {
+    /// Why the first call that failed did so.
+    pub fn cause(&self) -> Option<DeviceFault> {
         self.cause
     }
 
-    // Notes a call and whether it was done.
+    /// The name of the file that is to replace this one.
+    pub fn new_name(&self) -> &str {
+        self.place.new_name.as_str()
+    }
+
+    // Notes a call and whether it was done. Where it wasn't, no file replaces this one any more.
     fn note(
         &mut self,
         kind: u64,
-        done: io::Result<()>,
+        done: Result<(), DeviceFault>,
         at: usize,
         bytes: &[u8],
     ) -> Result<(), Failed>
+        requires kind { 1 ≤ kind }
         ensures call { self.new.record.calls ≡ call_by kind (is_ok done) at bytes.now ∷ self.old.record.calls }
         ensures result { is_ok result ≡ is_ok done }
     {
@@ -127,28 +172,43 @@ impl FileDevice<'_> {
                 self.record = Record::noted(&self.record, &[kind, 1, at as u64], bytes);
                 Ok(())
             }
-            Err(error) => {
+            Err(fault) => {
                 self.record = Record::noted(&self.record, &[kind, 0, at as u64], bytes);
-                self.cause = Some(error);
+                self.cause = Some(self.cause.unwrap_or(fault));
+                give_up(self.rt, &self.place, self.replacement.take());
                 Err(Failed)
             }
         }
     }
 
     // Syncs the file, and before it the folder, where the file's name is a new one.
-    fn sync_file(&mut self) -> io::Result<()>
+    fn sync_file(&mut self) -> Result<(), DeviceFault>
         ensures calls { self.new.record.calls ≡ self.old.record.calls }
+        ensures healthy { OnOk result (faults self.old.record.calls ≡ 0) }
     {
+        if let Some(cause) = self.cause {
+            return Err(cause);
+        }
         if self.is_renamed {
             self.place.folder.sync_all()?;
         }
-        sync(&self.file)?;
+        sync(self.rt, &self.file, self.place.name.as_str())?;
         self.is_renamed = false;
         Ok(())
     }
 
+    // Syncs the file that is to replace this one.
+    fn sync_made(&self) -> Result<(), DeviceFault>
+        ensures healthy { OnOk result (faults self.now.record.calls ≡ 0) }
+    {
+        match self.cause {
+            Some(cause) => Err(cause),
+            None => sync_new(&self.replacement),
+        }
+    }
+
     // Begins a file that is to replace this one.
-    fn make_replacement(&mut self) -> io::Result<()>
+    fn make_replacement(&mut self) -> Result<(), DeviceFault>
         ensures calls { self.new.record.calls ≡ self.old.record.calls }
     {
         let file = new_replacement(self.rt, &self.place, &self.file)?;
@@ -157,18 +217,11 @@ impl FileDevice<'_> {
     }
 
     // Puts that file in the place of this one.
-    fn take_replacement(&mut self) -> io::Result<()>
+    fn take_replacement(&mut self) -> Result<(), DeviceFault>
         ensures calls { self.new.record.calls ≡ self.old.record.calls }
     {
-        let Some(replacement) = self.replacement.take() else {
-            return Err(no_file());
-        };
-        fs::rename(
-            self.rt,
-            self.place.new_name.as_str(),
-            self.place.name.as_str(),
-        )?;
-        self.file = Some(replacement.file);
+        rename(self.rt, &self.place, &self.replacement)?;
+        self.file = self.replacement.take().map(|replacement| replacement.file);
         self.is_renamed = true;
         Ok(())
     }
@@ -223,7 +276,7 @@ impl Device for FileDevice<'_> {
     }
 
     fn sync_replacement(&mut self) -> Result<(), Failed> {
-        let done = sync_new(&self.replacement);
+        let done = self.sync_made();
         self.note(SYNCED_NEW, done, 0, &[])
     }
 

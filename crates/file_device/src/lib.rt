@@ -2,15 +2,16 @@
 //! by a new file beside it.
 #![tactic(auto)]
 
+mod access;
 mod device;
+mod fault;
+pub mod laws;
 mod locking;
 mod opening;
 mod record;
 mod replacing;
 
 pub use device::FileDevice;
+pub use fault::DeviceFault;
 pub use opening::{OpenFault, Opened, open};
 pub use record::Record;
-
-#[cfg(test)]
-mod tests;

@@ -2,7 +2,11 @@
 
 use std::fs::{self, File, TryLockError};
 use std::io;
+use std::os::fd::AsRawFd;
 use std::os::unix::fs::MetadataExt;
+
+/// How often a file is looked for anew whose name another process has given or taken meanwhile.
+pub(crate) const MOST_TRIES: u32 = 64;
 
 /// Who holds the lock on a file.
 #[derive(Clone, Copy, Debug, PartialEq, Eq)]
@@ -29,4 +33,10 @@ pub(crate) fn is_named(rt: &HostRuntime, file: &File, name: &str) -> io::Result<
         Err(error) if error.kind() == io::ErrorKind::NotFound => Ok(false),
         Err(error) => Err(error),
     }
+}
+
+/// Whether the file has taken the place of standard input, output or error, which was closed. What the program says would
+/// be written into it.
+pub(crate) fn is_standard(file: &File) -> bool {
+    file.as_raw_fd() < 3
 }

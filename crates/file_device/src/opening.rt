@@ -1,33 +1,30 @@
 //! How a file is opened: found by its name, locked, synced and read.
 
-ghost use Rattle.std.specs.Prelude.{◌≡◌, IfOk};
-ghost use Rattle.file_device.specs.Calls.{seen};
+ghost use Rattle.std.specs.Prelude.{◌≡◌, true, IfOk};
+ghost use Rattle.file_device.specs.Calls.{faults, is_renewed, seen};
 
-use crate::device::{FileDevice, OPENED, Place};
-use crate::locking::{Holder, is_named, lock};
+use crate::access::is_shared;
+use crate::device::{FileDevice, OPENED, Place, WROTE};
+use crate::locking::{Holder, MOST_TRIES, is_named, is_standard, lock};
 use crate::record::Record;
-use std::alloc::AllocError;
+use std::alloc::{AllocError, Global};
 use std::fs::{self, File, OpenOptions};
 use std::io;
-use std::os::fd::AsRawFd;
-use std::os::unix::fs::{FileExt, MetadataExt};
+use std::os::unix::fs::FileExt;
 use std::path::Path;
-
-/// How often a file is opened anew that was replaced between its opening and its locking.
-const MOST_TRIES: u32 = 64;
 
 /// The most bytes of a file that is read: those that a run writes at most, and a group behind them.
 const LENGTH_MAX: u64 = (1 << 28) + (1 << 15);
 
-/// The rights of the group and of all others, in a mode.
-const OF_OTHERS: u32 = 0o077;
+/// The most bytes at the end of a file that a run whose sync failed may have left in the system's memory alone.
+const TAIL_MAX: usize = 1 << 15;
 
 /// Why a file isn't opened.
 #[derive(Clone, Copy, Debug)]
 pub enum OpenFault {
     /// Another process has it open.
     InUse,
-    /// What has the name isn't a file, but a folder, a link or the like.
+    /// What has the name isn't a file, but a folder, a link or the like; or no file can have the name.
     NotAFile,
     /// It has more bytes than a run can have written.
     TooLong,
@@ -62,18 +59,34 @@ pub struct Opened<'a> {
     pub is_shared: bool,
 }
 
+// The name of the file that is to replace one of this name: beside it, and one that nobody gives.
+fn new_name_of(alloc: Global, folder: &str, last: &str) -> Result<String, AllocError> {
+    if folder.is_empty() {
+        format!(in alloc; ".{last}.pwstore-new")
+    } else {
+        format!(in alloc; "{folder}/.{last}.pwstore-new")
+    }
+}
+
 // The names of a file and of the one that is to replace it, and their folder.
 fn place_of(rt: &HostRuntime, name: &str) -> Result<Place, OpenFault> {
-    let folder = match Path::new(name).parent() {
-        Some(folder) if !folder.as_str().is_empty() => folder.as_str(),
-        _ => ".",
+    let path = Path::new(name);
+    // A name that ends with a slash is a folder's.
+    let last = match path.file_name() {
+        Some(last) if name.ends_with(last) => last,
+        _ => return Err(OpenFault::NotAFile),
     };
-    let folder = fs::open(rt, folder)?;
-    let mut new_name = String::from_str(rt.alloc(), name)?;
-    new_name.push_str(".new")?;
+    let parent = match path.parent() {
+        Some(parent) => parent.as_str(),
+        None => "",
+    };
+    let folder = fs::open(rt, if parent.is_empty() { "." } else { parent })?;
+    if is_standard(&folder) {
+        return Err(OpenFault::NoStandardStream);
+    }
     Ok(Place {
         name: String::from_str(rt.alloc(), name)?,
-        new_name,
+        new_name: new_name_of(rt.alloc(), parent, last)?,
         folder,
     })
 }
@@ -87,7 +100,7 @@ fn open_once(rt: &HostRuntime, name: &str) -> Result<Option<File>, OpenFault> {
         Err(error) => return Err(error.into()),
     }
     let file = OpenOptions::new().read(true).write(true).open(rt, name)?;
-    if file.as_raw_fd() < 3 {
+    if is_standard(&file) {
         return Err(OpenFault::NoStandardStream);
     }
     match lock(&file)? {
@@ -124,9 +137,36 @@ fn read_synced(rt: &HostRuntime, file: &File, folder: &File) -> Result<Vec<u8>, 
     Ok(bytes)
 }
 
-// Whether others than its owner may read or write the file.
-fn is_shared(file: &File) -> io::Result<bool> {
-    Ok(file.metadata()?.mode() & OF_OTHERS != 0)
+// Writes the last bytes of a file again, as a read gave them, so that the next sync puts them on the disk: behind a sync that
+// failed the system may have them in its memory alone, and takes them for written.
+fn renew(file: &File, bytes: &[u8]) -> io::Result<Record>
+    ensures seen { IfOk result (λ noted. seen noted.calls ≡ bytes.now) }
+    ensures healthy { IfOk result (λ noted. faults noted.calls ≡ 0) }
+    ensures renewed { IfOk result (λ noted. is_renewed noted.calls ≡ true) }
+{
+    let opened = Record::noted(&Record::new(), &[OPENED, 1, 0], bytes);
+    let at = bytes.len().saturating_sub(TAIL_MAX);
+    let tail = &bytes[at..];
+    file.write_all_at(tail, at as u64)?;
+    Ok(Record::noted(&opened, &[WROTE, 1, at as u64], tail))
+}
+
+// The bytes of a file, if there is one, and what was done with it.
+fn read_renewed(
+    rt: &HostRuntime,
+    file: &Option<File>,
+    folder: &File,
+) -> Result<(Vec<u8>, Record), OpenFault>
+    ensures seen { IfOk result (λ found. found.0.items ≡ seen found.1.calls) }
+    ensures healthy { IfOk result (λ found. faults found.1.calls ≡ 0) }
+    ensures renewed { IfOk result (λ found. is_renewed found.1.calls ≡ true) }
+{
+    let Some(file) = file else {
+        return Ok((Vec::new(rt.alloc()), Record::new()));
+    };
+    let bytes = read_synced(rt, file, folder)?;
+    let record = renew(file, &bytes)?;
+    Ok((bytes, record))
 }
 
 /// Opens the file of a name as a device, and reads it. It waits for no other process.
@@ -137,11 +177,11 @@ pub fn open<'a>(rt: &'a HostRuntime, name: &str) -> Result<Opened<'a>, OpenFault
 {
     let place = place_of(rt, name)?;
     let file = open_locked(rt, name)?;
-    let (bytes, shared) = match &file {
-        Some(file) => (read_synced(rt, file, &place.folder)?, is_shared(file)?),
-        None => (Vec::new(rt.alloc()), false),
+    let (bytes, record) = read_renewed(rt, &file, &place.folder)?;
+    let shared = match &file {
+        Some(file) => is_shared(file)?,
+        None => false,
     };
-    let record = Record::noted(&Record::new(), &[OPENED, 1, 0], bytes.as_slice());
     Ok(Opened {
         is_there: file.is_some(),
         is_shared: shared,

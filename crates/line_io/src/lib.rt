@@ -12,8 +12,6 @@ pub mod laws;
 mod memory;
 mod output;
 mod system;
-#[cfg(test)]
-mod tests;
 mod write;
 
 pub use buffer::{INPUT_MAX, LINE_MAX, Line, LineBuffer};

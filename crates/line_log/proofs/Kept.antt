@@ -1,8 +1,8 @@
 -- One more call joins those that a file in memory has had.
-use Rattle.std.proofs.Common.{◌≡◌, ◌⊎◌, inl, inr, ⊎_elim, ℕ, zero, suc, ◌≤◌, Bool, List, [], ◌∷◌, ◌++◌, length, Vec, refl, sym, subst, arith, length-append}
+use Rattle.std.proofs.Common.{◌≡◌, ◌⊎◌, inl, inr, ⊎_elim, ℕ, zero, suc, ◌≤◌, Bool, List, [], ◌∷◌, ◌++◌, length, drop, Vec, refl, sym, subst, arith, length-append}
 use Rattle.std.specs.declared.alloc.Global.{Global}
-use Rattle.std.proofs.lemmas.List.{take_all, take_min}
-use Rattle.line_log.specs.Device.{Cut, Elapses, Follows, Only, Torn}
+use Rattle.std.proofs.lemmas.List.{take_min}
+use Rattle.line_log.specs.Device.{Cut, Elapses, Follows, Torn, Zeroed}
 use Rattle.line_log.specs.Memory.{After, MayHold, Outcome, Since}
 use Rattle.line_log.specs.declared.memory.Call.{Call}
 use Rattle.line_log.specs.declared.memory.Call.TheVariants.{Write, CutTo, Sync, Replace}
@@ -56,11 +56,15 @@ write_follows left calls later at copy bytes is same = λ c now.
     let from = after_push left calls (Write at copy) c (subst (λ (l : List Call). After left l c) same now) in
     (from.0, from.1, subst (λ (b : List ℕ). Torn at (length b) from.0 c) is from.2)
 
-pub cut_same : (left : List ℕ → Type 0) (len : ℕ) (seen : List ℕ) → Only seen left → len ≤ length seen → Follows (Cut len) left left
-cut_same left len seen only within = λ c now. (c, now, record { no_shorter = subst (λ (f : List ℕ). len ≤ length f) (sym (only c now)) within; front = take_all (length c) c (omega arith) })
+zeroed_same : (bytes : List ℕ) → Zeroed bytes bytes
+zeroed_same [] = tt
+zeroed_same (b ∷ bytes) = (inl refl, zeroed_same bytes)
 
-pub cut_still : (left : List ℕ → Type 0) (calls later : List Call) (len : ℕ) (seen : List ℕ) → Only seen (After left calls) → len ≤ length seen → later ≡ calls → Follows (Cut len) (After left calls) (After left later)
-cut_still left calls later len seen only within same = subst (λ (l : List Call). Follows (Cut len) (After left calls) (After left l)) (sym same) (cut_same (After left calls) len seen only within)
+pub cut_same : (left : List ℕ → Type 0) (len : ℕ) → Follows (Cut len) left left
+cut_same left len = λ c now. (c, now, record { front = refl; rest = zeroed_same (drop len c) })
+
+pub cut_still : (left : List ℕ → Type 0) (calls later : List Call) (len : ℕ) → later ≡ calls → Follows (Cut len) (After left calls) (After left later)
+cut_still left calls later len same = subst (λ (l : List Call). Follows (Cut len) (After left calls) (After left l)) (sym same) (cut_same (After left calls) len)
 
 pub cut_follows : (left : List ℕ → Type 0) (calls later : List Call) (len : ℕ) → later ≡ calls ++ CutTo len ∷ [] → Follows (Cut len) (After left calls) (After left later)
 cut_follows left calls later len same = λ c now. after_push left calls (CutTo len) c (subst (λ (l : List Call). After left l c) same now)

@@ -1,5 +1,5 @@
 -- What the calls of a device do to its file, and what a crash may do between two syncs.
-use Rattle.std.specs.Prelude.{◌≡◌, ◌⊎◌, ℕ, ◌+◌, ◌≤◌, max, min, List, ◌++◌, length, take, drop}
+use Rattle.std.specs.Prelude.{◌≡◌, ◌⊎◌, ℕ, ◌+◌, ◌≤◌, max, min, List, [], ◌∷◌, ◌++◌, length, take, drop}
 
 -- new is old with these bytes at this place
 abbrev pub Holds : List ℕ → ℕ → List ℕ → List ℕ → Type 0
@@ -13,10 +13,17 @@ pub record Torn (at n : ℕ) (old new : List ℕ) : Type 0 where
   pub no_shorter : length old ≤ length new
   pub no_longer : length new ≤ max (length old) (at + n)
 
--- after a cut to n bytes that a crash may undo in part: a beginning of at least n bytes
+-- a beginning of the old bytes, any of which may have become zero
+abbrev pub Zeroed : List ℕ → List ℕ → Type 0
+Zeroed old [] = Unit {0}
+Zeroed [] (b ∷ new) = ⊥
+Zeroed (a ∷ old) (b ∷ new) = ((b ≡ a) ⊎ (b ≡ 0)) × Zeroed old new
+
+-- After a cut to n bytes that a crash may undo in part: the first n bytes, and a beginning of what stood behind them. A file
+-- system may make the rest of a block zero before it makes the file shorter.
 pub record Cut (n : ℕ) (old new : List ℕ) : Type 0 where
-  pub no_shorter : n ≤ length new
-  pub front : take (length new) old ≡ new
+  pub front : take n new ≡ take n old
+  pub rest : Zeroed (drop n old) (drop n new)
 
 -- what a crash may leave afterwards is what it might have left before, after a step
 abbrev pub Follows : (List ℕ → List ℕ → Type 0) → (List ℕ → Type 0) → (List ℕ → Type 0) → Type 0

@@ -42,7 +42,7 @@ pub trait Device {
         ensures count { faults self.old ≤ faults self.new }
         ensures cause { OnErr result (HasRisen (faults self.old) (faults self.new)) };
 
-    /// Cuts a file that is on the disk to a length. Until a sync, a crash may leave a longer part of it.
+    /// Cuts a file that is on the disk to a length. Until a sync, a crash may leave a longer part of it, with zeros in it.
     fn cut(&mut self, len: usize) -> Result<(), Failed>
         requires within { len ≤ length (seen self.old) }
         requires durable { Only (seen self.old) (may_leave self.old) }
@@ -53,6 +53,9 @@ pub trait Device {
         ensures cause { OnErr result (HasRisen (faults self.old) (faults self.new)) };
 
     /// After it, a crash leaves what a read gives.
+    ///
+    /// After a call that failed none succeeds, or the device has to know otherwise that all is on the disk: a system may
+    /// give up what it couldn't write, and answer the next sync as if it had written it.
     fn sync(&mut self) -> Result<(), Failed>
         ensures durable { OnOk result (Only (seen self.old) (may_leave self.new)) }
         ensures seen { seen self.new ≡ seen self.old }

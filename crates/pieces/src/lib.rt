@@ -13,8 +13,6 @@ pub mod characters;
 pub mod laws;
 pub mod places;
 pub mod short_bytes;
-#[cfg(test)]
-mod tests;
 pub mod text;
 
 use places::first_place;

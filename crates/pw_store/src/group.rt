@@ -1,6 +1,6 @@
 //! Changes that are in the table and not yet in the file.
 
-ghost use Rattle.std.specs.Prelude.{◌≡◌, ◌+◌, ◌≤◌, ◌++◌, ◌∷◌, [], length, true, IfErr, OnErr, OnOk};
+ghost use Rattle.std.specs.Prelude.{◌≡◌, ◌+◌, ◌<◌, ◌≤◌, ◌++◌, ◌∷◌, [], false, length, true, IfErr, OnErr, OnOk};
 ghost use Rattle.line_log.specs.Log.{group_max};
 ghost use Rattle.pw_file.specs.History.{Rows};
 ghost use Rattle.pw_store.specs.Staged.{Undoes, lines_of, undo_of};
@@ -38,6 +38,7 @@ impl<P: Policy> Group<P> {
     /// Whether there is room for one change more, whatever it is.
     pub fn has_room(&self) -> bool
         ensures room { result ≡ true → length (lines_of self.now) + ROW_LINE_MAX ≤ group_max }
+        ensures full { result ≡ false → group_max < length (lines_of self.now) + ROW_LINE_MAX }
     {
         self.lines.len() <= GROUP_MAX - ROW_LINE_MAX
     }

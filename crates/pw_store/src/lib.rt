@@ -16,8 +16,6 @@ mod run;
 mod serve;
 mod stop;
 mod store;
-#[cfg(test)]
-mod tests;
 
 pub use error::StoreError;
 pub use loading::Loading;

@@ -1,8 +1,8 @@
 //! The next line of a run, and the answer to it.
 
-ghost use Rattle.std.specs.Prelude.{◌≡◌, ◌≤◌, ◌+◌, ◌++◌, ◌∷◌, [], Bool, ℕ, List, Ok, Err, false, true, length, IfNone, IfOk, IfSome, OnErr, OnOk, OnSome, Option, ◌&&◌};
+ghost use Rattle.std.specs.Prelude.{◌≡◌, ◌⊎◌, ◌≤◌, ◌+◌, ◌++◌, ◌∷◌, [], Bool, ℕ, List, Ok, Err, false, true, length, IfNone, IfOk, IfSome, OnErr, OnOk, OnSome, Option, ◌&&◌};
 ghost use Rattle.line_io.specs.Buffer.{is_closed, is_last};
-ghost use Rattle.line_io.specs.Output.{has_failed};
+ghost use Rattle.line_io.specs.Output.{has_failed, waiting};
 ghost use Rattle.line_io.specs.Runs.{IsCall};
 ghost use Rattle.line_log.specs.Log.{group_max};
 ghost use Rattle.pieces.specs.FaultCounts.{HasRisen};
@@ -48,6 +48,8 @@ fn next_line<D: Device, P: Policy, S: Source, K: Sink>(
     ensures call { IfOk result (λ line. IsCall line (S.left source.old) (S.left source.new) lines.old lines.new) }
     ensures unread { OnErr result ((lines.new ≡ lines.old) × (source.new ≡ source.old)) }
     ensures failed { OnErr result (has_failed out.new ≡ true) }
+    // It reads only where no reply and no change waits.
+    ensures written { OnOk result ((source.new ≡ source.old) ⊎ ((waiting out.new ≡ []) × (count_of group.new ≡ 0))) }
     ensures count { S.faults source.old ≤ S.faults source.new }
     ensures cause { result ≡ Ok Line.Failed → HasRisen (S.faults source.old) (S.faults source.new) }
     ensures goes_on { (from : Begun D) (asked : List (List ℕ)) (all : Bool)

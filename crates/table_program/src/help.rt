@@ -25,4 +25,5 @@ Statuses:
   64  the words of the command line are no form of the program
   65  FILE isn't one that a run can have left; it is not changed
   66  FILE can't be opened
+  73  the new file that is to be FILE isn't made: what has its name, or a right of others, is in the way
   75  another process has FILE open";

@@ -1,14 +1,30 @@
 //! Errors of one line on standard error.
 
-use file_device::OpenFault;
+use file_device::{DeviceFault, FileDevice, OpenFault};
 use line_log::OpenError;
-use std::io;
 
 /// The program that speaks, and the file that it speaks of, by their names.
 #[derive(Clone, Copy, Debug)]
 pub(crate) struct Speaker<'a> {
     pub program: &'a str,
     pub file: &'a str,
+}
+
+/// Why a call of the file failed, where the device tells, and the name of the new file that would have replaced it.
+#[derive(Clone, Copy, Debug)]
+pub(crate) struct Failure<'a> {
+    pub cause: Option<DeviceFault>,
+    pub new_name: &'a str,
+}
+
+impl<'a> Failure<'a> {
+    /// Of a device.
+    pub fn of(device: &'a FileDevice<'_>) -> Failure<'a> {
+        Failure {
+            cause: device.cause(),
+            new_name: device.new_name(),
+        }
+    }
 }
 
 impl Speaker<'_> {
@@ -46,14 +62,39 @@ impl Speaker<'_> {
     }
 
     /// Says that a call of the file failed, and what followed.
-    pub fn say_failed(&self, rt: &impl Eprint, cause: Option<io::Error>, then: &str) {
+    pub fn say_failed(&self, rt: &impl Eprint, failure: Failure<'_>, then: &str) {
         let (program, file) = (self.program, self.file);
-        match cause {
-            Some(error) => {
+        match failure.cause {
+            Some(DeviceFault::Io(error)) => {
                 let _ = eprintln!(rt; "{program}: {file}: {error}: {then}");
             }
+            Some(DeviceFault::NameTaken) => {
+                let new_name = failure.new_name;
+                let _ = eprintln!(rt;
+                    "{program}: {file}: {new_name} is in the way, which no run has left or another process holds: {then}"
+                );
+            }
+            Some(DeviceFault::Moved) => self.say_two(
+                rt,
+                "its name leads to another file now, or to none",
+                then,
+            ),
+            Some(DeviceFault::InUse) => {
+                self.say_two(rt, "another process makes it, or has just made it", then);
+            }
+            Some(DeviceFault::Shared) => self.say_two(
+                rt,
+                "others than its owner have rights, perhaps by an access control list, which isn't copied: take them away first (chmod go=)",
+                then,
+            ),
             None => self.say_at(rt, then),
         }
+    }
+
+    // Says a cause at the file, and what followed.
+    fn say_two(&self, rt: &impl Eprint, cause: &str, then: &str) {
+        let (program, file) = (self.program, self.file);
+        let _ = eprintln!(rt; "{program}: {file}: {cause}: {then}");
     }
 
     /// Says why the file, which was read, isn't taken.
@@ -62,7 +103,7 @@ impl Speaker<'_> {
         rt: &impl Eprint,
         is_there: bool,
         error: OpenError,
-        cause: Option<io::Error>,
+        failure: Failure<'_>,
     ) {
         let (program, file) = (self.program, self.file);
         match error {
@@ -79,8 +120,8 @@ impl Speaker<'_> {
                     "{program}: {file}: bad-end: what stands from byte {place} on is no end that a run leaves"
                 );
             }
-            OpenError::Failed if is_there => self.say_failed(rt, cause, "it isn't repaired"),
-            OpenError::Failed => self.say_failed(rt, cause, "it isn't made"),
+            OpenError::Failed if is_there => self.say_failed(rt, failure, "it isn't repaired"),
+            OpenError::Failed => self.say_failed(rt, failure, "it isn't made"),
             OpenError::OutOfMemory => self.say_at(rt, "memory is wanting for its users"),
         }
     }

@@ -4,16 +4,16 @@ ghost use Rattle.std.specs.Prelude.{◌≡◌, ◌≢◌, ◌≤◌, ◌⊎◌, 
 ghost use Rattle.any_table.specs.AnyTexts.{any_texts};
 ghost use Rattle.file_device.specs.Calls.{MayLeave, seen};
 ghost use Rattle.pw_store.specs.Stored.{IsSound, takes_changes};
-ghost use Rattle.table_program.specs.Statuses.{IsTableStatus, unopened_status, untaken_status};
+ghost use Rattle.table_program.specs.Statuses.{IsTableStatus, failed_status, unopened_status, untaken_status};
 
-use crate::messages::Speaker;
-use crate::status::{BAD_FILE, IN_USE, NO_FILE};
+use crate::messages::{Failure, Speaker};
+use crate::status::{BAD_FILE, IN_USE, NO_FILE, NO_NEW_FILE};
 use crate::table::{Untaken, compact, serve, store_of};
 use any_table::AnyTexts;
-use file_device::{FileDevice, OpenFault, Opened, open};
+use file_device::{DeviceFault, FileDevice, OpenFault, Opened, open};
 use line_io::{StdSink, StdSource};
 use line_log::OpenError;
-use line_program::status::{NO_MEMORY, OVER_MAX, READ_FAULT, WRITE_FAULT};
+use line_program::status::{ALL_GOOD, NO_MEMORY, OVER_MAX, READ_FAULT, WRITE_FAULT};
 use pw_store::{DISK_FAULT, Store};
 use std::io;
 
@@ -30,14 +30,26 @@ fn unopened(fault: OpenFault) -> u8
     }
 }
 
+// The status of a call of the file that failed.
+fn failed(cause: Option<DeviceFault>) -> u8
+    ensures status { result ≡ failed_status cause }
+    ensures statuses { IsTableStatus result }
+{
+    match cause {
+        Some(DeviceFault::InUse) => IN_USE,
+        Some(DeviceFault::NameTaken | DeviceFault::Shared) => NO_NEW_FILE,
+        Some(DeviceFault::Io(_) | DeviceFault::Moved) | None => DISK_FAULT,
+    }
+}
+
 // The status of a file that isn't taken.
-fn untaken(error: OpenError) -> u8
-    ensures status { result ≡ untaken_status error }
+fn untaken(cause: Option<DeviceFault>, error: OpenError) -> u8
+    ensures status { result ≡ untaken_status cause error }
     ensures statuses { IsTableStatus result }
 {
     match error {
         OpenError::NoHeader | OpenError::BadLine(_) | OpenError::BadEnd(_) => BAD_FILE,
-        OpenError::Failed => DISK_FAULT,
+        OpenError::Failed => failed(cause),
         OpenError::OutOfMemory => NO_MEMORY,
     }
 }
@@ -57,8 +69,8 @@ fn store_in<'a>(
     match store_of(rt.alloc(), opened.device, opened.bytes, is_there) {
         Ok(store) => Ok(store),
         Err(Untaken { device, error }) => {
-            speaker.say_untaken(rt, is_there, error, device.cause());
-            Err(untaken(error))
+            speaker.say_untaken(rt, is_there, error, Failure::of(&device));
+            Err(untaken(device.cause(), error))
         }
     }
 }
@@ -76,7 +88,7 @@ pub(crate) fn tell(
     speaker: &Speaker<'_>,
     status: u8,
     takes: bool,
-    cause: Option<io::Error>,
+    failure: Failure<'_>,
 ) {
     match status {
         READ_FAULT => speaker.say(rt, "standard input: a read failed"),
@@ -86,7 +98,7 @@ pub(crate) fn tell(
         _ => {}
     }
     if !takes {
-        speaker.say_failed(rt, cause, "changes are answered disk-fault since then");
+        speaker.say_failed(rt, failure, "changes are answered disk-fault since then");
     }
 }
 
@@ -109,13 +121,13 @@ fn serve_store<'a>(
         speaker,
         status,
         store.takes_changes(),
-        store.device().cause(),
+        Failure::of(store.device()),
     );
     status
 }
 
 /// Answers the commands of standard input over the table of a file, which is made where it isn't there, and gives the
-/// status: that of [`serve`]; or 65, 66 or 75, and 5 or 7, where the file isn't opened, made or taken. What is said on
+/// status: that of [`serve`]; or 65, 66, 73 or 75, and 5 or 7, where the file isn't opened, made or taken. What is said on
 /// standard error begins with the name of the program.
 pub fn serve_file(rt: &HostRuntime, program: &str, file: &str) -> u8
     ensures statuses { IsTableStatus result }
@@ -144,20 +156,24 @@ fn compact_store<'a>(
 ) -> u8
     requires open { takes_changes store ≡ true }
     requires sound { IsSound any_texts (λ d. seen d.record.calls) (λ d c. MayLeave d.record.calls c) store }
-    ensures statuses { (result ≡ 0) ⊎ ((result ≡ 5) ⊎ (result ≡ 7)) }
+    ensures statuses { IsTableStatus result }
 {
     let mut store = store;
-    let status = compact(&mut store);
-    match status {
-        NO_MEMORY => speaker.say(rt, "memory is wanting for the new file"),
-        DISK_FAULT => speaker.say_failed(rt, store.device().cause(), "it isn't written anew"),
-        _ => {}
+    match compact(&mut store) {
+        DISK_FAULT => {
+            speaker.say_failed(rt, Failure::of(store.device()), "it isn't written anew");
+            failed(store.device().cause())
+        }
+        NO_MEMORY => {
+            speaker.say(rt, "memory is wanting for the new file");
+            NO_MEMORY
+        }
+        _ => ALL_GOOD,
     }
-    status
 }
 
-/// Writes a file anew, a line for each user, and gives the status: that of [`compact`]; or as [`serve_file`] where the file
-/// isn't opened or taken, and 66 where there is none. What is said on standard error begins with the name of the program.
+/// Writes a file anew, a line for each user, and gives the status: that of [`compact`], and 73 where the new file isn't made;
+/// or as [`serve_file`] where the file isn't opened or taken, and 66 where there is none. What is said on standard error begins with the name of the program.
 pub fn compact_file(rt: &HostRuntime, program: &str, file: &str) -> u8
     ensures statuses { IsTableStatus result }
 {

@@ -5,9 +5,10 @@ ghost use Rattle.any_table.specs.AnyTexts.{any_texts};
 ghost use Rattle.line_io.specs.Devices.{WhereTold};
 ghost use Rattle.line_io.specs.Lines.{lines};
 ghost use Rattle.line_log.specs.Device.{LeavesOnly};
-ghost use Rattle.line_log.specs.Log.{recovered};
+ghost use Rattle.line_log.specs.Log.{Stands, recovered};
 ghost use Rattle.line_log.specs.Taker.{is_refusal};
 ghost use Rattle.pieces.specs.FaultCounts.{HasRisen};
+ghost use Rattle.pw_file.specs.History.{Rows};
 ghost use Rattle.pw_store.specs.Run.{IsLeftBy, StoreOutcome};
 ghost use Rattle.pw_store.specs.Store.{StandsFor, recovered_rows, store_fault};
 ghost use Rattle.pw_store.specs.Stored.{IsSound, device_of, lines_of_rows, rows_of, size_of, takes_changes};
@@ -36,8 +37,15 @@ fn store_there<D: Device + Drop>(
     ensures rows { IfOk result (λ store. recovered_rows any_texts (D.seen device) ≡ Some (rows_of store)) }
     ensures takes { IfOk result (λ store. takes_changes store ≡ true) }
     ensures sound { IfOk result (λ store. IsSound any_texts D.seen D.may_leave store) }
+    ensures same { IfOk result (λ store. recovered (D.seen (device_of store)) ≡ recovered (D.seen device)) }
     ensures untaken { IfErr result (λ e. is_refusal e.error ≡ true → store_fault any_texts (D.seen device) ≡ Some e.error) }
     ensures unchanged { IfErr result (λ e. is_refusal e.error ≡ true → e.device ≡ device) }
+    ensures accepted { (rows : Rows) → StandsFor any_texts rows (D.seen device) → IfErr result (λ e. is_refusal e.error ≡ false) }
+    ensures failed { IfErr result (λ e. e.error ≡ OpenError.Failed → HasRisen (D.faults device) (D.faults e.device)) }
+    ensures any_moment { IfOk result (λ store. LeavesOnly D.moment D.left_since device (device_of store)
+        (λ c. D.may_leave device c ⊎ Stands (recovered (D.seen device)) c)) }
+    ensures any_moment_untaken { IfErr result (λ e. LeavesOnly D.moment D.left_since device e.device
+        (λ c. D.may_leave device c ⊎ Stands (recovered (D.seen device)) c)) }
 {
     let mut device = device;
     match recover(alloc, AnyKept::new(alloc), &mut device, bytes) {
@@ -51,7 +59,13 @@ fn store_made<D: Device + Drop>(alloc: Global, device: D) -> Result<Store<D, Any
     ensures rows { IfOk result (λ store. rows_of store ≡ []) }
     ensures takes { IfOk result (λ store. takes_changes store ≡ true) }
     ensures sound { IfOk result (λ store. IsSound any_texts D.seen D.may_leave store) }
-    ensures failed { IfErr result (λ e. e.error ≡ OpenError.Failed) }
+    ensures same { IfOk result (λ store. recovered_rows any_texts (D.seen (device_of store)) ≡ Some []) }
+    ensures cause { IfErr result (λ e. e.error ≡ OpenError.Failed) }
+    ensures failed { IfErr result (λ e. HasRisen (D.faults device) (D.faults e.device)) }
+    ensures any_moment { IfOk result (λ store. LeavesOnly D.moment D.left_since device (device_of store)
+        (λ c. D.may_leave device c ⊎ StandsFor any_texts [] c)) }
+    ensures any_moment_untaken { IfErr result (λ e. LeavesOnly D.moment D.left_since device e.device
+        (λ c. D.may_leave device c ⊎ StandsFor any_texts [] c)) }
 {
     let mut device = device;
     match create(alloc, AnyKept::new(alloc), &mut device) {
@@ -75,8 +89,27 @@ pub fn store_of<D: Device + Drop>(
     ensures made { is_there ≡ false → IfOk result (λ store. rows_of store ≡ []) }
     ensures takes { IfOk result (λ store. takes_changes store ≡ true) }
     ensures sound { IfOk result (λ store. IsSound any_texts D.seen D.may_leave store) }
+
+    // The file of the store has the lines of the file that was there, or none.
+    ensures same { is_there ≡ true → IfOk result (λ store. recovered (D.seen (device_of store)) ≡ recovered (D.seen device)) }
+    ensures empty { is_there ≡ false → IfOk result (λ store. recovered_rows any_texts (D.seen (device_of store)) ≡ Some []) }
+
+    // A file that is there is refused exactly by its first fault, and isn't changed; what a run can have left isn't refused.
     ensures untaken { is_there ≡ true → IfErr result (λ e. is_refusal e.error ≡ true → store_fault any_texts (D.seen device) ≡ Some e.error) }
     ensures unchanged { is_there ≡ true → IfErr result (λ e. is_refusal e.error ≡ true → e.device ≡ device) }
+    ensures accepted { is_there ≡ true → (rows : Rows) → StandsFor any_texts rows (D.seen device) → IfErr result (λ e. is_refusal e.error ≡ false) }
+    ensures unmade { is_there ≡ false → IfErr result (λ e. e.error ≡ OpenError.Failed) }
+    ensures failed { IfErr result (λ e. e.error ≡ OpenError.Failed → HasRisen (D.faults device) (D.faults e.device)) }
+
+    // A crash at any moment leaves what it might have left before the call, or the same lines; or a file with no users.
+    ensures any_moment { is_there ≡ true → IfOk result (λ store. LeavesOnly D.moment D.left_since device (device_of store)
+        (λ c. D.may_leave device c ⊎ Stands (recovered (D.seen device)) c)) }
+    ensures any_moment_untaken { is_there ≡ true → IfErr result (λ e. LeavesOnly D.moment D.left_since device e.device
+        (λ c. D.may_leave device c ⊎ Stands (recovered (D.seen device)) c)) }
+    ensures any_moment_made { is_there ≡ false → IfOk result (λ store. LeavesOnly D.moment D.left_since device (device_of store)
+        (λ c. D.may_leave device c ⊎ StandsFor any_texts [] c)) }
+    ensures any_moment_unmade { is_there ≡ false → IfErr result (λ e. LeavesOnly D.moment D.left_since device e.device
+        (λ c. D.may_leave device c ⊎ StandsFor any_texts [] c)) }
 {
     if is_there {
         store_there(alloc, device, &bytes)

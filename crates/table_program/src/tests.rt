@@ -3,16 +3,17 @@
 ghost use Rattle.std.specs.Prelude.{◌≡◌, IfOk};
 ghost use Rattle.line_log.specs.MemoryBytes.{device_bytes};
 
-use crate::messages::Speaker;
+use crate::messages::{Failure, Speaker};
 use crate::opened::{compact_file, serve_file, tell};
 use crate::table::{Untaken, compact, serve, store_of};
-use file_device::OpenFault;
+use file_device::{DeviceFault, OpenFault};
 use line_io::{Failed, MemorySink, MemorySource, Sink, Source};
 use line_log::{MemoryDevice, OpenError};
 use std::alloc::{AllocError, Global};
 use std::cell::Cell;
 use std::fmt::Display;
 use std::hash::{BuildHasher, RandomState};
+use std::os::unix::fs::PermissionsExt;
 use std::test::Fail;
 use std::{fs, io};
 
@@ -331,6 +332,10 @@ fn causes_are_said(rt: HostRuntime) {
         program: "pwstore",
         file: "table",
     };
+    let untold = Failure {
+        cause: None,
+        new_name: "",
+    };
     for fault in [
         OpenFault::InUse,
         OpenFault::NotAFile,
@@ -349,10 +354,24 @@ fn causes_are_said(rt: HostRuntime) {
         OpenError::Failed,
         OpenError::OutOfMemory,
     ] {
-        speaker.say_untaken(&ear, true, error, None);
-        speaker.say_untaken(&ear, false, error, None);
+        speaker.say_untaken(&ear, true, error, untold);
+        speaker.say_untaken(&ear, false, error, untold);
     }
     assert_eq!(rt; ear.lines.get(), 16);
+    for cause in [
+        DeviceFault::Io(io::Error::from(io::ErrorKind::PermissionDenied)),
+        DeviceFault::Moved,
+        DeviceFault::InUse,
+        DeviceFault::NameTaken,
+        DeviceFault::Shared,
+    ] {
+        let failure = Failure {
+            cause: Some(cause),
+            new_name: ".table.pwstore-new",
+        };
+        speaker.say_failed(&ear, failure, "it isn't made");
+    }
+    assert_eq!(rt; ear.lines.get(), 21);
     // The status, whether the store takes changes at the end, and how many lines are said.
     for (status, takes, lines) in [
         (0, true, 0),
@@ -364,7 +383,7 @@ fn causes_are_said(rt: HostRuntime) {
         (7, false, 1),
     ] {
         ear.lines.set(0);
-        tell(&ear, &speaker, status, takes, None);
+        tell(&ear, &speaker, status, takes, untold);
         assert_eq!(rt; ear.lines.get(), lines);
     }
 }
@@ -380,6 +399,10 @@ fn files_of_the_system(rt: HostRuntime) -> Result<(), Fail> {
     fs::write(&rt, name.as_str(), b"set\tann\t*\n")?;
     assert_eq!(rt; serve_file(&rt, "pwstore", name.as_str()), 65);
     fs::write(&rt, name.as_str(), THREE)?;
+    // With rights of others it isn't made anew, as an access control list may give them.
+    assert_eq!(rt; compact_file(&rt, "pwstore", name.as_str()), 73);
+    assert_eq!(rt; fs::read(&rt, name.as_str())?.as_slice(), THREE);
+    fs::set_permissions(&rt, name.as_str(), PermissionsExt::from_mode(0o600))?;
     assert_eq!(rt; compact_file(&rt, "pwstore", name.as_str()), 0);
     assert_eq!(rt;
         fs::read(&rt, name.as_str())?.as_slice(),

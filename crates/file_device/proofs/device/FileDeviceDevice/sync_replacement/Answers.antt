@@ -1,9 +1,10 @@
 use Rattle.std.proofs.Common.{refl}
-use Rattle.file_device.proofs.Steps.{cause, count, held, left_as_before, on_ok, same_replacement, seen_as_before, time}
+use Rattle.file_device.proofs.Steps.{cause, count, held, left_as_before, of_ok, on_ok, same_replacement, seen_as_before, time}
 use Rattle.file_device.proofs.device.FileDeviceDevice.sync_replacement.Goals as goal
 
 pub returns-clause-durable : goal.returns-clause-durable
-returns-clause-durable c = on_ok c.note.result _ c.note.ensures.result (held c.note.new.self.record.calls c.args.self.now.record.calls _ c.note.ensures.call)
+returns-clause-durable c = on_ok c.note.result _ c.note.ensures.result (λ done. held c.note.new.self.record.calls c.args.self.now.record.calls _ c.note.ensures.call
+    (of_ok c.sync_made-done.result c.sync_made-done.ensures.healthy done) done)
 
 pub returns-clause-replacement : goal.returns-clause-replacement
 returns-clause-replacement c = same_replacement c.note.new.self.record.calls c.args.self.now.record.calls _ c.note.ensures.call

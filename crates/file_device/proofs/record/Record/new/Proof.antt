@@ -1,10 +1,8 @@
 -- A record of no calls: it has no bytes in memory.
 use mathlib.Core.Path.{refl}
 use mathlib.Core.List.{[], ◌∷◌}
-use base.Logic.{id⊢}
 use mir.Val.{Val, vstruct, vcons, vnil}
-use contract.Running.{tables}
-use types.Kit.{raw, ◌$◌, ◌∵◌, !, qed, drop, join, suffices, done, keep}
+use types.Kit.{raw, ◌$◌, ◌∵◌, !, qed, join, suffices, done, keep}
 use types.Part.{agg}
 use types.Run.{enter, no_more, and_then, returns}
 use types.ByLocal.{alloc_all, pass_all, free_all, look_at, get, sets}

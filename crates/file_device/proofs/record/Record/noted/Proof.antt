@@ -1,12 +1,10 @@
 -- A record of one call more: it has no bytes in memory, whatever calls it tells.
 use mathlib.Core.Path.{refl}
 use mathlib.Core.List.{[], ◌∷◌}
-use base.Logic.{id⊢}
 use base.Fml.{ftrue, flft}
 use mir.Syntax.{named}
 use mir.Val.{Val, vstruct, vcons, vnil}
-use contract.Running.{tables}
-use types.Kit.{‵, raw, ◌⊛◌, ◌$◌, ◌∵◌, !, qed, drop, join, split, fsplit, move, keep, suffices, frame, done}
+use types.Kit.{‵, ◌⊛◌, ◌$◌, ◌∵◌, !, qed, join, split, fsplit, move, keep, suffices, frame, done}
 use types.Part.{agg}
 use types.Run.{enter, no_more, and_then, returns}
 use types.ByLocal.{alloc_all, pass_all, free_all, look_at, get, sets}
@@ -18,7 +16,6 @@ use denote.Shadow.{pure_i}
 use denote.Signature.{plain, types_at}
 use denote.Slice.{shr_slice_vals, shr_slice_Tells}
 use denote.Steps.{nothing}
-use denote.Triple.Entry.{on_entry}
 use denote.Triple.Walked.{Stays, stay_dropped, stay_none_slice, Goes-dropped, Goes-none_slice, says, walk_of}
 use Rattle.std.proofs.raw_atomic.Walks.{proved, leaves}
 use Rattle.file_device.specs.Calls.{call_of}

@@ -4,7 +4,7 @@ use Rattle.line_log.proofs.Kept.{cut_follows, cut_still, elapses_push, elapses_s
 use Rattle.line_log.proofs.memory.MemoryDeviceDevice.cut.Goals as goal
 
 pub returns-in-Err-clause-crash : goal.returns-in-Err-clause-crash
-returns-in-Err-clause-crash c = cut_still (Start c.args.self.now) c.args.self.now.calls.items c.note_cut.new.calls.items c.args.len c.args.self.now.bytes.items c.requires.durable c.requires.within c.in-Err.ensures.err
+returns-in-Err-clause-crash c = cut_still (Start c.args.self.now) c.args.self.now.calls.items c.note_cut.new.calls.items c.args.len c.in-Err.ensures.err
 
 pub returns-in-Err-clause-time : goal.returns-in-Err-clause-time
 returns-in-Err-clause-time c = elapses_still (Start c.args.self.now) c.args.self.now.calls.items c.note_cut.new.calls.items c.in-Err.ensures.err

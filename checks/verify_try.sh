@@ -1,0 +1,43 @@
+#!/usr/bin/env bash
+# Tries packaging/verify.sh on a dist/ in which one byte is changed and the sums are made anew, with each variable set that makes
+# install.sh copy in place of building. verify.sh has to find the byte. Nothing is proved here: in a copy of the scripts install.sh is
+# one that lays out the true files where it is to build, and those of dist/ where PWCHECK_DIST is set.
+#
+#     checks/verify_try.sh
+set -eu
+top=$(cd "$(dirname "$0")/.." && pwd)
+work=$(mktemp -d)
+trap 'rm -rf "$work"' EXIT
+mkdir "$work/top"
+cp -r "$top"/{crates.txt,packaging,include,bindings,crypt3,dist} "$work/top"
+mkdir "$work/top/crates"
+cp -r "$work/top/dist" "$work/true"
+cat >"$work/top/install.sh" <<SH
+#!/usr/bin/env bash
+set -eu
+from=$work/true
+[ -z "\${PWCHECK_DIST:-}" ] || from=$work/top/dist
+[ -z "\${PWCHECK_AS_BUILT:-}" ] || from=$work/top/dist
+install -d "\$DESTDIR/usr/bin" "\$DESTDIR/usr/lib"
+for file in pwcheck pwtool wrapstream pwkdf pwlegacy pwfile pwstore; do cp "\$from/\$file" "\$DESTDIR/usr/bin"; done
+cp "\$from"/lib* "\$DESTDIR/usr/lib"
+SH
+chmod +x "$work/top/install.sh"
+python3 "$work/top/packaging/sources.py" >"$work/top/dist/SOURCES"
+{ gcc --version; ld --version; } | grep -E "^(gcc|GNU ld)" >"$work/top/dist/COMPILER"
+sums() { (cd "$work/top/dist" && find . -type f ! -name SHA256SUMS -printf '%f\0' | LC_ALL=C sort -z | xargs -0 sha256sum -- >SHA256SUMS); }
+sums
+"$work/top/packaging/verify.sh" "$work/top/dist" >/dev/null || { echo "verify_try.sh: verify.sh doesn't take a true dist/"; exit 1; }
+for file in libpwcheck.a pwtool; do
+  cp "$work/true/$file" "$work/top/dist/$file"
+  printf 'x' | dd of="$work/top/dist/$file" bs=1 seek=1000 conv=notrunc status=none
+  sums
+  for set in PWCHECK_DIST=1 PWCHECK_AS_BUILT=1 NONE=1; do
+    if env "$set" "$work/top/packaging/verify.sh" "$work/top/dist" >/dev/null 2>&1; then
+      echo "verify_try.sh: with $set verify.sh takes a dist/ whose $file has another byte"
+      exit 1
+    fi
+  done
+  cp "$work/true/$file" "$work/top/dist/$file"
+done
+echo "verify_try.sh: verify.sh finds a changed byte, whatever is set"
