@@ -45,7 +45,7 @@ FACTS = [
     ("scrypt's greatest ln", None, [r"[sS]o (?:ln|L) is at most (\d+)"], 4),
     ("scrypt's greatest ln with r = 8", None,
      [r"with r = 8 at most (\d+)", r"with R = 8 at most (\d+)", r"and at most (\d+) for r = 8", r"and at (?:most )?(\d+) (?:for|with) r = 8"], 3),
-    ("what wrap and unwrap take", ("crates/pwcheck/src/streams.rt", r"LONGEST_KEPT: u64 = ([\d_]+)"),
+    ("what wrap and unwrap take", ("crates/pwcheck_run/src/streams.rt", r"LONGEST_KEPT: u64 = ([\d_]+)"),
      [r"for `wrap` and `unwrap` more than ([\d,]+)", r"take at most ([\d,]+) bytes"], 2),
     ("the answers that wait", None, [r"where ([\d,]+) bytes wait", r"Answers wait in ([\d,]+) bytes"], 2),
     ("the kit", None, [r"rattle-kit-(\w+) logic"], 1),

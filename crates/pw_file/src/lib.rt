@@ -16,8 +16,6 @@ mod responder;
 mod run;
 mod stored_texts;
 mod table;
-#[cfg(test)]
-mod tests;
 mod upgraded;
 mod user;
 

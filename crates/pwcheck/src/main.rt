@@ -7,39 +7,17 @@
 //! - `wrap W` writes the padded Base64 of its input in lines of `W` characters, and `unwrap W` the bytes of such lines.
 //!
 //! Lines and bytes come from standard input, and the output goes to standard output. The status says how the run ended.
+//! The calls are those of `pwcheck_run`, and the contract is that of its [`run`].
 #![tactic(auto)]
-
-mod answer;
-mod bench;
-mod check;
-mod checker;
-mod form;
-#[cfg(test)]
-mod form_tests;
-mod input;
-pub mod laws;
-mod line_answer;
-mod normalize;
-mod normalizer;
-mod program;
-#[cfg(test)]
-mod runs;
-mod streams;
-#[cfg(test)]
-mod tests;
-mod word;
-mod words;
 
 ghost use Rattle.std.specs.Prelude.{◌≡◌, ◌⊎◌, IfErr};
 
 use line_io::{StdSink, StdSource};
 use line_program::status::{NO_MEMORY, NO_WORDS};
-pub use program::{run, run_limited};
+pub use pwcheck_run::{Words, laws, run, run_limited, word};
 use std::process::ExitCode;
 use std::rt::Env;
 use std::{env, io};
-pub use word::word;
-pub use words::Words;
 
 // The words of the command line without the program's name, or the status.
 fn command_line<R: Env + AllocGlobal>(rt: &R) -> Result<Words, u8>

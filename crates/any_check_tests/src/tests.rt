@@ -1,0 +1,520 @@
+//! Texts that outside programs made: openssl, glibc's and libxcrypt's crypt, Python's hashlib and the program argon2.
+
+use any_check::{
+    AnyError, AnyScheme, CostLimits, any_word, check_any, check_any_within, record_kdf, run_any,
+    scheme_of_text,
+};
+use bcrypt_plain::BcryptFault;
+use line_io::{MemorySink, MemorySource};
+use md5_crypt::Md5Fault;
+use sha_crypt::Family;
+use stored_check::StoredError;
+use yescrypt_plain::{CryptKept, TextFault};
+
+// The word; want of memory has none.
+fn word_of(answer: &Result<bool, AnyError>) -> &'static str {
+    if *answer == Err(AnyError::Stored(StoredError::OutOfMemory)) {
+        return "no-memory";
+    }
+    any_word(answer)
+}
+
+// Texts of the password `secret`.
+const TEXTS: [&str; 16] = [
+    "$1$abcdefgh$cHJi5PXp/ki/ktXzqlk6I1",
+    "$apr1$abcdefgh$h9FWgUz3n9YxylKLlR5SQ/",
+    "$5$abcdefgh$gruCpC7VkOTspMQTTSAR8mtlO9Upms.fwqE5y16JVM.",
+    "$5$rounds=1500$abcdefgh$qXUmNmbLEOn5YPWvewYoPCAAHp5vzLn73xcpCUC256C",
+    "$6$abcdefgh$ltjgWl6579NluT/Vi1nwEvcil.G5Nbc4NiXZaNGStk8PSwGfQv72N2CKPPrVACtLtip/cZ/1GM/O6IND4WQhG.",
+    "$2b$04$abcdefghijklmnopqrstuu2r9OfJnfCsdneAXAGHnS4UpFFP8WIrW",
+    "$2y$05$abcdefghijklmnopqrstuuOQiyCxlgf/oeuTqixKmWdcYUh4Hjl0a",
+    "$scrypt$ln=4,r=8,p=1$c2FsdHNhbHRzYWx0$09/untC+3Bg44eiJQ8bqhTXgE2ali+ykLaojkJZlF9U",
+    "$pbkdf2-sha256$i=1000,l=32$c2FsdHNhbHRzYWx0$sVaWem31qy3rw+Ldi3plA/XzhMSNi9/XHnnD1Ytj05o",
+    "$argon2id$v=19$m=64,t=1,p=1$c2FsdHNhbHRzYWx0$Sm3MnLdCFk0Af+croKgebRoqqmhbKd88iiW3yUOXn78",
+    "$argon2i$v=19$m=64,t=2,p=2$c2FsdHNhbHRzYWx0$vtdpD5eGGsEQdYh52JSgUbWdj2vdH1FR/Ncvk1mmMU8",
+    "$argon2d$v=19$m=128,t=1,p=1$c2FsdHNhbHRzYWx0$cnmEAHaXnZyNK8al32lcZA",
+    "$y$j75$0123456789ab$kb1fsIrDP1wOa4Q3gNpxZkfwQ3ce8kmPbnemuN65IT2",
+    "$y$j6///$./$eG1H3hAdiIw7LAyaeC1wsfq6rJHemsvZ8fPCiI8TWx/",
+    "$7$4/....0....SodiumChloride$V4S.p0ArbLXh9bvI9g1ReO/qmFMyvEX4e98XynaDdN9",
+    "$pbkdf2-sha512$i=999$c2FsdHNhbHRzYWx0$GK6ZfhTx3pI28IQ6HYQzaUek5XduggVQ0zhLSF6WB1ROBlCW2ybd4hR7tgTVg/2i//vv5K7hcJGgBedoUEO6ag",
+];
+
+// Texts without a verdict, and their words.
+pub const FAULTS: [(&str, &str); 31] = [
+    ("$1$abcdefgh", "md5-format"),
+    ("$1$abcdefghi$cHJi5PXp/ki/ktXzqlk6I1", "md5-format"),
+    ("$apr1$", "mcf-delimiter"),
+    ("$5$rounds=1$abcdefgh$x", "sha-rounds"),
+    ("$6$abcdefgh$x", "sha-format"),
+    ("$6$abc:efgh$x", "mcf-encoding"),
+    ("x$1$abcdefgh$cHJi5PXp/ki/ktXzqlk6I1", "mcf-delimiter"),
+    (
+        "$2b$03$abcdefghijklmnopqrstuu2r9OfJnfCsdneAXAGHnS4UpFFP8WIrW",
+        "bcrypt-cost",
+    ),
+    (
+        "$2b$04$abcdefghijklmnopqrstuu2r9OfJnfCsdneAXAGHnS4UpFFP8WIr",
+        "bcrypt-format",
+    ),
+    (
+        "$2b$04$abcdefghijklmnopqrstuv2r9OfJnfCsdneAXAGHnS4UpFFP8WIrW",
+        "bcrypt-b64",
+    ),
+    (
+        "$2b$04$abcdefghijklmnopqrstu+2r9OfJnfCsdneAXAGHnS4UpFFP8WIrW",
+        "bcrypt-b64",
+    ),
+    (
+        "$2x$04$abcdefghijklmnopqrstuu2r9OfJnfCsdneAXAGHnS4UpFFP8WIrW",
+        "bcrypt-obsolete",
+    ),
+    (
+        "$2$04$abcdefghijklmnopqrstuu2r9OfJnfCsdneAXAGHnS4UpFFP8WIrW",
+        "bcrypt-obsolete",
+    ),
+    (
+        "$argon2id$m=64,t=1,p=1$c2FsdHNhbHRzYWx0$Sm3MnLdCFk0Af+croKgebRoqqmhbKd88iiW3yUOXn78",
+        "kdf",
+    ),
+    ("$scrypt$ln=4,r=8,p=1$c2FsdHNhbHRzYWx0", "no-hash"),
+    (
+        "$pbkdf2-sha512$i=0$c2FsdHNhbHRzYWx0$GK6ZfhTx3pI28IQ6HYQzaUek5XduggVQ0zhLSF6WB1ROBlCW2ybd4hR7tgTVg/2i//vv5K7hcJGgBedoUEO6ag",
+        "kdf",
+    ),
+    (
+        "$pbkdf2-sha1$i=1000$c2FsdHNhbHRzYWx0$KoeIRlhBTyFrU8q8BApSMIIhObk",
+        "no-scheme",
+    ),
+    ("$y$j75$0123456789ab", "yescrypt-format"),
+    (
+        "$y$/75$0123456789ab$kb1fsIrDP1wOa4Q3gNpxZkfwQ3ce8kmPbnemuN65IT2",
+        "yescrypt-flavor",
+    ),
+    (
+        "$y$jT5$0123456789ab$kb1fsIrDP1wOa4Q3gNpxZkfwQ3ce8kmPbnemuN65IT2",
+        "yescrypt-cost",
+    ),
+    (
+        "$y$j75$0123456789ab$kb1fsIrDP1wOa4Q3gNpxZkfwQ3ce8kmPbnemuN65IT",
+        "yescrypt-format",
+    ),
+    ("$7$4/..../....SodiumChloride", "scrypt-format"),
+    (
+        "$7$T/..../....SodiumChloride$nlEbTww0ryKdVNlzWsYxiiWbBXRoFx2X8iNJtJTvzX.",
+        "scrypt-cost",
+    ),
+    ("abJnggxhB/yWI", "no-scheme"),
+    ("{SHA}5en6G6MezRroT3XKqkdPOmY/BfQ=", "no-scheme"),
+    (
+        "$md5,rounds=904$iPPKEBnEkp3JV8uX$$0zl94xqyvhRdTxvl8ydHC.",
+        "no-scheme",
+    ),
+    ("$3$$8846f7eaee8fb117ad06bdd830b7586c", "no-scheme"),
+    ("$gy$j9T$abcdefgh$x", "no-scheme"),
+    ("*", "no-scheme"),
+    ("!$6$abcdefgh$x", "mcf-delimiter"),
+    ("", "no-scheme"),
+];
+
+#[test]
+fn words(rt: HostRuntime) {
+    let kdf = record_kdf(rt.alloc());
+    let kept = CryptKept::new(rt.alloc());
+    for stored in TEXTS {
+        let answer = check_any(rt.alloc(), &kdf, &kept, "secret", stored);
+        assert!(rt; word_of(&answer) == "match", "{stored}");
+        let answer = check_any(rt.alloc(), &kdf, &kept, "Secret", stored);
+        assert!(rt; word_of(&answer) == "mismatch", "{stored}");
+    }
+    for (stored, word) in FAULTS {
+        let answer = check_any(rt.alloc(), &kdf, &kept, "secret", stored);
+        assert!(rt; word_of(&answer) == word, "{stored}");
+    }
+}
+
+// The least bound under which each text gets its verdict.
+pub fn least() -> CostLimits {
+    CostLimits {
+        sha_rounds: 5_000,
+        bcrypt_cost: 5,
+        yescrypt_ln: 10,
+        yescrypt_r: 8,
+        yescrypt_t: 2,
+        pbkdf2_rounds: 1_000,
+        scrypt_ln: 6,
+        scrypt_r: 8,
+        scrypt_p: 2,
+        argon2_memory: 128,
+        argon2_passes: 2,
+        argon2_lanes: 2,
+    }
+}
+
+#[test]
+fn bounds_reached(rt: HostRuntime) {
+    let kdf = record_kdf(rt.alloc());
+    let kept = CryptKept::new(rt.alloc());
+    for stored in TEXTS {
+        let answer = check_any_within(rt.alloc(), &kdf, &kept, &least(), "secret", stored);
+        assert!(rt; word_of(&answer) == "match", "{stored}");
+        let answer = check_any_within(rt.alloc(), &kdf, &kept, &least(), "Secret", stored);
+        assert!(rt; word_of(&answer) == "mismatch", "{stored}");
+    }
+    let none = CostLimits {
+        sha_rounds: 0,
+        bcrypt_cost: 0,
+        yescrypt_ln: 0,
+        yescrypt_r: 0,
+        yescrypt_t: 0,
+        pbkdf2_rounds: 0,
+        scrypt_ln: 0,
+        scrypt_r: 0,
+        scrypt_p: 0,
+        argon2_memory: 0,
+        argon2_passes: 0,
+        argon2_lanes: 0,
+    };
+    for (stored, word) in FAULTS {
+        let answer = check_any_within(rt.alloc(), &kdf, &kept, &none, "secret", stored);
+        assert!(rt; word_of(&answer) == word, "{stored}");
+    }
+}
+
+#[test]
+fn bounds_passed(rt: HostRuntime) {
+    let kdf = record_kdf(rt.alloc());
+    let kept = CryptKept::new(rt.alloc());
+    for (number, low) in [
+        (
+            2usize,
+            CostLimits {
+                sha_rounds: 4_999,
+                ..least()
+            },
+        ),
+        (
+            4,
+            CostLimits {
+                sha_rounds: 4_999,
+                ..least()
+            },
+        ),
+        (
+            6,
+            CostLimits {
+                bcrypt_cost: 4,
+                ..least()
+            },
+        ),
+        (
+            7,
+            CostLimits {
+                scrypt_r: 7,
+                ..least()
+            },
+        ),
+        (
+            14,
+            CostLimits {
+                scrypt_ln: 5,
+                ..least()
+            },
+        ),
+        (
+            14,
+            CostLimits {
+                scrypt_p: 1,
+                ..least()
+            },
+        ),
+        (
+            12,
+            CostLimits {
+                yescrypt_ln: 9,
+                ..least()
+            },
+        ),
+        (
+            12,
+            CostLimits {
+                yescrypt_r: 7,
+                ..least()
+            },
+        ),
+        (
+            13,
+            CostLimits {
+                yescrypt_t: 1,
+                ..least()
+            },
+        ),
+        (
+            8,
+            CostLimits {
+                pbkdf2_rounds: 999,
+                ..least()
+            },
+        ),
+        (
+            15,
+            CostLimits {
+                pbkdf2_rounds: 998,
+                ..least()
+            },
+        ),
+        (
+            11,
+            CostLimits {
+                argon2_memory: 127,
+                ..least()
+            },
+        ),
+        (
+            10,
+            CostLimits {
+                argon2_passes: 1,
+                ..least()
+            },
+        ),
+        (
+            10,
+            CostLimits {
+                argon2_lanes: 1,
+                ..least()
+            },
+        ),
+    ] {
+        for (i, stored) in TEXTS.into_iter().enumerate() {
+            let answer = check_any_within(rt.alloc(), &kdf, &kept, &low, "secret", stored);
+            if i == number {
+                assert!(rt; word_of(&answer) == "too-costly", "{stored}");
+            } else if number != 2 && number != 4 && number != 15 {
+                assert!(rt; word_of(&answer) == "match", "{stored}");
+            }
+        }
+    }
+}
+
+#[test]
+fn long_passwords(rt: HostRuntime) {
+    let kdf = record_kdf(rt.alloc());
+    let kept = CryptKept::new(rt.alloc());
+    let bytes = [b'a'; 4097];
+    let Ok(long) = str::from_utf8(&bytes) else {
+        panic!(rt; "letters are text")
+    };
+    let too_long = Err(AnyError::Stored(StoredError::PasswordTooLong));
+    for stored in TEXTS {
+        let answer = check_any(rt.alloc(), &kdf, &kept, long, stored);
+        assert!(rt; answer == too_long, "{stored}");
+        let answer = check_any_within(rt.alloc(), &kdf, &kept, &least(), long, stored);
+        assert!(rt; answer == too_long, "{stored}");
+        let answer = check_any(rt.alloc(), &kdf, &kept, &long[1..], stored);
+        assert!(rt; answer == Ok(false), "{stored}");
+    }
+    let answer = check_any(rt.alloc(), &kdf, &kept, long, "*");
+    assert!(rt; answer == too_long);
+}
+
+// Passwords and texts without a verdict, and the first cause.
+const CAUSES: [(&str, &str, AnyError); 3] = [
+    ("secret", "$1$abcdefgh", AnyError::Md5(Md5Fault::NoHash)),
+    ("secret", "$2a$04", AnyError::Bcrypt(BcryptFault::NoHash)),
+    (
+        "sec\0ret",
+        "$2b$04$abcdefghijklmnopqrstuu2r9OfJnfCsdneAXAGHnS4UpFFP8WIrW",
+        AnyError::ZeroByte,
+    ),
+];
+
+#[test]
+fn first_causes(rt: HostRuntime) {
+    let kdf = record_kdf(rt.alloc());
+    let kept = CryptKept::new(rt.alloc());
+    for (password, stored, cause) in CAUSES {
+        let answer = check_any(rt.alloc(), &kdf, &kept, password, stored);
+        assert!(rt; answer == Err(cause), "{stored}");
+    }
+    let answer = check_any(rt.alloc(), &kdf, &kept, "sec\0ret", TEXTS[5]);
+    assert!(rt; word_of(&answer) == "zero-byte");
+}
+
+#[test]
+fn schemes(rt: HostRuntime) {
+    for (stored, scheme) in [
+        ("$1$x", AnyScheme::Md5Crypt),
+        ("$apr1", AnyScheme::Md5Crypt),
+        ("$5$x", AnyScheme::ShaCrypt(Family::Sha256)),
+        ("$6$", AnyScheme::ShaCrypt(Family::Sha512)),
+        ("$2a$", AnyScheme::Bcrypt),
+        ("$2$", AnyScheme::Bcrypt),
+        ("$y$j9T", AnyScheme::Yescrypt),
+        ("$7$", AnyScheme::Scrypt),
+        ("$scrypt$x", AnyScheme::Record),
+        ("$argon2i", AnyScheme::Record),
+        ("$pbkdf2-sha512$x", AnyScheme::Record),
+    ] {
+        assert!(rt; scheme_of_text(stored) == Some(scheme), "{stored}");
+    }
+}
+
+#[test]
+fn no_scheme(rt: HostRuntime) {
+    for stored in [
+        "",
+        "$",
+        "1",
+        "$$1",
+        "$55$x",
+        "$argon2$x",
+        "$pbkdf2$x",
+        "$gy$x",
+        "!",
+    ] {
+        assert!(rt; scheme_of_text(stored) == None, "{stored}");
+    }
+}
+
+const LINES: &[u8] = b"secret\t$1$abcdefgh$cHJi5PXp/ki/ktXzqlk6I1\n\
+    Secret\t$2b$04$abcdefghijklmnopqrstuu2r9OfJnfCsdneAXAGHnS4UpFFP8WIrW\n\
+    a\tb\t*\nno tab\n\xff\t*\nsec\0ret\t$2y$05$abcdefghijklmnopqrstuuOQiyCxlgf/oeuTqixKmWdcYUh4Hjl0a\n\
+    secret\t$argon2d$v=19$m=128,t=1,p=1$c2FsdHNhbHRzYWx0$cnmEAHaXnZyNK8al32lcZA";
+
+#[test]
+fn lines(rt: HostRuntime) {
+    let limits = CostLimits {
+        argon2_memory: 64,
+        ..least()
+    };
+    for (limits, step, words) in [
+        (
+            None,
+            7,
+            b"match\nmismatch\nno-scheme\nbadline\nbadline\nzero-byte\nmatch\n".as_slice(),
+        ),
+        (
+            Some(limits),
+            100,
+            b"match\nmismatch\nno-scheme\nbadline\nbadline\nzero-byte\ntoo-costly\n",
+        ),
+    ] {
+        let mut room = [0; 100];
+        let mut source = MemorySource::new(LINES, 50, &[]);
+        let mut sink = MemorySink::new(&mut room, step, &[]);
+        let status = run_any(rt.alloc(), limits, &mut source, &mut sink, 1000);
+        assert!(rt; status == 1, "{step}: {status}");
+        assert!(rt; sink.bytes() == words, "{step}");
+    }
+}
+
+// The most bytes of a read and the read that fails, the same of a write, the bound, the output and the status.
+type Devices = (usize, &'static [u64], usize, &'static [u64], u64);
+
+const STATUSES: [(Devices, &[u8], u8); 4] = [
+    ((64, &[], 64, &[], 64), b"match\n", 0),
+    ((20, &[1], 64, &[], 64), b"", 3),
+    ((64, &[], 4, &[1], 64), b"matc", 4),
+    ((64, &[], 64, &[], 20), b"", 6),
+];
+
+#[test]
+fn statuses(rt: HostRuntime) {
+    let line = b"secret\t$1$abcdefgh$cHJi5PXp/ki/ktXzqlk6I1\n".as_slice();
+    for ((read, bad_reads, write, bad_writes, max), output, status) in STATUSES {
+        assert!(rt; read >= 1 && write >= 1 && max <= 64);
+        let mut room = [0; 16];
+        let mut source = MemorySource::new(line, read, bad_reads);
+        let mut sink = MemorySink::new(&mut room, write, bad_writes);
+        let got = run_any(rt.alloc(), None, &mut source, &mut sink, max);
+        assert!(rt; got == status, "{status}: {got}");
+        assert!(rt; sink.bytes() == output, "{status}");
+    }
+}
+
+#[test]
+fn long_lines(rt: HostRuntime) {
+    let mut input = [b'a'; 8194];
+    input[8193] = b'\n';
+    let mut room = [0; 16];
+    let mut source = MemorySource::new(&input, 8194, &[]);
+    let mut sink = MemorySink::new(&mut room, 64, &[]);
+    assert!(rt; run_any(rt.alloc(), None, &mut source, &mut sink, 10_000) == 1);
+    assert!(rt; sink.bytes() == b"toolong\n".as_slice());
+}
+
+// Valid texts of which each digest takes a tenth of a second and more: of each variant and type, and where its texts have several
+// lengths, another one of more than 140 bytes or the shortest.
+pub const DEAR: [&str; 23] = [
+    "$5$rounds=999999999$abcdefgh$gruCpC7VkOTspMQTTSAR8mtlO9Upms.fwqE5y16JVM.",
+    "$5$rounds=999999999$a$gruCpC7VkOTspMQTTSAR8mtlO9Upms.fwqE5y16JVM.",
+    "$6$rounds=999999999$abcdefgh$ltjgWl6579NluT/Vi1nwEvcil.G5Nbc4NiXZaNGStk8PSwGfQv72N2CKPPrVACtLtip/cZ/1GM/O6IND4WQhG.",
+    "$6$rounds=999999999$a$ltjgWl6579NluT/Vi1nwEvcil.G5Nbc4NiXZaNGStk8PSwGfQv72N2CKPPrVACtLtip/cZ/1GM/O6IND4WQhG.",
+    "$2a$31$abcdefghijklmnopqrstuu2r9OfJnfCsdneAXAGHnS4UpFFP8WIrW",
+    "$2b$31$abcdefghijklmnopqrstuu2r9OfJnfCsdneAXAGHnS4UpFFP8WIrW",
+    "$2y$31$abcdefghijklmnopqrstuu2r9OfJnfCsdneAXAGHnS4UpFFP8WIrW",
+    "$y$jFT$0123456789ab$kb1fsIrDP1wOa4Q3gNpxZkfwQ3ce8kmPbnemuN65IT2",
+    "$y$jFT$0123456789ab0123456789ab0123456789ab0123456789ab0123456789ab0123456789ab0123456789ab01$kb1fsIrDP1wOa4Q3gNpxZkfwQ3ce8kmPbnemuN65IT2",
+    "$7$EU..../....SodiumChloride$V4S.p0ArbLXh9bvI9g1ReO/qmFMyvEX4e98XynaDdN9",
+    "$7$EU..../....SodiumChlorideSodiumChlorideSodiumChlorideSodiumChlorideSodiumChlorideSodiumChlorideSo$V4S.p0ArbLXh9bvI9g1ReO/qmFMyvEX4e98XynaDdN9",
+    "$scrypt$ln=17,r=8,p=1024$c2FsdHNhbHRzYWx0$09/untC+3Bg44eiJQ8bqhTXgE2ali+ykLaojkJZlF9U",
+    "$scrypt$ln=17,r=8,p=1024$c2FsdHNhbHRzYWx0c2FsdHNhbHRzYWx0c2FsdHNhbHRzYWx0c2FsdHNhbHRzYWx0$GK6ZfhTx3pI28IQ6HYQzaUek5XduggVQ0zhLSF6WB1ROBlCW2ybd4hR7tgTVg/2i//vv5K7hcJGgBedoUEO6ag",
+    "$pbkdf2-sha256$i=10000000,l=32$c2FsdHNhbHRzYWx0$sVaWem31qy3rw+Ldi3plA/XzhMSNi9/XHnnD1Ytj05o",
+    "$pbkdf2-sha256$i=10000000$c2FsdHNhbHRzYWx0c2FsdHNhbHRzYWx0c2FsdHNhbHRzYWx0c2FsdHNhbHRzYWx0$GK6ZfhTx3pI28IQ6HYQzaUek5XduggVQ0zhLSF6WB1ROBlCW2ybd4hR7tgTVg/2i//vv5K7hcJGgBedoUEO6ag",
+    "$pbkdf2-sha512$i=10000000$c2FsdHNhbHRzYWx0$GK6ZfhTx3pI28IQ6HYQzaUek5XduggVQ0zhLSF6WB1ROBlCW2ybd4hR7tgTVg/2i//vv5K7hcJGgBedoUEO6ag",
+    "$pbkdf2-sha512$i=10000000$c2FsdHNhbHRzYWx0c2FsdHNhbHRzYWx0c2FsdHNhbHRzYWx0c2FsdHNhbHRzYWx0$GK6ZfhTx3pI28IQ6HYQzaUek5XduggVQ0zhLSF6WB1ROBlCW2ybd4hR7tgTVg/2i//vv5K7hcJGgBedoUEO6ag",
+    "$argon2id$v=19$m=2097152,t=1,p=1$c2FsdHNhbHRzYWx0$Sm3MnLdCFk0Af+croKgebRoqqmhbKd88iiW3yUOXn78",
+    "$argon2id$v=19$m=2097152,t=1,p=1$c2FsdHNhbHRzYWx0c2FsdHNhbHRzYWx0c2FsdHNhbHRzYWx0c2FsdHNhbHRzYWx0$GK6ZfhTx3pI28IQ6HYQzaUek5XduggVQ0zhLSF6WB1ROBlCW2ybd4hR7tgTVg/2i//vv5K7hcJGgBedoUEO6ag",
+    "$argon2i$v=19$m=2097152,t=1,p=1$c2FsdHNhbHRzYWx0$Sm3MnLdCFk0Af+croKgebRoqqmhbKd88iiW3yUOXn78",
+    "$argon2i$v=19$m=2097152,t=1,p=1$c2FsdHNhbHRzYWx0c2FsdHNhbHRzYWx0c2FsdHNhbHRzYWx0c2FsdHNhbHRzYWx0$GK6ZfhTx3pI28IQ6HYQzaUek5XduggVQ0zhLSF6WB1ROBlCW2ybd4hR7tgTVg/2i//vv5K7hcJGgBedoUEO6ag",
+    "$argon2d$v=19$m=2097152,t=1,p=1$c2FsdHNhbHRzYWx0$Sm3MnLdCFk0Af+croKgebRoqqmhbKd88iiW3yUOXn78",
+    "$argon2d$v=19$m=2097152,t=1,p=1$c2FsdHNhbHRzYWx0c2FsdHNhbHRzYWx0c2FsdHNhbHRzYWx0c2FsdHNhbHRzYWx0$GK6ZfhTx3pI28IQ6HYQzaUek5XduggVQ0zhLSF6WB1ROBlCW2ybd4hR7tgTVg/2i//vv5K7hcJGgBedoUEO6ag",
+];
+
+// A thousand digests of such a text take more time than a test has.
+#[test]
+fn nothing_is_hashed(rt: HostRuntime) {
+    let kdf = record_kdf(rt.alloc());
+    let kept = CryptKept::new(rt.alloc());
+    for stored in DEAR {
+        for _ in 0..1_000 {
+            let answer = check_any_within(rt.alloc(), &kdf, &kept, &least(), "secret", stored);
+            assert!(rt; answer == Err(AnyError::TooCostly), "{stored}");
+        }
+    }
+}
+
+// An input, the writes that fail, the output and the status. A line with a verdict is written at once: the second write comes
+// behind it. Other words wait.
+const WRITES: [(&[u8], &[u64], &[u8], u8); 6] = [
+    (TWO_VERDICTS, &[], b"match\nmismatch\n", 1),
+    (TWO_VERDICTS, &[1], b"match\n", 4),
+    (
+        b"x\nsecret\t$1$abcdefgh$cHJi5PXp/ki/ktXzqlk6I1\nx\n",
+        &[1],
+        b"badline\nmatch\n",
+        4,
+    ),
+    (
+        b"Secret\t$1$abcdefgh$cHJi5PXp/ki/ktXzqlk6I1\nx\n",
+        &[1],
+        b"mismatch\n",
+        4,
+    ),
+    (b"x\na\t*\n", &[1], b"badline\nno-scheme\n", 1),
+    (b"x\na\t*\n", &[0], b"", 4),
+];
+
+const TWO_VERDICTS: &[u8] = b"secret\t$1$abcdefgh$cHJi5PXp/ki/ktXzqlk6I1\n\
+    Secret\t$1$abcdefgh$cHJi5PXp/ki/ktXzqlk6I1\n";
+
+#[test]
+fn written_behind_a_verdict(rt: HostRuntime) {
+    for (input, failing, output, status) in WRITES {
+        let mut room = [0; 32];
+        let mut source = MemorySource::new(input, 1_000, &[]);
+        let mut sink = MemorySink::new(&mut room, 1_000, failing);
+        let got = run_any(rt.alloc(), None, &mut source, &mut sink, 1_000);
+        assert!(rt; got == status, "{output:?}: {got}");
+        assert!(rt; sink.bytes() == output, "{output:?}");
+    }
+}
