@@ -29,6 +29,7 @@ import struct
 import subprocess
 import sys
 import tempfile
+import time
 
 sys.path.insert(0, os.path.dirname(os.path.abspath(__file__)))
 import pwstore_model as model  # noqa: E402
@@ -317,6 +318,8 @@ def moved(folder):
         else:
             write(far, b"#pwstore 1\nset\tother\t*\n#")
             os.rename(far, name)
+        # a look at the name holds for a millisecond
+        time.sleep(0.005)
         out, told = process.communicate(b"set\tbob\t*\nset\tcleo\t*\n")
         left = [run(file)[1] for file in (name, far) if os.path.exists(file)]
         holds(f"a file that is {how} under a run: {told.decode().strip()}",

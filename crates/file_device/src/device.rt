@@ -13,6 +13,11 @@ use line_log::Device;
 use std::fs::{self, File};
 use std::io;
 use std::os::unix::fs::FileExt;
+use std::time::{Duration, Instant};
+
+/// For how many milliseconds a look at the name holds: it costs a tenth of a change and more on a fast disk, which takes many
+/// changes in this time.
+const LOOK_HOLDS: u64 = 1;
 
 // The kinds of calls, as specs/Calls numbers them.
 pub(crate) const OPENED: u64 = 0;
@@ -64,6 +69,8 @@ pub struct FileDevice<'a> {
     pub(crate) id: Option<FileId>,
     /// How many writes weren't synced yet.
     pub(crate) unsynced: u8,
+    /// When the name was looked up last, since the opening.
+    pub(crate) looked: Option<Instant>,
     pub(crate) replacement: Option<Replacement>,
     /// Whether the folder's new entry isn't synced yet.
     pub(crate) is_renamed: bool,
@@ -106,6 +113,25 @@ fn look_up(rt: &HostRuntime, id: Option<FileId>, name: &str) -> Result<(), Devic
         Some(id) if has_name(rt, id, name)? => Ok(()),
         Some(_) => Err(DeviceFault::Moved),
         None => Err(no_file()),
+    }
+}
+
+// The same, where the last look doesn't hold any more; and when the last look was.
+fn looked_up(
+    rt: &HostRuntime,
+    last: Option<Instant>,
+    id: Option<FileId>,
+    name: &str,
+) -> Result<Option<Instant>, DeviceFault> {
+    let now = Instant::now(rt)?;
+    match last {
+        Some(last) if now.duration_since(last) < Duration::from_millis(LOOK_HOLDS) => {
+            Ok(Some(last))
+        }
+        _ => {
+            look_up(rt, id, name)?;
+            Ok(Some(now))
+        }
     }
 }
 
@@ -198,9 +224,9 @@ impl FileDevice<'_> {
             self.place.folder.sync_all()?;
         }
         sync(&self.file)?;
-        // Two writes stage a group, and one opens it: the name is looked up once a group, before it is opened.
+        // Two writes stage a group, and one opens it: the name is looked up before it is opened.
         if self.unsynced > 1 {
-            look_up(self.rt, self.id, self.place.name.as_str())?;
+            self.looked = looked_up(self.rt, self.looked, self.id, self.place.name.as_str())?;
         }
         self.unsynced = 0;
         self.is_renamed = false;

@@ -191,6 +191,7 @@ pub fn open<'a>(rt: &'a HostRuntime, name: &str) -> Result<Opened<'a>, OpenFault
             file,
             id,
             unsynced: 0,
+            looked: None,
             replacement: None,
             is_renamed: false,
             cause: None,
