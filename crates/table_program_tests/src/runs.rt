@@ -46,7 +46,7 @@ fn changes_that_wait_are_one_group(rt: HostRuntime) {
             panic!(rt; "it is opened")
         };
         let mut room = [0; 64];
-        let mut source = MemorySource::new(b"set\tbob\t$5\nset\tann\t!\n", step, &[]);
+        let mut source = MemorySource::new(b"set\tbob\t$5\nset\tann\t!\n", step.max(1), &[]);
         let mut sink = MemorySink::new(&mut room, 64, &[]);
         assert!(rt; serve(&mut store, &mut source, &mut sink) == 0);
         assert!(rt; sink.bytes() == b"ok\nok\n".as_slice());
@@ -97,7 +97,7 @@ fn faults_of_the_streams(rt: HostRuntime) {
             panic!(rt; "it is opened")
         };
         let mut room = [0; 64];
-        let mut source = MemorySource::new(b"set\tbob\t$5\nset\tann\t!\n", step, reads);
+        let mut source = MemorySource::new(b"set\tbob\t$5\nset\tann\t!\n", step.max(1), reads);
         let mut sink = MemorySink::new(&mut room, piece, writes);
         assert!(rt; serve(&mut store, &mut source, &mut sink) == status);
         assert!(rt; sink.bytes() == replies && store.device().bytes() == after);
