@@ -2,11 +2,16 @@
 """Runs tests and the program with each request for memory refused in turn, and prints a table.
 
     bench/refused_memory.py [--programs] [CRATE..]
+    bench/refused_memory.py --requests [CRATE..]
 
-For each crate (base64ct, mcf, phc, sha_crypt, scrypt_plain and the programs if none is named) `rt try --test --fail-alloc N`
+For each crate (the crates of tests of base64ct, mcf, phc; sha_crypt, scrypt_plain and the programs if none is named) `rt try --test --fail-alloc N`
 runs its tests with request N refused, for N from 1 until a run meets no refusal (at most 40). For pwcheck it also runs
 the program over one line of each kind, for pwfile the program alone, over commands that need no digest. A run ends with its want of memory or as usual; anything else is marked.
 With --programs the tests are left out.
+
+With --requests it counts how often the tests of REQUESTS ask for memory: with each of their requests refused in turn a test
+ends by want of memory, so that no request is tried again and no refusal is passed over, and with the one after them it
+passes, so that no more is asked for. The status is 1 where a test does something else.
 """
 import os
 import re
@@ -14,7 +19,11 @@ import subprocess
 import sys
 
 TOP = os.path.dirname(os.path.dirname(os.path.abspath(__file__)))
-CRATES = ["base64ct", "mcf", "phc", "sha_crypt", "scrypt_plain", "pwcheck", "pwfile"]
+CRATES = ["base64ct_tests", "mcf_tests", "phc_tests", "sha_crypt", "scrypt_plain", "pwcheck", "pwfile"]
+# The requests of a test: one for each vector that a page promises, and one for each growth of a kept table.
+REQUESTS = {
+    "argon2_plain_tests": {"a_record_in_one_vector": 1, "records_in_a_kept_table": 4, "vectors": 3, "answers_before_memory": 0},
+}
 RUNS = {
     "pwcheck": [
         (["check"], b"Hello world!\t$5$saltstring$5B8vYYiY.CVt1RlTTf8KbXBH3hsxY/GNooZaBBGWEc5\n"),
@@ -59,7 +68,37 @@ def rows(crate, flags, data=b"", words=None):
             break
 
 
+def ends(text):
+    """How each test ended: None where it passed, else what it said."""
+    found = {}
+    for name, end, said in re.findall(r"^test tests::(\w+) \.\.\. (\w+)((?:\n +.*)*)", text, re.M):
+        found[name] = None if end == "ok" else said
+    return found
+
+
+def requests(crates):
+    """Whether the tests ask for memory as often as they should."""
+    print("| test | requests | answer |\n|---|---|---|")
+    fine = True
+    for crate in crates or REQUESTS:
+        wrong = {name: [] for name in REQUESTS[crate]}
+        for number in range(1, max(REQUESTS[crate].values()) + 2):
+            done = subprocess.run(["rt", "try", "--test", "--fail-alloc", str(number)], cwd=os.path.join(TOP, "crates", crate),
+                                  stdout=subprocess.PIPE, stderr=subprocess.STDOUT, timeout=600, check=False)
+            found = ends(done.stdout.decode("utf-8", "replace"))
+            for name, most in REQUESTS[crate].items():
+                said = found.get(name, "it did not run")
+                if (said is None) != (number > most) or (said and not WANT.search(said)):
+                    wrong[name].append(f"{number}: {'passed' if said is None else said.strip()}")
+        for name, most in REQUESTS[crate].items():
+            print(f"| {crate} {name} | {most} | {'; '.join(wrong[name]) or 'as promised'} |", flush=True)
+            fine = fine and not wrong[name]
+    return 0 if fine else 1
+
+
 def main():
+    if sys.argv[1:2] == ["--requests"]:
+        sys.exit(requests(sys.argv[2:]))
     print("| run | request refused | answer |\n|---|---|---|")
     tests = "--programs" not in sys.argv
     for crate in [word for word in sys.argv[1:] if word != "--programs"] or CRATES:
