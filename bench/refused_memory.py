@@ -3,8 +3,7 @@
 
     bench/refused_memory.py [--programs] [CRATE..]
 
-For each crate (base64ct, mcf, phc, sha_crypt, scrypt_plain, any_check and the programs if none is named) `rt try --test --fail-alloc N`
-runs its tests with request N refused, for N from 1 until a run meets no refusal (at most 40). The tests are those of CRATE_tests where
+For each crate (those of CRATES if none is named) `rt try --test --fail-alloc N` runs its tests with request N refused, for N from 1 until a run meets no refusal (at most 40). The tests are those of CRATE_tests where
 there is such a crate. For pwcheck it also runs the program over one line of each kind, for pwfile the program alone, over commands that
 need no digest. A run ends with its want of memory or as usual; anything else is marked.
 A test named `takes_N_..` asks for memory N times: runs 1 to N have to end by want of memory, and run N + 1 as usual. So it shows a
@@ -17,7 +16,7 @@ import subprocess
 import sys
 
 TOP = os.path.dirname(os.path.dirname(os.path.abspath(__file__)))
-CRATES = ["base64ct", "mcf", "phc", "sha_crypt", "scrypt_plain", "any_check", "pwcheck_run", "pwcheck", "pwfile"]
+CRATES = ["base64ct", "mcf", "phc", "sha_crypt", "scrypt_plain", "argon2_plain", "any_check", "pwcheck_run", "pwcheck", "pwfile"]
 PROGRAMS = ["pwcheck", "pwfile"]
 RUNS = {
     "pwcheck": [

@@ -3,11 +3,11 @@
 
 ghost use Rattle.std.specs.Prelude.{◌≡◌, ◌≤◌, length};
 
-use crate::{
+use base64ct::Counts;
+use bcrypt_plain::{
     BcryptError, BcryptFault, MakeFault, bcrypt, bcrypt_check, bcrypt_check_counted, bcrypt_simple,
     bcrypt_text, decode_hash, decode_salt, encode_hash, encode_salt, laws, text_cost,
 };
-use base64ct::Counts;
 use rand_chacha::ChaCha20Rng;
 use rand_core::{Rng, SeedableRng};
 
@@ -155,8 +155,8 @@ fn front(bytes: &[u8], count: usize) -> &[u8]
 fn hashes(rt: HostRuntime) {
     for (len, field) in HASHES {
         let hash = bcrypt(front(PASSWORD, len), &SALT, 4);
-        assert_eq!(rt; encode_hash(&hash).as_slice(), field.as_bytes(), "{len}");
-        assert_eq!(rt; decode_hash(field.as_bytes()), Some(hash), "{len}");
+        assert!(rt; encode_hash(&hash).as_slice() == field.as_bytes(), "{len}");
+        assert!(rt; decode_hash(field.as_bytes()) == Some(hash), "{len}");
     }
 }
 
@@ -167,23 +167,23 @@ fn known_answers(rt: HostRuntime) {
         let Some(bytes) = decode_salt(salt.as_bytes()) else {
             panic!(rt; "{salt}")
         };
-        assert_eq!(rt; encode_salt(&bytes).as_slice(), salt.as_bytes());
+        assert!(rt; encode_salt(&bytes).as_slice() == salt.as_bytes(), "{salt}");
         let hash = bcrypt(password, &bytes, cost);
-        assert_eq!(rt; encode_hash(&hash).as_slice(), field.as_bytes(), "{salt}");
+        assert!(rt; encode_hash(&hash).as_slice() == field.as_bytes(), "{salt}");
     }
 }
 
 // A zero byte ends the password of a C program; behind it stands what is repeated, so these have one hash.
 #[test]
 fn zero_bytes_within(rt: HostRuntime) {
-    assert_eq!(rt; bcrypt(b"ab", &SALT, 4), bcrypt(b"ab\0ab", &SALT, 4));
+    assert!(rt; bcrypt(b"ab", &SALT, 4) == bcrypt(b"ab\0ab", &SALT, 4));
 }
 
 #[test]
-fn fields(rt: HostRuntime) {
+fn salts(rt: HostRuntime) {
     let field = encode_salt(&SALT);
-    assert_eq!(rt; field.as_slice(), b"..CA.uOD/eaGAOmJB.yMBu".as_slice());
-    assert_eq!(rt; decode_salt(&field), Some(SALT));
+    assert!(rt; field.as_slice() == b"..CA.uOD/eaGAOmJB.yMBu".as_slice());
+    assert!(rt; decode_salt(&field) == Some(SALT));
     for text in [
         "",
         "..CA.uOD/eaGAOmJB.yMB",
@@ -191,8 +191,12 @@ fn fields(rt: HostRuntime) {
         "..CA.uOD/eaGAOmJB.yMB=",
         "..CA.uOD/eaGAOmJB.yMBu.",
     ] {
-        assert_eq!(rt; decode_salt(text.as_bytes()), None, "{text:?}");
+        assert!(rt; decode_salt(text.as_bytes()) == None, "{text}");
     }
+}
+
+#[test]
+fn hashes_refused(rt: HostRuntime) {
     for text in [
         "",
         "q1wbVgYezarXi1FgOYk1qMNtxVndjJ",
@@ -200,7 +204,7 @@ fn fields(rt: HostRuntime) {
         "q1wbVgYezarXi1FgOYk1qMNtxVndjJm.",
         "q1wbVgYezarXi1FgOYk1qMNtxVn+jJm",
     ] {
-        assert_eq!(rt; decode_hash(text.as_bytes()), None, "{text:?}");
+        assert!(rt; decode_hash(text.as_bytes()) == None, "{text}");
     }
 }
 
@@ -369,30 +373,28 @@ const FAULTS: [(&str, BcryptFault); 40] = [
 fn matches(rt: HostRuntime) {
     for (password, stored) in MATCHES {
         let mut counts = Counts::new();
-        assert_eq!(rt;
-            bcrypt_check_counted(password, stored, &mut counts),
-            Ok(()),
-            "{stored:?}"
+        assert!(rt;
+            bcrypt_check_counted(password, stored, &mut counts) == Ok(()),
+            "{stored}"
         );
-        assert_eq!(rt; counts.looks(), 56);
-        assert_eq!(rt; counts.sames(), 31);
+        assert!(rt; counts.looks() == 56, "{stored}");
+        assert!(rt; counts.sames() == 31, "{stored}");
     }
-    assert_eq!(rt; bcrypt_check("", FIVE), Ok(()));
+    assert!(rt; bcrypt_check("", FIVE) == Ok(()));
 }
 
 #[test]
 fn mismatches(rt: HostRuntime) {
     for (password, stored) in MISMATCHES {
         let mut counts = Counts::new();
-        assert_eq!(rt;
-            bcrypt_check_counted(password, stored, &mut counts),
-            Err(BcryptError::HashMismatch),
-            "{stored:?}"
+        assert!(rt;
+            bcrypt_check_counted(password, stored, &mut counts) == Err(BcryptError::HashMismatch),
+            "{stored}"
         );
-        assert_eq!(rt; counts.looks(), 56);
-        assert_eq!(rt; counts.sames(), 31);
+        assert!(rt; counts.looks() == 56, "{stored}");
+        assert!(rt; counts.sames() == 31, "{stored}");
     }
-    assert_eq!(rt; bcrypt_check("x", FIVE), Err(BcryptError::HashMismatch));
+    assert!(rt; bcrypt_check("x", FIVE) == Err(BcryptError::HashMismatch));
 }
 
 #[test]
@@ -400,41 +402,101 @@ fn faults(rt: HostRuntime) {
     for (stored, fault) in FAULTS {
         let mut counts = Counts::new();
         for password in ["", "a\0b"] {
-            assert_eq!(rt;
-                bcrypt_check(password, stored),
-                Err(BcryptError::InvalidFormat(fault)),
-                "{stored:?}"
+            assert!(rt;
+                bcrypt_check(password, stored) == Err(BcryptError::InvalidFormat(fault)),
+                "{stored}"
             );
         }
-        assert_eq!(rt;
-            bcrypt_check_counted("x", stored, &mut counts),
-            Err(BcryptError::InvalidFormat(fault)),
-            "{stored:?}"
+        assert!(rt;
+            bcrypt_check_counted("x", stored, &mut counts)
+                == Err(BcryptError::InvalidFormat(fault)),
+            "{stored}"
         );
-        assert_eq!(rt; text_cost(stored), Err(fault), "{stored:?}");
-        assert!(rt; counts.looks() <= 56 && counts.sames() <= 8);
+        assert!(rt; text_cost(stored) == Err(fault), "{stored}");
+        assert!(rt; counts.looks() <= 56 && counts.sames() <= 8, "{stored}");
     }
-    assert_eq!(rt; text_cost(FIVE), Ok(5));
+}
+
+#[test]
+fn costs_without_a_hash(rt: HostRuntime) {
+    assert!(rt; text_cost(FIVE) == Ok(5));
     // 2^31 turns would take days, so nothing was hashed.
-    assert_eq!(rt;
-        text_cost("$2a$31$abcdefghijklmnopqrstuu0oImNDIy4flhldV9YqunRgBAePKmw7m"),
-        Ok(31)
+    assert!(rt;
+        text_cost("$2a$31$abcdefghijklmnopqrstuu0oImNDIy4flhldV9YqunRgBAePKmw7m") == Ok(31)
     );
-    assert_eq!(rt;
+    assert!(rt;
         bcrypt_check(
             "a\0b",
             "$2b$31$abcdefghijklmnopqrstuu0oImNDIy4flhldV9YqunRgBAePKmw7m"
-        ),
-        Err(BcryptError::ZeroByte)
+        ) == Err(BcryptError::ZeroByte)
     );
+}
+
+// A text of each low cost, and how often the cost is asked for: so many hashes last longer than the minute that a test has.
+const LOW_COSTS: [(&str, u32, usize); 9] = [
+    (
+        "$2b$04$abcdefghijklmnopqrstuu0oImNDIy4flhldV9YqunRgBAePKmw7m",
+        4,
+        100_000,
+    ),
+    (
+        "$2b$05$abcdefghijklmnopqrstuu0oImNDIy4flhldV9YqunRgBAePKmw7m",
+        5,
+        50_000,
+    ),
+    (
+        "$2b$06$abcdefghijklmnopqrstuu0oImNDIy4flhldV9YqunRgBAePKmw7m",
+        6,
+        25_000,
+    ),
+    (
+        "$2b$07$abcdefghijklmnopqrstuu0oImNDIy4flhldV9YqunRgBAePKmw7m",
+        7,
+        12_500,
+    ),
+    (
+        "$2b$08$abcdefghijklmnopqrstuu0oImNDIy4flhldV9YqunRgBAePKmw7m",
+        8,
+        6_250,
+    ),
+    (
+        "$2b$09$abcdefghijklmnopqrstuu0oImNDIy4flhldV9YqunRgBAePKmw7m",
+        9,
+        3_125,
+    ),
+    (
+        "$2b$10$abcdefghijklmnopqrstuu0oImNDIy4flhldV9YqunRgBAePKmw7m",
+        10,
+        1_562,
+    ),
+    (
+        "$2b$11$abcdefghijklmnopqrstuu0oImNDIy4flhldV9YqunRgBAePKmw7m",
+        11,
+        781,
+    ),
+    (
+        "$2b$12$abcdefghijklmnopqrstuu0oImNDIy4flhldV9YqunRgBAePKmw7m",
+        12,
+        390,
+    ),
+];
+
+#[test]
+fn low_costs_without_a_hash(rt: HostRuntime) {
+    for (stored, cost, rounds) in LOW_COSTS {
+        for _i in 0..rounds {
+            assert!(rt; text_cost(stored) == Ok(cost), "{stored}");
+        }
+    }
+}
+
+#[test]
+fn counts_of_a_zero_byte(rt: HostRuntime) {
     let mut counts = Counts::new();
-    assert_eq!(rt; bcrypt_check("a\0b", FIVE), Err(BcryptError::ZeroByte));
-    assert_eq!(rt;
-        bcrypt_check_counted("\0", FIVE, &mut counts),
-        Err(BcryptError::ZeroByte)
-    );
-    assert_eq!(rt; counts.looks(), 56);
-    assert_eq!(rt; counts.sames(), 8);
+    assert!(rt; bcrypt_check("a\0b", FIVE) == Err(BcryptError::ZeroByte));
+    assert!(rt; bcrypt_check_counted("\0", FIVE, &mut counts) == Err(BcryptError::ZeroByte));
+    assert!(rt; counts.looks() == 56);
+    assert!(rt; counts.sames() == 8);
 }
 
 #[test]
@@ -459,7 +521,7 @@ fn texts_made(rt: HostRuntime) {
         let Ok(made) = bcrypt_text(password, &SALT, cost) else {
             panic!(rt; "{text}")
         };
-        assert_eq!(rt; made.as_slice(), text.as_bytes());
+        assert!(rt; made.as_slice() == text.as_bytes(), "{text}");
     }
 }
 
@@ -476,10 +538,18 @@ fn texts_refused(rt: HostRuntime) {
         (b"a\0".as_slice(), 31, MakeFault::ZeroByte),
         ([0; 72].as_slice(), 4, MakeFault::ZeroByte),
     ] {
-        assert_eq!(rt; bcrypt_text(password, &SALT, cost).err(), Some(fault));
-        assert_eq!(rt; bcrypt_simple(&mut rng, password, cost).err(), Some(fault));
+        assert!(rt;
+            bcrypt_text(password, &SALT, cost).err() == Some(fault),
+            "{cost} {}",
+            password.len()
+        );
+        assert!(rt;
+            bcrypt_simple(&mut rng, password, cost).err() == Some(fault),
+            "{cost} {}",
+            password.len()
+        );
     }
-    assert_eq!(rt; rng.next_u32(), 0xade0_b876);
+    assert!(rt; rng.next_u32() == 0xade0_b876);
 }
 
 // The texts are those of libxcrypt for the salts of ChaCha20's stream under a key of zeros (RFC 8439, A.1).
@@ -499,8 +569,8 @@ fn texts_from_a_generator(rt: HostRuntime) {
         let Ok(made) = bcrypt_simple(&mut rng, b"correct horse", cost) else {
             panic!(rt; "{text}")
         };
-        assert_eq!(rt; made.as_slice(), text.as_bytes());
-        assert_eq!(rt; bcrypt_check("correct horse", text), Ok(()));
+        assert!(rt; made.as_slice() == text.as_bytes(), "{text}");
+        assert!(rt; bcrypt_check("correct horse", text) == Ok(()), "{text}");
     }
 }
 
