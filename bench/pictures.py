@@ -20,7 +20,7 @@ STYLE = (
 # The layers of the first picture, from what people run down to what all stands on.
 LAYERS = [
     ("programs, C libraries", ["pwtool", "pwcheck", "pwfile", "pwstore", "pwkdf", "pwlegacy", "wrapstream", "pwcheck_c", "pwcrypt_c"]),
-    ("forms of programs", ["pwcheck_run"]),
+    ("forms of programs", ["pwtool_cli", "pwtool_forms", "pwcheck_run"]),
     ("lines of users", ["any_users", "any_survey", "foreign_lines", "user_lines"]),
     ("tables of users", ["table_program", "pw_store", "any_table", "pw_file"]),
     ("loops over lines", ["line_state", "line_program", "wrap_stream"]),

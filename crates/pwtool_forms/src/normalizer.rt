@@ -6,7 +6,7 @@ ghost use Rattle.line_io.specs.Limits.{line_max};
 ghost use Rattle.line_program.specs.Outcome.{Outcome};
 ghost use Rattle.pieces.specs.FaultCounts.{HasRisen};
 ghost use Rattle.stored_check.specs.Normal.{normal};
-ghost use Rattle.pwtool.specs.Normalize.{normal_line, normal_rules};
+ghost use Rattle.pwtool_forms.specs.Normalize.{normal_line, normal_rules};
 
 use line_io::{INPUT_MAX, OutputBuffer, Sink, Source};
 use line_program::{Responder, run_lines};
@@ -56,7 +56,7 @@ fn normal_line<'o>(line: &[u8], out: &'o mut [u8; ROOM]) -> &'o [u8]
 pub struct Normalizer;
 
 impl Responder for Normalizer {
-    ghost use Rattle.pwtool.specs.NormalState.{normalizer_rules};
+    ghost use Rattle.pwtool_forms.specs.NormalState.{normalizer_rules};
 
     ghost rules = { normalizer_rules };
 

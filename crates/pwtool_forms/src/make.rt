@@ -2,7 +2,7 @@
 
 ghost use Rattle.std.specs.Prelude.{◌≡◌};
 ghost use Rattle.any_make.specs.Costs.{scheme_of};
-ghost use Rattle.pwtool.specs.Make.{end_status};
+ghost use Rattle.pwtool_forms.specs.Make.{end_status};
 
 use crate::fault::say;
 use crate::status::BAD_WORDS;
@@ -23,7 +23,7 @@ fn number(matches: &ArgMatches<'_>, option: &str, recommended: u32) -> u32 {
 }
 
 /// What the text is to cost, by the options and the recommendation.
-pub(crate) fn cost_of(matches: &ArgMatches<'_>, recommended: MakeCost) -> MakeCost
+pub fn cost_of(matches: &ArgMatches<'_>, recommended: MakeCost) -> MakeCost
     ensures scheme { scheme_of result ≡ scheme_of recommended }
 {
     match recommended {
@@ -113,7 +113,7 @@ fn cause_of(fault: MakeFault) -> &'static str {
 }
 
 /// Says why there is no text, and gives the status.
-pub(crate) fn told(rt: &impl Eprint, end: MakeEnd) -> u8
+pub fn told(rt: &impl Eprint, end: MakeEnd) -> u8
     ensures status { result ≡ end_status end }
 {
     match end {

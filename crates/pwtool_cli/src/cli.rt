@@ -1,9 +1,9 @@
 //! The command line.
 
-use crate::from::with_from;
 use crate::make_cli::{make, normalize, unwrap, wrap};
+use crate::options::{file, flag, form, plus, wanted, with_from, with_telling};
 use crate::table_form::table;
-use clap::{Arg, ArgAction, Command, value_parser};
+use clap::{Arg, Command, value_parser};
 use std::alloc::{AllocError, Global};
 
 /// What stands behind the options in the help of the program.
@@ -109,16 +109,6 @@ fn costs() -> [CostOption; 12] {
     ]
 }
 
-// The argument of an option.
-fn argument<'a>(alloc: Global, option: &CostOption) -> Arg<'a> {
-    Arg::new(alloc, option.name)
-        .long(option.name)
-        .value_name("N")
-        .value_parser(value_parser!(u32).range(option.least..=option.most))
-        .help_heading("The most that a stored text may ask for (left out: what its scheme takes)")
-        .help(option.help)
-}
-
 // The least costs that aren't weak.
 fn least_costs() -> [CostOption; 7] {
     [
@@ -139,120 +129,127 @@ fn least(name: &'static str, help: &'static str) -> CostOption {
     cost(name, help, 0, 4_294_967_295)
 }
 
-// The argument of one of them.
-fn least_argument<'a>(alloc: Global, option: &CostOption) -> Arg<'a> {
+// The argument of an option.
+fn argument<'a>(alloc: Global, option: &CostOption, heading: &'static str) -> Arg<'a> {
     Arg::new(alloc, option.name)
         .long(option.name)
         .value_name("N")
         .value_parser(value_parser!(u32).range(option.least..=option.most))
-        .help_heading("The least that isn't weak (left out: the number that stands behind)")
+        .help_heading(heading)
         .help(option.help)
 }
 
-// A form with the options of the least costs.
-fn with_least_costs<'a>(alloc: Global, command: Command<'a>) -> Result<Command<'a>, AllocError> {
+// A form with options that bound costs, below a heading.
+fn with_costs<'a>(
+    alloc: Global,
+    command: Result<Command<'a>, AllocError>,
+    options: &[CostOption],
+    heading: &'static str,
+) -> Result<Command<'a>, AllocError> {
     let mut command = command;
-    for option in &least_costs() {
-        command = command.arg(least_argument(alloc, option))?;
+    for option in options {
+        command = plus(command, argument(alloc, option, heading));
     }
-    Ok(command)
+    command
 }
 
-// A form with the options that bound costs.
-fn with_costs<'a>(alloc: Global, command: Command<'a>) -> Result<Command<'a>, AllocError> {
-    let mut command = command;
-    for option in &costs() {
-        command = command.arg(argument(alloc, option))?;
-    }
-    Ok(command)
-}
+/// The heading of the bounds on cost.
+const MOST: &str = "The most that a stored text may ask for (left out: what its scheme takes)";
 
-// A form with the options that say what is told on standard error.
-fn with_telling<'a>(alloc: Global, command: Command<'a>) -> Result<Command<'a>, AllocError> {
-    let progress = Arg::new(alloc, "progress")
-        .long("progress")
-        .action(ArgAction::SetTrue)
-        .help(
-            "Tell once a second on standard error how far the run is (a terminal is told anyway)",
-        );
-    let quiet = Arg::new(alloc, "quiet")
-        .long("quiet")
-        .action(ArgAction::SetTrue)
-        .help("Tell nothing but errors on standard error, and the progress if it is asked for");
-    command.arg(progress)?.arg(quiet)
-}
+/// The heading of the least costs.
+const LEAST: &str = "The least that isn't weak (left out: the number that stands behind)";
 
 // The form `check`.
 fn check<'a>(alloc: Global) -> Result<Command<'a>, AllocError> {
-    let file = Arg::new(alloc, "FILE").help("The file; standard input where it is left out or -");
-    let users = Arg::new(alloc, "users")
-        .long("users")
-        .action(ArgAction::SetTrue)
-        .help("Lines begin with a user and a colon; keep the user before the word");
-    let command = Command::new(alloc, "check")
-        .about("Answer each line, a password, a tab and a stored text, with one word")
-        .after_help(LINES)
-        .arg(file)?
-        .arg(users)?;
-    with_costs(alloc, with_telling(alloc, with_from(alloc, command)?)?)
+    let command = form(
+        alloc,
+        "check",
+        "Answer each line, a password, a tab and a stored text, with one word",
+        LINES,
+    );
+    let command = plus(Ok(command), file(alloc));
+    let users = "Lines begin with a user and a colon; keep the user before the word";
+    let command = plus(command, flag(alloc, "users", users));
+    with_costs(
+        alloc,
+        with_telling(alloc, with_from(alloc, command)),
+        &costs(),
+        MOST,
+    )
 }
 
 // The form `join`.
 fn join<'a>(alloc: Global) -> Result<Command<'a>, AllocError> {
-    let texts = Arg::new(alloc, "TEXTS").required(true).help(
-        "A shadow or htpasswd file: a user, a colon and a stored text a line",
+    let command = form(
+        alloc,
+        "join",
+        "Answer each user of a shadow or htpasswd file by the password in another file",
+        USERS,
     );
-    let passwords = Arg::new(alloc, "PASSWORDS")
-        .required(true)
-        .help("A user, a colon and a password a line");
-    let no_text = Arg::new(alloc, "no-text")
-        .long("no-text")
-        .action(ArgAction::SetTrue)
-        .help("Answer the users of PASSWORDS who have no line in TEXTS, and check no password");
-    let command = Command::new(alloc, "join")
-        .about("Answer each user of a shadow or htpasswd file by the password in another file")
-        .after_help(USERS)
-        .arg(texts)?
-        .arg(passwords)?
-        .arg(no_text)?;
-    with_costs(alloc, with_telling(alloc, with_from(alloc, command)?)?)
+    let texts = "A shadow or htpasswd file: a user, a colon and a stored text a line";
+    let command = plus(Ok(command), wanted(alloc, "TEXTS", texts));
+    let passwords = "A user, a colon and a password a line";
+    let command = plus(command, wanted(alloc, "PASSWORDS", passwords));
+    let no_text = "Answer the users of PASSWORDS who have no line in TEXTS, and check no password";
+    let command = plus(command, flag(alloc, "no-text", no_text));
+    with_costs(
+        alloc,
+        with_telling(alloc, with_from(alloc, command)),
+        &costs(),
+        MOST,
+    )
 }
 
 // The form `survey`.
 fn survey<'a>(alloc: Global) -> Result<Command<'a>, AllocError> {
-    let file = Arg::new(alloc, "FILE").help("The file; standard input where it is left out or -");
-    let csv = Arg::new(alloc, "csv")
-        .long("csv")
-        .action(ArgAction::SetTrue)
-        .help("Write four fields of CSV a line, and no counts");
-    let json = Arg::new(alloc, "json")
-        .long("json")
-        .action(ArgAction::SetTrue)
-        .help("Write an object of JSON a line, and no counts");
-    let command = Command::new(alloc, "survey")
-        .about("Tell the scheme and the cost of each user's stored text, and whether it is weak")
-        .after_help(TEXTS)
-        .arg(file)?
-        .arg(csv)?
-        .arg(json)?;
-    with_least_costs(alloc, with_telling(alloc, with_from(alloc, command)?)?)
+    let command = form(
+        alloc,
+        "survey",
+        "Tell the scheme and the cost of each user's stored text, and whether it is weak",
+        TEXTS,
+    );
+    let command = plus(Ok(command), file(alloc));
+    let csv = "Write four fields of CSV a line, and no counts";
+    let command = plus(command, flag(alloc, "csv", csv));
+    let json = "Write an object of JSON a line, and no counts";
+    let command = plus(command, flag(alloc, "json", json));
+    with_costs(
+        alloc,
+        with_telling(alloc, with_from(alloc, command)),
+        &least_costs(),
+        LEAST,
+    )
+}
+
+// The command line without its forms.
+fn program<'a>(alloc: Global) -> Result<Command<'a>, AllocError> {
+    let command = Command::new(alloc, "pwtool").bin_name("pwtool")?;
+    Ok(
+        command
+            .version("0.1.0")
+            .about("Passwords checked against stored texts of every scheme")
+            .subcommand_required(true)
+            .disable_help_subcommand(true)
+            .after_help(STATUSES),
+    )
+}
+
+// A command line with one more form.
+fn with<'a>(
+    command: Result<Command<'a>, AllocError>,
+    form: Result<Command<'a>, AllocError>,
+) -> Result<Command<'a>, AllocError> {
+    command?.subcommand(form?)
 }
 
 /// The program's command line.
 pub fn command<'a>(alloc: Global) -> Result<Command<'a>, AllocError> {
-    Command::new(alloc, "pwtool")
-        .bin_name("pwtool")?
-        .version("0.1.0")
-        .about("Passwords checked against stored texts of every scheme")
-        .subcommand_required(true)
-        .disable_help_subcommand(true)
-        .after_help(STATUSES)
-        .subcommand(check(alloc)?)?
-        .subcommand(join(alloc)?)?
-        .subcommand(survey(alloc)?)?
-        .subcommand(make(alloc)?)?
-        .subcommand(table(alloc)?)?
-        .subcommand(normalize(alloc)?)?
-        .subcommand(wrap(alloc)?)?
-        .subcommand(unwrap(alloc)?)
+    let command = with(program(alloc), check(alloc));
+    let command = with(command, join(alloc));
+    let command = with(command, survey(alloc));
+    let command = with(command, make(alloc));
+    let command = with(command, table(alloc));
+    let command = with(command, normalize(alloc));
+    let command = with(command, wrap(alloc));
+    with(command, unwrap(alloc))
 }

@@ -1,11 +1,11 @@
 //! Each form over sources and sinks in memory, which have ample memory: the answer and the whole output. The texts are
 //! openssl's, of the password `secret`.
 
-use crate::{check_lines, check_users, join_fewer, join_files, survey_lines, tell_no_text};
 use any_check::CostLimits;
 use any_survey::{Format, LeastCosts, SurveyLines};
 use any_users::JoinEnd;
 use line_io::{MemorySink, MemorySource};
+use pwtool_forms::{check_lines, check_users, join_fewer, join_files, survey_lines, tell_no_text};
 use std::hash::RandomState;
 use std::test::Fail;
 
@@ -47,36 +47,33 @@ const TEXTS: &[u8] = b"root:!:19000:0:99999:7:::\n\
 
 const PASSWORDS: &[u8] = b"bob:secret\nann:secret\neve:secret\n";
 
-// The bound, and the words of the two lines.
-const BOUNDS: [(Option<CostLimits>, &[u8], &[u8], u8); 2] = [
-    (None, b"match\nmatch\n", b"ann\tmatch\neve\tmatch\n", 0),
-    (
-        Some(LIMITS),
-        b"match\ntoo-costly\n",
-        b"ann\tmatch\neve\ttoo-costly\n",
-        1,
-    ),
+// Whether lines begin with a user, the bound, what is written for the two lines, and the status.
+const BOUNDS: [(bool, Option<CostLimits>, &[u8], u8); 4] = [
+    (false, None, b"match\nmatch\n", 0),
+    (false, Some(LIMITS), b"match\ntoo-costly\n", 1),
+    (true, None, b"ann\tmatch\neve\tmatch\n", 0),
+    (true, Some(LIMITS), b"ann\tmatch\neve\ttoo-costly\n", 1),
 ];
 
 #[test]
 fn lines_with_and_without_users(rt: HostRuntime) {
-    for (limits, words, with_users, status) in BOUNDS {
+    for (has_users, limits, output, wanted) in BOUNDS {
         let mut room = [0; 64];
-        let mut source = MemorySource::new(LINES, 30, &[]);
+        let mut source = MemorySource::new(if has_users { USERS } else { LINES }, 30, &[]);
         let mut sink = MemorySink::new(&mut room, 9, &[]);
-        assert_eq!(rt;
-            check_lines(rt.alloc(), limits, &mut source, &mut sink),
-            status
+        let status = if has_users {
+            check_users(rt.alloc(), limits, &mut source, &mut sink)
+        } else {
+            check_lines(rt.alloc(), limits, &mut source, &mut sink)
+        };
+        assert!(rt;
+            status == wanted,
+            "users {has_users}, status {wanted}: {status}"
         );
-        assert_eq!(rt; sink.bytes(), words);
-        let mut room = [0; 64];
-        let mut source = MemorySource::new(USERS, 30, &[]);
-        let mut sink = MemorySink::new(&mut room, 9, &[]);
-        assert_eq!(rt;
-            check_users(rt.alloc(), limits, &mut source, &mut sink),
-            status
+        assert!(rt;
+            sink.bytes() == output,
+            "users {has_users}, status {wanted}"
         );
-        assert_eq!(rt; sink.bytes(), with_users);
     }
 }
 
@@ -91,47 +88,41 @@ fn rows_of_a_survey(rt: HostRuntime) {
     let mut source = MemorySource::new(TEXTS, 30, &[]);
     let mut sink = MemorySink::new(&mut room, 9, &[]);
     let mut lines = SurveyLines::new(LEAST, Format::Tabs);
-    assert_eq!(rt; survey_lines(&mut lines, &mut source, &mut sink), 1);
-    assert_eq!(rt; sink.bytes(), ROWS);
+    assert!(rt; survey_lines(&mut lines, &mut source, &mut sink) == 1);
+    assert!(rt; sink.bytes() == ROWS);
 }
 
-const JOINED: &[u8] = b"root\tlocked\nann\tmatch\neve\t";
+// The bound, and what is written for the users of the texts.
+const JOINED: [(Option<CostLimits>, &[u8]); 2] = [
+    (None, b"root\tlocked\nann\tmatch\neve\tmatch\n"),
+    (Some(LIMITS), b"root\tlocked\nann\tmatch\neve\ttoo-costly\n"),
+];
 
 #[test]
 fn users_of_two_files(rt: HostRuntime) -> Result<(), Fail> {
-    for (limits, last) in [
-        (None, b"match\n".as_slice()),
-        (Some(LIMITS), b"too-costly\n"),
-    ] {
+    for (limits, output) in JOINED {
         let mut room = [0; 64];
         let keys = RandomState::new(&rt)?;
         let mut passwords = MemorySource::new(PASSWORDS, 5, &[]);
         let mut texts = MemorySource::new(TEXTS, 30, &[]);
         let mut sink = MemorySink::new(&mut room, 9, &[]);
-        assert_eq!(rt;
-            join_files(
-                rt.alloc(),
-                keys,
-                limits,
-                &mut passwords,
-                &mut texts,
-                &mut sink
-            ),
-            JoinEnd::Texts(1)
+        let end = join_files(
+            rt.alloc(),
+            keys,
+            limits,
+            &mut passwords,
+            &mut texts,
+            &mut sink,
         );
-        assert!(rt; sink.bytes().starts_with(JOINED));
-        assert!(rt; sink.bytes().ends_with(last));
-        assert_eq!(rt; sink.bytes().len(), JOINED.len().saturating_add(last.len()));
+        assert!(rt; end == JoinEnd::Texts(1), "{limits:?}");
+        assert!(rt; sink.bytes() == output, "{limits:?}");
     }
     Ok(())
 }
 
 #[test]
 fn users_of_a_small_and_a_great_file(rt: HostRuntime) -> Result<(), Fail> {
-    for (limits, last) in [
-        (None, b"match\n".as_slice()),
-        (Some(LIMITS), b"too-costly\n"),
-    ] {
+    for (limits, output) in JOINED {
         let mut room = [0; 64];
         let keys = RandomState::new(&rt)?;
         let mut users = MemorySource::new(TEXTS, 30, &[]);
@@ -147,10 +138,8 @@ fn users_of_a_small_and_a_great_file(rt: HostRuntime) -> Result<(), Fail> {
             &mut texts,
             &mut sink,
         );
-        assert_eq!(rt; end, Ok(JoinEnd::Texts(1)));
-        assert!(rt; sink.bytes().starts_with(JOINED));
-        assert!(rt; sink.bytes().ends_with(last));
-        assert_eq!(rt; sink.bytes().len(), JOINED.len().saturating_add(last.len()));
+        assert!(rt; end == Ok(JoinEnd::Texts(1)), "{limits:?}");
+        assert!(rt; sink.bytes() == output, "{limits:?}");
     }
     Ok(())
 }
@@ -162,10 +151,8 @@ fn passwords_without_a_text(rt: HostRuntime) -> Result<(), Fail> {
     let mut texts = MemorySource::new(TEXTS, 30, &[]);
     let mut passwords = MemorySource::new(PASSWORDS, 5, &[]);
     let mut sink = MemorySink::new(&mut room, 9, &[]);
-    assert_eq!(rt;
-        tell_no_text(rt.alloc(), keys, &mut texts, &mut passwords, &mut sink),
-        JoinEnd::Passwords(1)
-    );
-    assert_eq!(rt; sink.bytes(), b"bob\tno-text\n".as_slice());
+    let end = tell_no_text(rt.alloc(), keys, &mut texts, &mut passwords, &mut sink);
+    assert!(rt; end == JoinEnd::Passwords(1));
+    assert!(rt; sink.bytes() == b"bob\tno-text\n".as_slice());
     Ok(())
 }

@@ -1,7 +1,7 @@
 use Rattle.std.proofs.Common.{ℕ, List, ◌++◌, length, drop, sym, ap, ◌∙◌}
 use Rattle.stored_check.proofs.Records.{normal_of_other_bytes}
 use Rattle.line_program.proofs.LastTab.{not_text}
-use Rattle.pwtool.proofs.normalizer.write_line.Goals as goal
+use Rattle.pwtool_forms.proofs.normalizer.write_line.Goals as goal
 
 pub returns-in-None-clause-length : goal.returns-in-None-clause-length
 returns-in-None-clause-length c =

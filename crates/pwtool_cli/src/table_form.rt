@@ -1,8 +1,8 @@
 //! The form `table`: its command line, and what it asks of `table_program`.
 
-use crate::fault::say;
-use crate::status::BAD_WORDS;
 use clap::{Arg, ArgMatches, Command};
+use pwtool_forms::fault::say;
+use pwtool_forms::status::BAD_WORDS;
 use std::alloc::{AllocError, Global};
 use table_program::{HELP, compact_file, serve_file};
 

@@ -2,10 +2,10 @@ use Rattle.std.proofs.Common.{◌^◌, refl}
 use Rattle.line_program.specs.Rules.{from_state}
 use Rattle.line_program.proofs.RuleLaws.{each_by_itself}
 use Rattle.line_program.proofs.Told.{outcome_as}
-use Rattle.pwtool.specs.Normalize.{normal_rules}
-use Rattle.pwtool.specs.NormalState.{normalizer_rules}
-use Rattle.pwtool.specs.declared.normalizer.Normalizer.{Normalizer}
-use Rattle.pwtool.proofs.normalizer.normalize_lines.Goals as goal
+use Rattle.pwtool_forms.specs.Normalize.{normal_rules}
+use Rattle.pwtool_forms.specs.NormalState.{normalizer_rules}
+use Rattle.pwtool_forms.specs.declared.normalizer.Normalizer.{Normalizer}
+use Rattle.pwtool_forms.proofs.normalizer.normalize_lines.Goals as goal
 
 pub returns-clause-outcome : goal.returns-clause-outcome
 returns-clause-outcome g c =

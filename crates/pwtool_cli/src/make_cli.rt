@@ -1,6 +1,7 @@
 //! The command lines of the forms that make texts, and of those that the small programs have too.
 
-use clap::{Arg, ArgAction, Command, value_parser};
+use crate::options::{file, flag, form, plus, wanted};
+use clap::{Arg, Command, value_parser};
 use std::alloc::{AllocError, Global};
 
 /// What stands behind the options in the help of `make`.
@@ -77,35 +78,28 @@ fn argument<'a>(alloc: Global, number: &CostNumber) -> Arg<'a> {
 
 /// The form `make`.
 pub fn make<'a>(alloc: Global) -> Result<Command<'a>, AllocError> {
-    let scheme = Arg::new(alloc, "SCHEME")
-        .required(true)
-        .help("The scheme, by its name");
-    let echo = Arg::new(alloc, "echo")
-        .long("echo")
-        .action(ArgAction::SetTrue)
-        .help("Read the password from a terminal too, which shows what is typed");
-    let mut command = Command::new(alloc, "make")
-        .about("Make the text of a new password, which standard input gives")
-        .after_help(SCHEMES)
-        .arg(scheme)?
-        .arg(echo)?;
+    let command = form(
+        alloc,
+        "make",
+        "Make the text of a new password, which standard input gives",
+        SCHEMES,
+    );
+    let command = plus(
+        Ok(command),
+        wanted(alloc, "SCHEME", "The scheme, by its name"),
+    );
+    let echo = "Read the password from a terminal too, which shows what is typed";
+    let mut command = plus(command, flag(alloc, "echo", echo));
     for number in &numbers() {
-        command = command.arg(argument(alloc, number))?;
+        command = plus(command, argument(alloc, number));
     }
-    Ok(command)
-}
-
-// The argument that names a file.
-fn file<'a>(alloc: Global) -> Arg<'a> {
-    Arg::new(alloc, "FILE").help("The file; standard input where it is left out or -")
+    command
 }
 
 /// The form `normalize`.
 pub fn normalize<'a>(alloc: Global) -> Result<Command<'a>, AllocError> {
-    Command::new(alloc, "normalize")
-        .about("Write each line, a stored text, in its one spelling")
-        .after_help(NORMAL)
-        .arg(file(alloc))
+    let about = "Write each line, a stored text, in its one spelling";
+    plus(Ok(form(alloc, "normalize", about, NORMAL)), file(alloc))
 }
 
 // A form over the bytes of a file, with the width of the lines.
@@ -114,14 +108,9 @@ fn stream<'a>(
     name: &'static str,
     about: &'static str,
 ) -> Result<Command<'a>, AllocError> {
-    let width = Arg::new(alloc, "W")
-        .required(true)
-        .help("The characters of a line, 4 to 65536");
-    Command::new(alloc, name)
-        .about(about)
-        .after_help(WIDTHS)
-        .arg(width)?
-        .arg(file(alloc))
+    let width = wanted(alloc, "W", "The characters of a line, 4 to 65536");
+    let command = plus(Ok(form(alloc, name, about, WIDTHS)), width);
+    plus(command, file(alloc))
 }
 
 /// The form `wrap`.

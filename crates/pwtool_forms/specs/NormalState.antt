@@ -1,8 +1,8 @@
 -- The rules of what normalizes lines: it has no state.
 use Rattle.std.specs.Prelude.{false}
 use Rattle.line_program.specs.Rules.{StateRules}
-use Rattle.pwtool.specs.Normalize.{fits, normal_line}
-use Rattle.pwtool.specs.declared.normalizer.Normalizer.{Normalizer}
+use Rattle.pwtool_forms.specs.Normalize.{fits, normal_line}
+use Rattle.pwtool_forms.specs.declared.normalizer.Normalizer.{Normalizer}
 
 -- each line is answered by itself, without memory
 abbrev pub normalizer_rules : StateRules Normalizer

@@ -14,12 +14,31 @@ use crate::tally::Tally;
 use any_survey::{Format, SurveyLines};
 use clap::ArgMatches;
 use foreign_lines::{ForeignLines, LineForm};
-use line_io::{StdSink, StdSource};
+use line_io::{Sink, Source, StdSink, StdSource};
+use std::alloc::Global;
 use std::io;
 use std::io::{Read, Write};
 
+// Answers all lines of a source, with or without users, in whatever spelling the texts are.
+fn answer_given<S: Source, K: Sink>(
+    alloc: Global,
+    matches: &ArgMatches<'_>,
+    source: &mut S,
+    sink: &mut K,
+) -> u8
+    ensures status { (result ≤ 6) × (result ≢ 2) }
+{
+    let limits = bound_of(matches);
+    match (foreign_of(matches), matches.get_flag("users")) {
+        (Some(foreign), true) => check_foreign_users(alloc, foreign, limits, source, sink),
+        (Some(foreign), false) => check_foreign(alloc, foreign, limits, source, sink),
+        (None, true) => check_users(alloc, limits, source, sink),
+        (None, false) => check_lines(alloc, limits, source, sink),
+    }
+}
+
 /// Answers all lines that a reader gives on a writer, with or without users.
-pub(crate) fn answer<R: Read + Drop, W: Write + Drop>(
+pub fn answer<R: Read + Drop, W: Write + Drop>(
     rt: &HostRuntime,
     matches: &ArgMatches<'_>,
     name: &str,
@@ -28,23 +47,11 @@ pub(crate) fn answer<R: Read + Drop, W: Write + Drop>(
 ) -> u8
     ensures status { (result ≤ 6) × (result ≢ 2) }
 {
-    let limits = bound_of(matches);
     let reporting = reporting_of(rt, matches);
     let mut tally = Tally::new(writer, progress_over(rt, reporting, name));
     let mut source = StdSource::new(reader);
     let mut sink = StdSink::new(&mut tally);
-    let is_of_users = matches.get_flag("users");
-    let status = if let Some(foreign) = foreign_of(matches) {
-        if is_of_users {
-            check_foreign_users(rt.alloc(), foreign, limits, &mut source, &mut sink)
-        } else {
-            check_foreign(rt.alloc(), foreign, limits, &mut source, &mut sink)
-        }
-    } else if is_of_users {
-        check_users(rt.alloc(), limits, &mut source, &mut sink)
-    } else {
-        check_lines(rt.alloc(), limits, &mut source, &mut sink)
-    };
+    let status = answer_given(rt.alloc(), matches, &mut source, &mut sink);
     let status = told(rt, name, status);
     summarize(rt, reporting, &tally.counts());
     status
@@ -63,7 +70,7 @@ pub fn run_check(rt: &HostRuntime, matches: &ArgMatches<'_>) -> u8 {
 }
 
 /// Surveys all lines that a reader gives on a writer.
-pub(crate) fn survey<R: Read + Drop, W: Write + Drop>(
+pub fn survey<R: Read + Drop, W: Write + Drop>(
     rt: &HostRuntime,
     matches: &ArgMatches<'_>,
     lines: SurveyLines,
@@ -94,7 +101,7 @@ pub(crate) fn survey<R: Read + Drop, W: Write + Drop>(
 }
 
 /// What answers the lines of a survey, as the command line asks for it; none where it asks for two formats.
-pub(crate) fn survey_of(matches: &ArgMatches<'_>) -> Option<SurveyLines> {
+pub fn survey_of(matches: &ArgMatches<'_>) -> Option<SurveyLines> {
     let format = match (matches.get_flag("csv"), matches.get_flag("json")) {
         (true, true) => return None,
         (true, false) => Format::Csv,

@@ -1,16 +1,15 @@
 //! What of the command line reaches the runs, its options and their defaults, over readers and writers in memory; what goes
 //! through a tally; and that each cause is said.
 
-use crate::bounds::{bound_of, least_of};
-use crate::cli::command;
-use crate::form::{answer, survey, survey_of};
-use crate::make::{cost_of, told};
-use crate::reports;
-use crate::table_form::run_table;
-use crate::tally::{Counts, Tally};
 use any_check::CostLimits;
 use any_make::{MakeCost, MakeEnd, MakeFault, scheme_named};
 use any_survey::LeastCosts;
+use pwtool_cli::{command, run_table};
+use pwtool_forms::bounds::{bound_of, least_of};
+use pwtool_forms::form::{answer, survey, survey_of};
+use pwtool_forms::make::{cost_of, told};
+use pwtool_forms::reports;
+use pwtool_forms::tally::{Counts, Tally};
 use std::cell::Cell;
 use std::fmt::Display;
 use std::hash::{BuildHasher, RandomState};
@@ -66,8 +65,9 @@ fn options_of_check(rt: HostRuntime) -> Result<(), Fail> {
             panic!(rt; "a form is named")
         };
         let mut out = Vec::new(rt.alloc());
-        assert_eq!(rt; answer(&rt, matches, "-", input, &mut out), status);
-        assert_eq!(rt; out.as_slice(), output);
+        let given = answer(&rt, matches, "-", input, &mut out);
+        assert!(rt; given == status, "{words:?}: {given}");
+        assert!(rt; out.as_slice() == output, "{words:?}");
     }
     Ok(())
 }
@@ -124,8 +124,9 @@ fn options_of_survey(rt: HostRuntime) -> Result<(), Fail> {
             panic!(rt; "one format is asked for")
         };
         let mut out = Vec::new(rt.alloc());
-        assert_eq!(rt; survey(&rt, matches, lines, "-", input, &mut out), status);
-        assert_eq!(rt; out.as_slice(), output);
+        let given = survey(&rt, matches, lines, "-", input, &mut out);
+        assert!(rt; given == status, "{words:?}: {given}");
+        assert!(rt; out.as_slice() == output, "{words:?}");
     }
     Ok(())
 }
@@ -193,7 +194,8 @@ fn costs_of_make(rt: HostRuntime) -> Result<(), Fail> {
         let Ok(scheme) = scheme_named(matches.get_str("SCHEME").unwrap_or("")) else {
             panic!(rt; "a scheme is named")
         };
-        assert_eq!(rt; numbers_of(cost_of(matches, scheme.recommended())), numbers);
+        let given = numbers_of(cost_of(matches, scheme.recommended()));
+        assert!(rt; given == numbers, "{words:?}: {given:?}");
     }
     Ok(())
 }
@@ -234,17 +236,15 @@ fn lines_through_a_tally(rt: HostRuntime) -> Result<(), Fail> {
         assert!(rt; count <= left.len());
         left = &left[count..];
     }
-    assert!(rt; left.is_empty());
-    assert_eq!(rt; taken.get(), 39);
     let counts = Counts {
         matches: 2,
         mismatches: 1,
         others: 1,
     };
-    assert_eq!(rt; tally.counts(), counts);
-    assert_eq!(rt; flushes.get(), 0);
+    assert!(rt; left.is_empty() && taken.get() == 39 && tally.counts() == counts);
+    assert!(rt; flushes.get() == 0);
     tally.flush()?;
-    assert_eq!(rt; flushes.get(), 1);
+    assert!(rt; flushes.get() == 1);
     Ok(())
 }
 
@@ -277,20 +277,24 @@ const ENDS: [(MakeEnd, u8, usize); 7] = [
 ];
 
 #[test]
-fn causes_are_said(rt: HostRuntime) {
+fn causes_of_make_are_said(rt: HostRuntime) {
     for (end, status, lines) in ENDS {
         let ear = Ear {
             lines: Cell::new(0),
         };
-        assert_eq!(rt; told(&ear, end), status);
-        assert_eq!(rt; ear.lines.get(), lines);
+        assert!(rt; told(&ear, end) == status, "{end:?}");
+        assert!(rt; ear.lines.get() == lines, "{end:?}");
     }
+}
+
+#[test]
+fn causes_of_runs_are_said(rt: HostRuntime) {
     for (status, lines) in [(0, 0), (1, 0), (3, 1), (4, 1), (5, 1), (6, 1)] {
         let ear = Ear {
             lines: Cell::new(0),
         };
-        assert_eq!(rt; reports::told(&ear, "-", status), status);
-        assert_eq!(rt; ear.lines.get(), lines);
+        assert!(rt; reports::told(&ear, "-", status) == status, "{status}");
+        assert!(rt; ear.lines.get() == lines, "{status}");
     }
 }
 
@@ -344,7 +348,12 @@ fn bounds_by_options(rt: HostRuntime) -> Result<(), Fail> {
     let Some((_, matches)) = matches.subcommand() else {
         panic!(rt; "a form is named")
     };
-    assert_eq!(rt; bound_of(matches), Some(limits));
+    assert!(rt; bound_of(matches) == Some(limits));
+    Ok(())
+}
+
+#[test]
+fn least_costs_by_options(rt: HostRuntime) -> Result<(), Fail> {
     let words = [
         "pwtool",
         "survey",
@@ -380,7 +389,7 @@ fn bounds_by_options(rt: HostRuntime) -> Result<(), Fail> {
     let Some((_, matches)) = matches.subcommand() else {
         panic!(rt; "a form is named")
     };
-    assert_eq!(rt; least_of(matches), least);
+    assert!(rt; least_of(matches) == least);
     assert!(rt; survey_of(matches).is_none());
     Ok(())
 }
@@ -406,12 +415,10 @@ fn a_table_made_anew(rt: HostRuntime) -> Result<(), Fail> {
         name.as_str(),
         b"#pwstore 1\nset\tann\t*\nset\tann\t!\n#",
     )?;
-    assert_eq!(rt; table_status(&rt, name.as_str(), "other")?, Some(64));
-    assert_eq!(rt; table_status(&rt, name.as_str(), "compact")?, Some(0));
-    assert_eq!(rt;
-        fs::read(&rt, name.as_str())?.as_slice(),
-        b"#pwstore 1\nset\tann\t!\n#".as_slice()
-    );
+    assert!(rt; table_status(&rt, name.as_str(), "other")? == Some(64));
+    assert!(rt; table_status(&rt, name.as_str(), "compact")? == Some(0));
+    let left = fs::read(&rt, name.as_str())?;
+    assert!(rt; left.as_slice() == b"#pwstore 1\nset\tann\t!\n#".as_slice());
     fs::remove_file(&rt, name.as_str())?;
     Ok(())
 }
