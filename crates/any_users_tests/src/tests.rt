@@ -1,7 +1,7 @@
 //! Lines of users. The text is openssl's, of the password `secret`.
 
-use crate::run_users;
 use any_check::CostLimits;
+use any_users::run_users;
 use line_io::{MemorySink, MemorySource};
 
 #[test]
@@ -26,35 +26,33 @@ fn users_are_kept(rt: HostRuntime) {
     let mut room = [0; 200];
     let mut source = MemorySource::new(input, 50, &[]);
     let mut sink = MemorySink::new(&mut room, 7, &[]);
-    assert_eq!(rt;
-        run_users(rt.alloc(), None, &mut source, &mut sink, 1000),
-        1
-    );
-    assert_eq!(rt; sink.bytes(), words);
+    assert!(rt; run_users(rt.alloc(), None, &mut source, &mut sink, 1000) == 1);
+    assert!(rt; sink.bytes() == words);
 }
+
+// The most bytes of a read, the read that fails, the most bytes of a write, the write that fails, the output and the status.
+const STATUSES: [(usize, &[u64], usize, &[u64], &[u8], u8); 3] = [
+    (64, &[], 64, &[], b"ann\tmatch\n", 0),
+    (20, &[1], 64, &[], b"", 3),
+    (64, &[], 4, &[1], b"ann\t", 4),
+];
 
 #[test]
 fn statuses_with_users(rt: HostRuntime) {
     let line = b"ann:secret\t$1$abcdefgh$cHJi5PXp/ki/ktXzqlk6I1\n".as_slice();
-    let mut room = [0; 16];
-    let mut source = MemorySource::new(line, 64, &[]);
-    let mut sink = MemorySink::new(&mut room, 64, &[]);
-    assert_eq!(rt; run_users(rt.alloc(), None, &mut source, &mut sink, 64), 0);
-    assert_eq!(rt; sink.bytes(), b"ann\tmatch\n".as_slice());
-    let mut room = [0; 16];
-    let mut source = MemorySource::new(line, 20, &[1]);
-    let mut sink = MemorySink::new(&mut room, 64, &[]);
-    assert_eq!(rt; run_users(rt.alloc(), None, &mut source, &mut sink, 64), 3);
-    assert_eq!(rt; sink.bytes(), b"".as_slice());
-    let mut room = [0; 16];
-    let mut source = MemorySource::new(line, 64, &[]);
-    let mut sink = MemorySink::new(&mut room, 4, &[1]);
-    assert_eq!(rt; run_users(rt.alloc(), None, &mut source, &mut sink, 64), 4);
-    assert_eq!(rt; sink.bytes(), b"ann\t".as_slice());
+    for (read, bad_reads, write, bad_writes, output, status) in STATUSES {
+        assert!(rt; read >= 1 && write >= 1);
+        let mut room = [0; 16];
+        let mut source = MemorySource::new(line, read, bad_reads);
+        let mut sink = MemorySink::new(&mut room, write, bad_writes);
+        let got = run_users(rt.alloc(), None, &mut source, &mut sink, 64);
+        assert!(rt; got == status, "{status}: {got}");
+        assert!(rt; sink.bytes() == output, "{status}");
+    }
 }
 
 #[test]
-fn bounds_and_long_lines_with_users(rt: HostRuntime) {
+fn bounds_with_users(rt: HostRuntime) {
     let limits = CostLimits {
         sha_rounds: 4_999,
         bcrypt_cost: 31,
@@ -73,19 +71,17 @@ fn bounds_and_long_lines_with_users(rt: HostRuntime) {
     let mut room = [0; 32];
     let mut source = MemorySource::new(line, 100, &[]);
     let mut sink = MemorySink::new(&mut room, 64, &[]);
-    assert_eq!(rt;
-        run_users(rt.alloc(), Some(limits), &mut source, &mut sink, 100),
-        1
-    );
-    assert_eq!(rt; sink.bytes(), b"ann\ttoo-costly\n".as_slice());
+    assert!(rt; run_users(rt.alloc(), Some(limits), &mut source, &mut sink, 100) == 1);
+    assert!(rt; sink.bytes() == b"ann\ttoo-costly\n".as_slice());
+}
+
+#[test]
+fn long_lines_with_users(rt: HostRuntime) {
     let mut input = [b':'; 8194];
     input[8193] = b'\n';
     let mut room = [0; 16];
     let mut source = MemorySource::new(&input, 8194, &[]);
     let mut sink = MemorySink::new(&mut room, 64, &[]);
-    assert_eq!(rt;
-        run_users(rt.alloc(), None, &mut source, &mut sink, 10_000),
-        1
-    );
-    assert_eq!(rt; sink.bytes(), b"toolong\n".as_slice());
+    assert!(rt; run_users(rt.alloc(), None, &mut source, &mut sink, 10_000) == 1);
+    assert!(rt; sink.bytes() == b"toolong\n".as_slice());
 }

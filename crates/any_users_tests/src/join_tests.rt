@@ -1,7 +1,7 @@
 //! A shadow file beside passwords. The texts are openssl's, of the password `secret`.
 
-use crate::{JoinEnd, run_join};
 use any_check::CostLimits;
+use any_users::{JoinEnd, run_join};
 use line_io::{MemorySink, MemorySource};
 use std::hash::RandomState;
 use std::test::Fail;
@@ -72,10 +72,11 @@ fn each_user_by_the_last_password(rt: HostRuntime) -> Result<(), Fail> {
             &mut sink,
             1_000,
         );
-        assert_eq!(rt; end, JoinEnd::Texts(1));
-        assert!(rt; sink.bytes().starts_with(WORDS));
-        assert!(rt; sink.bytes().ends_with(last));
-        assert_eq!(rt; sink.bytes().len(), WORDS.len().saturating_add(last.len()));
+        assert!(rt; end == JoinEnd::Texts(1), "{limits:?}");
+        assert!(rt;
+            sink.bytes().strip_prefix(WORDS) == Some(last),
+            "{limits:?}"
+        );
     }
     Ok(())
 }
@@ -110,8 +111,8 @@ fn ends(rt: HostRuntime) -> Result<(), Fail> {
             &mut sink,
             max,
         );
-        assert_eq!(rt; end, wanted);
-        assert_eq!(rt; sink.bytes(), output);
+        assert!(rt; end == wanted, "{end:?}, and not {wanted:?}");
+        assert!(rt; sink.bytes() == output, "{wanted:?}");
     }
     Ok(())
 }

@@ -1,7 +1,7 @@
 //! A small shadow file beside a great file of passwords, and users without a text. The texts are openssl's, of the password
 //! `secret`.
 
-use crate::{JoinEnd, run_join_fewer, run_no_text};
+use any_users::{JoinEnd, run_join_fewer, run_no_text};
 use line_io::{MemorySink, MemorySource};
 use std::hash::RandomState;
 use std::test::Fail;
@@ -33,10 +33,10 @@ fn each_user_by_the_passwords_that_are_needed(rt: HostRuntime) -> Result<(), Fai
         &mut sink,
         1_000,
     );
-    assert_eq!(rt; end, Ok(JoinEnd::Texts(1)));
-    assert_eq!(rt;
-        sink.bytes(),
-        b"root\tlocked\nann\tmatch\ncarl\tno-password\nempty\tempty\nbadline\nann\tmismatch\n".as_slice()
+    assert!(rt; end == Ok(JoinEnd::Texts(1)));
+    assert!(rt;
+        sink.bytes()
+            == b"root\tlocked\nann\tmatch\ncarl\tno-password\nempty\tempty\nbadline\nann\tmismatch\n".as_slice()
     );
     Ok(())
 }
@@ -62,8 +62,8 @@ fn a_user_who_came_between_the_readings_has_no_password(rt: HostRuntime) -> Resu
         &mut sink,
         1_000,
     );
-    assert_eq!(rt; end, Ok(JoinEnd::Texts(1)));
-    assert_eq!(rt; sink.bytes(), b"ann\tno-password\nbob\tmatch\n".as_slice());
+    assert!(rt; end == Ok(JoinEnd::Texts(1)));
+    assert!(rt; sink.bytes() == b"ann\tno-password\nbob\tmatch\n".as_slice());
     Ok(())
 }
 
@@ -119,8 +119,8 @@ fn ends_of_three_files(rt: HostRuntime) -> Result<(), Fail> {
             &mut sink,
             max,
         );
-        assert_eq!(rt; end, wanted);
-        assert_eq!(rt; sink.bytes(), output);
+        assert!(rt; end == wanted, "{end:?}, and not {wanted:?}");
+        assert!(rt; sink.bytes() == output, "{wanted:?}");
     }
     Ok(())
 }
@@ -140,11 +140,8 @@ fn users_without_a_text(rt: HostRuntime) -> Result<(), Fail> {
         &mut sink,
         1_000,
     );
-    assert_eq!(rt; end, JoinEnd::Passwords(1));
-    assert_eq!(rt;
-        sink.bytes(),
-        b"eve\tno-text\nbob\tno-text\nbadline\nbob\tno-text\n".as_slice()
-    );
+    assert!(rt; end == JoinEnd::Passwords(1));
+    assert!(rt; sink.bytes() == b"eve\tno-text\nbob\tno-text\nbadline\nbob\tno-text\n".as_slice());
     Ok(())
 }
 
@@ -173,8 +170,8 @@ fn ends_of_users_without_a_text(rt: HostRuntime) -> Result<(), Fail> {
         let mut sink = MemorySink::new(&mut room, 40, bad_writes);
         let keys = RandomState::new(&rt)?;
         let end = run_no_text(rt.alloc(), keys, &mut texts, &mut passwords, &mut sink, max);
-        assert_eq!(rt; end, wanted);
-        assert_eq!(rt; sink.bytes(), output);
+        assert!(rt; end == wanted, "{end:?}, and not {wanted:?}");
+        assert!(rt; sink.bytes() == output, "{wanted:?}");
     }
     Ok(())
 }
@@ -187,6 +184,6 @@ fn all_users_have_a_text(rt: HostRuntime) -> Result<(), Fail> {
     let mut sink = MemorySink::new(&mut room, 4, &[0]);
     let keys = RandomState::new(&rt)?;
     let end = run_no_text(rt.alloc(), keys, &mut texts, &mut passwords, &mut sink, 100);
-    assert_eq!(rt; end, JoinEnd::Passwords(0));
+    assert!(rt; end == JoinEnd::Passwords(0));
     Ok(())
 }
