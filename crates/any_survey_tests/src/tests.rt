@@ -1,6 +1,6 @@
 //! Texts of each scheme, judged; users, rows in each form, and how many of each.
 
-use crate::{Format, Judgement, LeastCosts, SurveyLines, judged, run_survey};
+use any_survey::{Format, Judgement, LeastCosts, SurveyLines, judged, run_survey};
 use line_io::{MemorySink, MemorySource};
 use std::test::Fail;
 
@@ -109,7 +109,7 @@ fn a_row_for_each_text(rt: HostRuntime) -> Result<(), Fail> {
         let status = run_survey(&mut lines, &mut source, &mut sink, 1 << 20);
         assert!(rt; sink.bytes().starts_with(wanted.as_bytes()), "{text}");
         let good = row.ends_with("ok") || row.ends_with("locked");
-        assert_eq!(rt; status, u8::from(!good), "{text}");
+        assert!(rt; status == u8::from(!good), "{text}");
     }
     Ok(())
 }
@@ -138,39 +138,44 @@ fn rows_in_each_form(rt: HostRuntime) {
         let mut source = MemorySource::new(LINES, 7, &[]);
         let mut lines = SurveyLines::new(LEAST, format);
         let status = run_survey(&mut lines, &mut source, &mut sink, 1 << 20);
-        assert_eq!(rt; sink.bytes(), wanted, "{format:?}");
-        assert_eq!(rt; status, 1, "{format:?}");
+        assert!(rt; sink.bytes() == wanted, "{format:?}");
+        assert!(rt; status == 1, "{format:?}");
     }
 }
 
 #[test]
 fn bytes_that_are_no_text(rt: HostRuntime) {
-    assert_eq!(rt; judged(&LEAST, b"\xff$6$x"), Judgement::Invalid);
-    assert_eq!(rt; judged(&LEAST, b"*\xff"), Judgement::Locked);
+    assert!(rt; judged(&LEAST, b"\xff$6$x") == Judgement::Invalid);
+    assert!(rt; judged(&LEAST, b"*\xff") == Judgement::Locked);
+}
+
+#[test]
+fn a_user_that_is_no_text(rt: HostRuntime) {
     let mut room = [0; 64];
     let mut sink = MemorySink::new(&mut room, 64, &[]);
     let mut source = MemorySource::new(b"\xff:!\n", 64, &[]);
     let mut lines = SurveyLines::new(LEAST, Format::Csv);
     let status = run_survey(&mut lines, &mut source, &mut sink, 1 << 20);
-    assert_eq!(rt; sink.bytes(), b"\"\",-,\"-\",badline\n".as_slice());
-    assert_eq!(rt; status, 1);
+    assert!(rt; sink.bytes() == b"\"\",-,\"-\",badline\n".as_slice());
+    assert!(rt; status == 1);
 }
+
+// The read that fails, the write that fails, the bound and the status.
+const FAULTS: [(&[u64], &[u64], u64, u8); 3] = [
+    (&[0], &[], 1 << 20, 3),
+    (&[], &[0], 1 << 20, 4),
+    (&[], &[], 5, 6),
+];
 
 #[test]
 fn faults_of_devices(rt: HostRuntime) {
-    let mut lines = SurveyLines::new(LEAST, Format::Csv);
-    let mut room = [0; 64];
-    let mut sink = MemorySink::new(&mut room, 64, &[]);
-    let mut source = MemorySource::new(b"ann:!\n", 64, &[0]);
-    assert_eq!(rt; run_survey(&mut lines, &mut source, &mut sink, 1 << 20), 3);
-    let mut failing = MemorySink::new(&mut room, 64, &[0]);
-    let mut source = MemorySource::new(b"ann:!\n", 64, &[]);
-    assert_eq!(rt;
-        run_survey(&mut lines, &mut source, &mut failing, 1 << 20),
-        4
-    );
-    let mut room = [0; 64];
-    let mut sink = MemorySink::new(&mut room, 64, &[]);
-    let mut source = MemorySource::new(b"ann:!\n", 64, &[]);
-    assert_eq!(rt; run_survey(&mut lines, &mut source, &mut sink, 5), 6);
+    for (bad_reads, bad_writes, max, status) in FAULTS {
+        assert!(rt; max <= 1 << 20);
+        let mut lines = SurveyLines::new(LEAST, Format::Csv);
+        let mut room = [0; 64];
+        let mut source = MemorySource::new(b"ann:!\n", 64, bad_reads);
+        let mut sink = MemorySink::new(&mut room, 64, bad_writes);
+        let got = run_survey(&mut lines, &mut source, &mut sink, max);
+        assert!(rt; got == status, "{status}: {got}");
+    }
 }
