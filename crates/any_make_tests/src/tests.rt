@@ -1,13 +1,15 @@
 //! Texts that outside programs made of the same passwords, costs and salts: libxcrypt's crypt_gensalt(3) and crypt(3) for
 //! SHA-crypt, bcrypt and yescrypt, passlib for scrypt, the program argon2, and Python's hashlib for the keys of PBKDF2.
 
-use crate::{
+use any_check::{check_any, record_kdf};
+use any_make::{
     Argon2Cost, MakeCost, MakeEnd, MakeFault, MakeScheme, NameFault, TEXT_MAX, made_text,
     make_text, run_make, scheme_name, scheme_named,
 };
-use any_check::{check_any, record_kdf};
 use line_io::{MemorySink, MemorySource};
 use sha_crypt::Family;
+use std::alloc::Global;
+use std::process::Abort;
 use yescrypt_plain::{CryptKept, ScryptParams, YescryptParams};
 
 #[derive(Clone, Copy)]
@@ -187,13 +189,19 @@ fn made_by_others(rt: HostRuntime) {
         let password = row.password.as_bytes();
         match make_text(rt.alloc(), row.cost, password, row.salt, &mut out) {
             Ok(count) => {
-                assert_eq!(rt; &out[..count], row.text.as_bytes(), "{}", row.text);
+                assert!(rt; &out[..count] == row.text.as_bytes(), "{}", row.text);
                 assert!(rt; out[count..].iter().all(|b| *b == OLD), "{}", row.text);
             }
             Err(fault) => panic!(rt; "{}: {fault:?}", row.text),
         }
-        match made_text(rt.alloc(), row.cost, password, row.salt) {
-            Ok(text) => assert_eq!(rt; text.as_slice(), row.text.as_bytes()),
+    }
+}
+
+#[test]
+fn made_by_others_in_a_text(rt: HostRuntime) {
+    for row in ROWS {
+        match made_text(rt.alloc(), row.cost, row.password.as_bytes(), row.salt) {
+            Ok(text) => assert!(rt; text.as_slice() == row.text.as_bytes(), "{}", row.text),
             Err(fault) => panic!(rt; "{}: {fault:?}", row.text),
         }
     }
@@ -205,9 +213,9 @@ fn matched(rt: HostRuntime) {
     let kept = CryptKept::new(rt.alloc());
     for row in ROWS {
         let answer = check_any(rt.alloc(), &kdf, &kept, row.password, row.text);
-        assert_eq!(rt; answer, Ok(true), "{}", row.text);
+        assert!(rt; answer == Ok(true), "{}", row.text);
         let answer = check_any(rt.alloc(), &kdf, &kept, "another", row.text);
-        assert_eq!(rt; answer, Ok(false), "{}", row.text);
+        assert!(rt; answer == Ok(false), "{}", row.text);
     }
 }
 
@@ -223,7 +231,7 @@ fn read_front(bytes: &[u8], count: usize) -> &[u8] {
     &bytes[..count]
 }
 
-// A buffer of just the length is room, and one that is a byte shorter is not.
+// A buffer of just the length is room.
 #[test]
 fn rooms(rt: HostRuntime) {
     for row in ROWS {
@@ -232,12 +240,25 @@ fn rooms(rt: HostRuntime) {
         let mut whole = [OLD; TEXT_MAX];
         let room = front(&mut whole, count);
         let made = make_text(rt.alloc(), row.cost, password, row.salt, room);
-        assert_eq!(rt; made, Ok(count), "{}", row.text);
-        assert_eq!(rt; read_front(&whole, count), row.text.as_bytes());
+        assert!(rt; made == Ok(count), "{}", row.text);
+        assert!(rt;
+            read_front(&whole, count) == row.text.as_bytes(),
+            "{}",
+            row.text
+        );
+    }
+}
+
+// In a buffer that is a byte shorter nothing is written.
+#[test]
+fn short_rooms(rt: HostRuntime) {
+    for row in ROWS {
+        let count = row.text.len();
+        let password = row.password.as_bytes();
         let mut whole = [OLD; TEXT_MAX];
         let room = front(&mut whole, count.saturating_sub(1));
         let made = make_text(rt.alloc(), row.cost, password, row.salt, room);
-        assert_eq!(rt; made, Err(MakeFault::BufferShort), "{}", row.text);
+        assert!(rt; made == Err(MakeFault::BufferShort), "{}", row.text);
         assert!(rt; whole.iter().all(|b| *b == OLD), "{}", row.text);
     }
 }
@@ -324,8 +345,13 @@ fn faults(rt: HostRuntime) {
     for row in rows {
         let mut out = [OLD; TEXT_MAX];
         let made = make_text(rt.alloc(), row.cost, row.password, row.salt, &mut out);
-        assert_eq!(rt; made, Err(row.fault));
-        assert!(rt; out.iter().all(|b| *b == OLD));
+        assert!(rt; made == Err(row.fault), "{:?} {:?}", row.cost, row.password);
+        assert!(rt;
+            out.iter().all(|b| *b == OLD),
+            "{:?} {:?}",
+            row.cost,
+            row.password
+        );
     }
 }
 
@@ -342,33 +368,42 @@ fn long_passwords(rt: HostRuntime) {
         let scheme = cost.scheme();
         let salt = &SALT[..scheme.salt_length()];
         let made = make_text(rt.alloc(), cost, &long, salt, &mut out);
-        assert_eq!(rt; made, Err(MakeFault::PasswordTooLong));
+        assert!(rt; made == Err(MakeFault::PasswordTooLong), "{cost:?}");
         let made = make_text(rt.alloc(), cost, &long[1..], salt, &mut out);
-        assert!(rt; made.is_ok());
+        assert!(rt; made.is_ok(), "{cost:?}");
     }
-    let made = make_text(rt.alloc(), MakeCost::Bcrypt(4), &long[..73], SALT, &mut out);
-    assert_eq!(rt; made, Err(MakeFault::PasswordTooLong));
+}
+
+#[test]
+fn long_passwords_of_bcrypt(rt: HostRuntime) {
+    let long = [b'a'; 73];
+    let mut out = [OLD; TEXT_MAX];
+    let made = make_text(rt.alloc(), MakeCost::Bcrypt(4), &long, SALT, &mut out);
+    assert!(rt; made == Err(MakeFault::PasswordTooLong));
     let made = make_text(rt.alloc(), MakeCost::Bcrypt(4), &long[..72], SALT, &mut out);
-    assert_eq!(rt; made, Ok(60));
+    assert!(rt; made == Ok(60));
+}
+
+// The text of a password with a zero byte is that of all its bytes.
+fn counts_all_bytes<R: Abort>(rt: &R, alloc: Global, text: &[u8]) {
+    let kdf = record_kdf(alloc);
+    let kept = CryptKept::new(alloc);
+    let Ok(stored) = str::from_utf8(text) else {
+        panic!(rt; "it is no text")
+    };
+    for (password, matches) in [("a\0b", true), ("a", false)] {
+        let answer = check_any(alloc, &kdf, &kept, password, stored);
+        assert!(rt; answer == Ok(matches), "{stored} {password:?}");
+    }
 }
 
 // A record's scheme takes a zero byte.
 #[test]
 fn zero_bytes(rt: HostRuntime) {
-    let kdf = record_kdf(rt.alloc());
-    let kept = CryptKept::new(rt.alloc());
     for cost in [scrypt(1, 1, 1), argon2(8, 1, 1), MakeCost::Pbkdf2Sha256(1)] {
         match made_text(rt.alloc(), cost, b"a\0b", SALT) {
-            Ok(text) => match str::from_utf8(text.as_slice()) {
-                Ok(stored) => {
-                    let answer = check_any(rt.alloc(), &kdf, &kept, "a\0b", stored);
-                    assert_eq!(rt; answer, Ok(true));
-                    let answer = check_any(rt.alloc(), &kdf, &kept, "a", stored);
-                    assert_eq!(rt; answer, Ok(false));
-                }
-                Err(_) => panic!(rt; "it is no text"),
-            },
-            Err(fault) => panic!(rt; "{fault:?}"),
+            Ok(text) => counts_all_bytes(&rt, rt.alloc(), text.as_slice()),
+            Err(fault) => panic!(rt; "{cost:?}: {fault:?}"),
         }
     }
 }
@@ -400,12 +435,17 @@ fn schemes(rt: HostRuntime) {
             false,
         ),
     ] {
-        assert_eq!(rt; scheme.recommended(), cost);
-        assert_eq!(rt; cost.scheme(), scheme);
-        assert!(rt; cost.is_taken());
-        assert_eq!(rt; scheme.salt_length(), salt);
-        assert_eq!(rt; scheme.needs_memory(), needs);
-        assert_eq!(rt; scheme_named(scheme_name(scheme)), Ok(scheme));
+        assert!(rt;
+            scheme.recommended() == cost && cost.scheme() == scheme,
+            "{scheme:?}"
+        );
+        assert!(rt; cost.is_taken(), "{scheme:?}");
+        let numbers = (scheme.salt_length(), scheme.needs_memory());
+        assert!(rt; numbers.0 == salt && numbers.1 == needs, "{scheme:?}");
+        assert!(rt;
+            scheme_named(scheme_name(scheme)) == Ok(scheme),
+            "{scheme:?}"
+        );
     }
 }
 
@@ -420,10 +460,14 @@ fn names(rt: HostRuntime) {
         ("argon2id", MakeScheme::Argon2id),
         ("pbkdf2-sha256", MakeScheme::Pbkdf2Sha256),
     ] {
-        assert_eq!(rt; scheme_named(name), Ok(scheme), "{name}");
-        assert_eq!(rt; scheme_name(scheme), name);
+        assert!(rt; scheme_named(name) == Ok(scheme), "{name}");
+        assert!(rt; scheme_name(scheme) == name, "{name}");
     }
-    assert_eq!(rt; scheme_named("md5-crypt"), Err(NameFault::Weak));
+}
+
+#[test]
+fn no_names(rt: HostRuntime) {
+    assert!(rt; scheme_named("md5-crypt") == Err(NameFault::Weak));
     for name in [
         "",
         "md5",
@@ -433,7 +477,7 @@ fn names(rt: HostRuntime) {
         "scrypt ",
         "sha256",
     ] {
-        assert_eq!(rt; scheme_named(name), Err(NameFault::Unknown), "{name}");
+        assert!(rt; scheme_named(name) == Err(NameFault::Unknown), "{name}");
     }
 }
 
@@ -478,28 +522,28 @@ fn first_lines(rt: HostRuntime) {
             let mut sink = MemorySink::new(&mut room, chunk, &[]);
             let cost = MakeCost::Bcrypt(4);
             let got = run_make(rt.alloc(), cost, salt, &mut source, &mut sink);
-            assert_eq!(rt; got, end);
-            assert_eq!(rt; sink.bytes(), output);
+            assert!(rt; got == end, "{chunk}: {got:?}, and not {end:?}");
+            assert!(rt; sink.bytes() == output, "{chunk}: {end:?}");
         }
     }
 }
 
+// The reads and the writes that fail, what is written, and the end.
+const DEVICES: [(&[u64], &[u64], &[u8], MakeEnd); 3] = [
+    (&[1], &[], b"", MakeEnd::ReadFault),
+    (&[], &[0], b"", MakeEnd::WriteFault),
+    (&[], &[1], b"$2b$04$", MakeEnd::WriteFault),
+];
+
 #[test]
 fn failing_devices(rt: HostRuntime) {
-    let cost = MakeCost::Bcrypt(4);
-    let mut room = [0; 100];
-    let mut source = MemorySource::new(b"secret\n", 3, &[1]);
-    let mut sink = MemorySink::new(&mut room, 100, &[]);
-    let got = run_make(rt.alloc(), cost, FIRST_SALT, &mut source, &mut sink);
-    assert_eq!(rt; got, MakeEnd::ReadFault);
-    assert_eq!(rt; sink.bytes(), b"".as_slice());
-    for (failing, output) in [(0u64, b"".as_slice()), (1, &SECRET[..7])] {
+    for (bad_reads, bad_writes, output, end) in DEVICES {
         let mut room = [0; 100];
-        let failing = [failing];
-        let mut source = MemorySource::new(b"secret\n", 3, &[]);
-        let mut sink = MemorySink::new(&mut room, 7, &failing);
+        let mut source = MemorySource::new(b"secret\n", 3, bad_reads);
+        let mut sink = MemorySink::new(&mut room, 7, bad_writes);
+        let cost = MakeCost::Bcrypt(4);
         let got = run_make(rt.alloc(), cost, FIRST_SALT, &mut source, &mut sink);
-        assert_eq!(rt; got, MakeEnd::WriteFault);
-        assert_eq!(rt; sink.bytes(), output);
+        assert!(rt; got == end, "{bad_reads:?} {bad_writes:?}: {got:?}");
+        assert!(rt; sink.bytes() == output, "{bad_reads:?} {bad_writes:?}");
     }
 }
