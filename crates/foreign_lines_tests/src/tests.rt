@@ -1,12 +1,12 @@
 //! Lines of foreign texts. The texts are Django's and passlib's, of the password `secret`.
 
-use crate::{
-    ForeignLines, LineForm, run_foreign, run_foreign_join, run_foreign_join_fewer,
-    run_foreign_survey, run_foreign_users,
-};
 use any_check::CostLimits;
 use any_survey::{Format, LeastCosts, SurveyLines};
 use any_users::JoinEnd;
+use foreign_lines::{
+    ForeignLines, LineForm, run_foreign, run_foreign_join, run_foreign_join_fewer,
+    run_foreign_survey, run_foreign_users,
+};
 use foreign_text::Foreign;
 use line_io::{MemorySink, MemorySource};
 use std::hash::RandomState;
@@ -60,8 +60,8 @@ fn lines_of_django(rt: HostRuntime) {
         &mut sink,
         10_000,
     );
-    assert_eq!(rt; status, 1);
-    assert_eq!(rt; sink.bytes(), DJANGO_WORDS);
+    assert!(rt; status == 1);
+    assert!(rt; sink.bytes() == DJANGO_WORDS);
 }
 
 // Only the first of the two texts is of more rounds than the bound allows.
@@ -82,8 +82,8 @@ fn a_bound_on_cost(rt: HostRuntime) {
             &mut sink,
             10_000,
         );
-        assert_eq!(rt; got, status);
-        assert_eq!(rt; sink.bytes(), word);
+        assert!(rt; got == status, "{most}: {got}");
+        assert!(rt; sink.bytes() == word, "{most}");
     }
 }
 
@@ -109,10 +109,10 @@ fn lines_with_users(rt: HostRuntime) {
         &mut sink,
         10_000,
     );
-    assert_eq!(rt; status, 1);
+    assert!(rt; status == 1);
     let words =
         b"ann\tmatch\nben\tmatch\nida\tmismatch\nbob\tmismatch\neve\tunsupported-sha1\nbadline\ncarl\tunsupported-des-crypt\nbadline\n";
-    assert_eq!(rt; sink.bytes(), words.as_slice());
+    assert!(rt; sink.bytes() == words.as_slice());
 }
 
 const PASSWORDS: &[u8] = b"ann:secret\nbob:Secret\neve:secret\nfay:secret\nlocked:secret\n";
@@ -147,8 +147,8 @@ fn users_beside_passwords(rt: HostRuntime) -> Result<(), Fail> {
         &mut sink,
         10_000,
     );
-    assert_eq!(rt; end, JoinEnd::Texts(1));
-    assert_eq!(rt; sink.bytes(), JOINED);
+    assert!(rt; end == JoinEnd::Texts(1));
+    assert!(rt; sink.bytes() == JOINED);
     Ok(())
 }
 
@@ -170,8 +170,8 @@ fn users_read_first(rt: HostRuntime) -> Result<(), Fail> {
         &mut sink,
         10_000,
     );
-    assert_eq!(rt; end, Ok(JoinEnd::Texts(1)));
-    assert_eq!(rt; sink.bytes(), JOINED);
+    assert!(rt; end == Ok(JoinEnd::Texts(1)));
+    assert!(rt; sink.bytes() == JOINED);
     Ok(())
 }
 
@@ -196,7 +196,7 @@ fn rows_of_a_survey(rt: HostRuntime) {
         inner: SurveyLines::new(LEAST, Format::Tabs),
     };
     let status = run_foreign_survey(&mut lines, &mut source, &mut sink, 10_000);
-    assert_eq!(rt; status, 1);
+    assert!(rt; status == 1);
     let rows = b"ann\tsha256-crypt\trounds=1000\tok\n\
         bob\tmd5-crypt\t-\tweak: md5-crypt\n\
         carl\tmd5-crypt\t-\tweak: md5-crypt\n\
@@ -212,7 +212,7 @@ fn rows_of_a_survey(rt: HostRuntime) {
         1\tlocked\n\
         2\tno scheme\n\
         1\tbadline\n";
-    assert_eq!(rt; sink.bytes(), rows.as_slice());
+    assert!(rt; sink.bytes() == rows.as_slice());
 }
 
 // A line of 8,192 bytes whose converted text would make it longer, one of more, and one that is short again.
@@ -235,6 +235,6 @@ fn long_lines(rt: HostRuntime) {
         &mut sink,
         100_000,
     );
-    assert_eq!(rt; status, 1);
-    assert_eq!(rt; sink.bytes(), b"toolong\ntoolong\nbadline\n".as_slice());
+    assert!(rt; status == 1);
+    assert!(rt; sink.bytes() == b"toolong\ntoolong\nbadline\n".as_slice());
 }
