@@ -12,5 +12,3 @@ pub use judgement::{Judgement, LeastCosts, judged};
 pub use lines::{SurveyLines, run_survey};
 pub use rows::Format;
 
-#[cfg(test)]
-mod tests;
