@@ -1,10 +1,10 @@
 //! Keys of OpenSSL, records, and two derivations as one.
 
-use crate::{
+use line_io::{MemorySink, MemorySource};
+use pbkdf2_plain::{
     EitherKdf, Pbkdf2Hash, Pbkdf2Plain, laws, pbkdf2_sha256, pbkdf2_sha512, run_either,
     run_either_limited,
 };
-use line_io::{MemorySink, MemorySource};
 use phc::{Ident, PasswordHash};
 use scrypt_plain::ScryptPlain;
 use std::test::Fail;
@@ -100,35 +100,48 @@ const SHA512_KEYS: [(&[u8], &[u8], u32, &[u8]); 7] = [
 ];
 
 #[test]
-fn keys(rt: HostRuntime) {
+fn keys_by_sha256(rt: HostRuntime) {
     for (password, salt, rounds, key) in SHA256_KEYS {
         let mut out = [0u8; 64];
         let count = key.len();
         pbkdf2_sha256(password, salt, rounds, &mut out[..count]);
-        assert_eq!(rt; &out[..count], key, "{rounds} {count}");
-        assert!(rt; out[count..].iter().all(|b| *b == 0));
-    }
-    for (password, salt, rounds, key) in SHA512_KEYS {
-        let mut out = [0u8; 64];
-        let count = key.len();
-        pbkdf2_sha512(password, salt, rounds, &mut out[..count]);
-        assert_eq!(rt; &out[..count], key, "{rounds} {count}");
-        assert!(rt; out[count..].iter().all(|b| *b == 0));
+        assert!(rt; &out[..count] == key, "{rounds} {count}");
+        assert!(rt; out[count..].iter().all(|b| *b == 0), "{rounds} {count}");
     }
 }
 
 #[test]
-fn shorter_keys(rt: HostRuntime) {
+fn keys_by_sha512(rt: HostRuntime) {
+    for (password, salt, rounds, key) in SHA512_KEYS {
+        let mut out = [0u8; 64];
+        let count = key.len();
+        pbkdf2_sha512(password, salt, rounds, &mut out[..count]);
+        assert!(rt; &out[..count] == key, "{rounds} {count}");
+        assert!(rt; out[count..].iter().all(|b| *b == 0), "{rounds} {count}");
+    }
+}
+
+const COUNTS: [usize; 7] = [1, 10, 31, 32, 33, 40, 63];
+
+#[test]
+fn shorter_keys_by_sha256(rt: HostRuntime) {
     let (password, salt, rounds, key) = SHA256_KEYS[1];
-    let (_, _, _, other) = SHA512_KEYS[1];
-    for count in [1, 10, 31, 32, 33, 40, 63] {
+    for count in COUNTS {
         let mut out = [0u8; 64];
         pbkdf2_sha256(password, salt, rounds, &mut out[..count]);
-        assert_eq!(rt; &out[..count], &key[..count], "{count}");
-        assert!(rt; out[count..].iter().all(|b| *b == 0));
+        assert!(rt; &out[..count] == &key[..count], "{count}");
+        assert!(rt; out[count..].iter().all(|b| *b == 0), "{count}");
+    }
+}
+
+#[test]
+fn shorter_keys_by_sha512(rt: HostRuntime) {
+    let (password, salt, rounds, key) = SHA512_KEYS[1];
+    for count in COUNTS {
+        let mut out = [0u8; 64];
         pbkdf2_sha512(password, salt, rounds, &mut out[..count]);
-        assert_eq!(rt; &out[..count], &other[..count], "{count}");
-        assert!(rt; out[count..].iter().all(|b| *b == 0));
+        assert!(rt; &out[..count] == &key[..count], "{count}");
+        assert!(rt; out[count..].iter().all(|b| *b == 0), "{count}");
     }
 }
 
@@ -157,12 +170,11 @@ const RECORDS: [(&str, usize, bool); 17] = [
 fn records_taken(rt: HostRuntime) {
     for (text, length, taken) in RECORDS {
         match PasswordHash::new(text) {
-            Ok(record) => assert_eq!(rt;
-                SHA256.accepts(&record, b"salt", length),
-                taken,
-                "{text:?} {length}"
+            Ok(record) => assert!(rt;
+                SHA256.accepts(&record, b"salt", length) == taken,
+                "{text} {length}"
             ),
-            Err(_) => panic!(rt; "no record: {text:?}"),
+            Err(_) => panic!(rt; "no record: {text}"),
         }
     }
 }
@@ -181,12 +193,11 @@ const SHA512_RECORDS: [(&str, usize, bool); 6] = [
 fn records_of_sha512_taken(rt: HostRuntime) {
     for (text, length, taken) in SHA512_RECORDS {
         match PasswordHash::new(text) {
-            Ok(record) => assert_eq!(rt;
-                SHA512.accepts(&record, b"salt", length),
-                taken,
-                "{text:?} {length}"
+            Ok(record) => assert!(rt;
+                SHA512.accepts(&record, b"salt", length) == taken,
+                "{text} {length}"
             ),
-            Err(_) => panic!(rt; "no record: {text:?}"),
+            Err(_) => panic!(rt; "no record: {text}"),
         }
     }
 }
@@ -207,16 +218,12 @@ fn verdicts_of_sha512(rt: HostRuntime) {
             Err(StoredError::Kdf),
         ),
     ] {
-        assert_eq!(rt;
-            check_stored(rt.alloc(), &SHA512, password, stored),
-            verdict,
-            "{stored:?}"
+        assert!(rt;
+            check_stored(rt.alloc(), &SHA512, password, stored) == verdict,
+            "{stored}"
         );
     }
-    assert_eq!(rt;
-        check_stored(rt.alloc(), &SHA256, "x", matching),
-        Err(StoredError::Kdf)
-    );
+    assert!(rt; check_stored(rt.alloc(), &SHA256, "x", matching) == Err(StoredError::Kdf));
 }
 
 // A password, a stored text and its verdict. The hash of the second is openssl's.
@@ -272,10 +279,9 @@ const VERDICTS: [(&str, &str, Result<bool, StoredError>); 9] = [
 fn verdicts(rt: HostRuntime) {
     let either = EitherKdf::new(Ident::new_unwrap("scrypt"), ScryptPlain, SHA256);
     for (password, stored, verdict) in VERDICTS {
-        assert_eq!(rt;
-            check_stored(rt.alloc(), &either, password, stored),
-            verdict,
-            "{stored:?}"
+        assert!(rt;
+            check_stored(rt.alloc(), &either, password, stored) == verdict,
+            "{stored}"
         );
     }
 }
@@ -329,30 +335,44 @@ fn lines_and_their_words(rt: HostRuntime) {
         let mut source = MemorySource::new(line, 9, &[]);
         let mut sink = MemorySink::new(&mut room, 4, &[]);
         let got = run_either(rt.alloc(), &mut source, &mut sink);
-        assert_eq!(rt; got, if word == b"match\n".as_slice() { 0 } else { 1 });
-        assert_eq!(rt; sink.bytes(), word);
+        assert!(rt;
+            got == (if word == b"match\n".as_slice() { 0 } else { 1 }),
+            "{}",
+            str::from_utf8(line).unwrap_or("bytes")
+        );
+        assert!(rt;
+            sink.bytes() == word,
+            "{}",
+            str::from_utf8(line).unwrap_or("bytes")
+        );
     }
 }
 
+const STOPPED: &[u8] = b"a\t$5\n\nb\n";
+
 #[test]
-fn stopped_early(rt: HostRuntime) {
-    let input = b"a\t$5\n\nb\n".as_slice();
+fn stopped_by_a_read(rt: HostRuntime) {
     let mut room = [0; 64];
-    let mut source = MemorySource::new(input, 5, &[1]);
+    let mut source = MemorySource::new(STOPPED, 5, &[1]);
     let mut sink = MemorySink::new(&mut room, 64, &[]);
-    assert_eq!(rt; run_either(rt.alloc(), &mut source, &mut sink), 3);
-    assert_eq!(rt; sink.bytes(), b"invalid\n".as_slice());
+    assert!(rt; run_either(rt.alloc(), &mut source, &mut sink) == 3);
+    assert!(rt; sink.bytes() == b"invalid\n".as_slice());
+}
+
+#[test]
+fn stopped_by_a_write(rt: HostRuntime) {
     let mut room = [0; 64];
-    let mut source = MemorySource::new(input, 64, &[]);
+    let mut source = MemorySource::new(STOPPED, 64, &[]);
     let mut sink = MemorySink::new(&mut room, 9, &[1]);
-    assert_eq!(rt; run_either(rt.alloc(), &mut source, &mut sink), 4);
-    assert_eq!(rt; sink.bytes(), b"invalid\ni".as_slice());
+    assert!(rt; run_either(rt.alloc(), &mut source, &mut sink) == 4);
+    assert!(rt; sink.bytes() == b"invalid\ni".as_slice());
+}
+
+#[test]
+fn stopped_by_the_bound(rt: HostRuntime) {
     let mut room = [0; 64];
-    let mut source = MemorySource::new(input, 64, &[]);
+    let mut source = MemorySource::new(STOPPED, 64, &[]);
     let mut sink = MemorySink::new(&mut room, 64, &[]);
-    assert_eq!(rt;
-        run_either_limited(rt.alloc(), &mut source, &mut sink, 6),
-        6
-    );
-    assert_eq!(rt; sink.bytes(), b"invalid\ninvalid\n".as_slice());
+    assert!(rt; run_either_limited(rt.alloc(), &mut source, &mut sink, 6) == 6);
+    assert!(rt; sink.bytes() == b"invalid\ninvalid\n".as_slice());
 }

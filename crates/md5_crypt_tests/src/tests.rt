@@ -2,11 +2,11 @@
 
 ghost use Rattle.std.specs.Prelude.{◌≤◌, length};
 
-use crate::{
+use line_io::{MemorySink, MemorySource};
+use md5_crypt::{
     LegacyError, Magic, Md5Fault, check_legacy, decode_md5, encode_md5, laws, md5_crypt,
     run_legacy, run_legacy_limited,
 };
-use line_io::{MemorySink, MemorySource};
 use scrypt_plain::ScryptPlain;
 use std::test::Fail;
 use stored_check::{McfFault, PhcFault, ShaFault, StoredError};
@@ -101,17 +101,16 @@ const NO_FIELDS: [&str; 5] = [
 #[test]
 fn salts_cut_and_fields_refused(rt: HostRuntime) {
     for salt in LONG_SALTS {
-        assert!(rt;
-            is_field(
-                front(PASSWORD, 1),
-                salt,
-                Magic::Md5,
-                "MzDjbImyzEz2m0NTiPzNW/"
-            )
+        let is = is_field(
+            front(PASSWORD, 1),
+            salt,
+            Magic::Md5,
+            "MzDjbImyzEz2m0NTiPzNW/",
         );
+        assert!(rt; is, "{}", salt.len());
     }
     for text in NO_FIELDS {
-        assert_eq!(rt; decode_md5(text.as_bytes()), None, "{text:?}");
+        assert!(rt; decode_md5(text.as_bytes()) == None, "{text}");
     }
 }
 
@@ -182,10 +181,9 @@ const ANSWERS: [(&str, &str, Result<bool, LegacyError>); 18] = [
 #[test]
 fn answers(rt: HostRuntime) {
     for (password, stored, answer) in ANSWERS {
-        assert_eq!(rt;
-            check_legacy(rt.alloc(), &ScryptPlain, password, stored),
-            answer,
-            "{stored:?}"
+        assert!(rt;
+            check_legacy(rt.alloc(), &ScryptPlain, password, stored) == answer,
+            "{stored}"
         );
     }
 }
@@ -196,15 +194,13 @@ fn longest_password(rt: HostRuntime) -> Result<(), Fail> {
     for _i in 0..4096 {
         password.push('p')?;
     }
-    assert_eq!(rt;
-        check_legacy(rt.alloc(), &ScryptPlain, password.as_str(), LONG),
-        Ok(false)
-    );
+    assert!(rt; check_legacy(rt.alloc(), &ScryptPlain, password.as_str(), LONG) == Ok(false));
     password.push('p')?;
     for stored in [LONG, "$1", "x"] {
-        assert_eq!(rt;
-            check_legacy(rt.alloc(), &ScryptPlain, password.as_str(), stored),
-            Err(LegacyError::Stored(StoredError::PasswordTooLong))
+        assert!(rt;
+            check_legacy(rt.alloc(), &ScryptPlain, password.as_str(), stored)
+                == Err(LegacyError::Stored(StoredError::PasswordTooLong)),
+            "{stored}"
         );
     }
     Ok(())
@@ -215,7 +211,7 @@ fn laws_stand(rt: HostRuntime) {
     laws::field_of_some_digest();
     laws::field_once();
     laws::no_want_of_memory();
-    assert_eq!(rt; laws::round_trip_md5(&[7; 16]), Some([7; 16]));
+    assert!(rt; laws::round_trip_md5(&[7; 16]) == Some([7; 16]));
 }
 
 // Lines, and their words.
@@ -254,30 +250,44 @@ fn lines_and_their_words(rt: HostRuntime) {
         let mut source = MemorySource::new(line, 9, &[]);
         let mut sink = MemorySink::new(&mut room, 4, &[]);
         let got = run_legacy(rt.alloc(), &mut source, &mut sink);
-        assert_eq!(rt; got, if word == b"match\n".as_slice() { 0 } else { 1 });
-        assert_eq!(rt; sink.bytes(), word);
+        assert!(rt;
+            got == (if word == b"match\n".as_slice() { 0 } else { 1 }),
+            "{}",
+            str::from_utf8(line).unwrap_or("bytes")
+        );
+        assert!(rt;
+            sink.bytes() == word,
+            "{}",
+            str::from_utf8(line).unwrap_or("bytes")
+        );
     }
 }
 
+const STOPPED: &[u8] = b"a\t$5\n\nb\n";
+
 #[test]
-fn stopped_early(rt: HostRuntime) {
-    let input = b"a\t$5\n\nb\n".as_slice();
+fn stopped_by_a_read(rt: HostRuntime) {
     let mut room = [0; 64];
-    let mut source = MemorySource::new(input, 5, &[1]);
+    let mut source = MemorySource::new(STOPPED, 5, &[1]);
     let mut sink = MemorySink::new(&mut room, 64, &[]);
-    assert_eq!(rt; run_legacy(rt.alloc(), &mut source, &mut sink), 3);
-    assert_eq!(rt; sink.bytes(), b"invalid\n".as_slice());
+    assert!(rt; run_legacy(rt.alloc(), &mut source, &mut sink) == 3);
+    assert!(rt; sink.bytes() == b"invalid\n".as_slice());
+}
+
+#[test]
+fn stopped_by_a_write(rt: HostRuntime) {
     let mut room = [0; 64];
-    let mut source = MemorySource::new(input, 64, &[]);
+    let mut source = MemorySource::new(STOPPED, 64, &[]);
     let mut sink = MemorySink::new(&mut room, 9, &[1]);
-    assert_eq!(rt; run_legacy(rt.alloc(), &mut source, &mut sink), 4);
-    assert_eq!(rt; sink.bytes(), b"invalid\ni".as_slice());
+    assert!(rt; run_legacy(rt.alloc(), &mut source, &mut sink) == 4);
+    assert!(rt; sink.bytes() == b"invalid\ni".as_slice());
+}
+
+#[test]
+fn stopped_by_the_bound(rt: HostRuntime) {
     let mut room = [0; 64];
-    let mut source = MemorySource::new(input, 64, &[]);
+    let mut source = MemorySource::new(STOPPED, 64, &[]);
     let mut sink = MemorySink::new(&mut room, 64, &[]);
-    assert_eq!(rt;
-        run_legacy_limited(rt.alloc(), &mut source, &mut sink, 6),
-        6
-    );
-    assert_eq!(rt; sink.bytes(), b"invalid\ninvalid\n".as_slice());
+    assert!(rt; run_legacy_limited(rt.alloc(), &mut source, &mut sink, 6) == 6);
+    assert!(rt; sink.bytes() == b"invalid\ninvalid\n".as_slice());
 }

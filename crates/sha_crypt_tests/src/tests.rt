@@ -1,15 +1,15 @@
 //! Texts and digests of libxcrypt and openssl, and texts that are refused.
 
-use crate::{
+use base64ct::Counts;
+use rand_chacha::ChaCha20Rng;
+use rand_core::SeedableRng;
+use sha_crypt::{
     BLOCK_SIZE_SHA256, BLOCK_SIZE_SHA512, CheckError, CryptError, DecodeError, Family, FormatFault,
     PW_SIZE_SHA256, PW_SIZE_SHA512, Sha256Params, Sha512Params, ShaRecord, decode_sha256,
     decode_sha512, encode_sha256, encode_sha512, laws, old_record, sha256_check,
     sha256_check_counted, sha256_crypt, sha256_crypt_b64, sha256_simple, sha512_check,
     sha512_check_counted, sha512_crypt, sha512_crypt_b64, sha512_simple,
 };
-use base64ct::Counts;
-use rand_chacha::ChaCha20Rng;
-use rand_core::SeedableRng;
 use std::process::Abort;
 use std::test::Fail;
 
@@ -213,36 +213,42 @@ const REFUSED_512: [(&str, CheckError); 5] = [
 
 #[test]
 fn digests_and_hash_fields_256(rt: HostRuntime) {
-    assert_eq!(rt; Sha256Params::default().rounds(), 5_000);
+    assert!(rt; Sha256Params::default().rounds() == 5_000);
     for (password, salt, rounds, digest, field) in DIGESTS_256 {
         assert!(rt; password.len() < 100);
         let Ok(params) = Sha256Params::new(rounds) else {
             panic!(rt; "rounds")
         };
         let got = sha256_crypt(password.as_bytes(), salt.as_bytes(), &params);
-        assert!(rt; got == digest, "{password:?}");
-        assert!(rt; encode_sha256(&digest) == field, "{password:?}");
-        assert!(rt; decode_sha256(&field) == Ok(digest), "{password:?}");
+        assert!(rt; got == digest, "{password}");
+        assert!(rt; encode_sha256(&digest) == field, "{password}");
+        assert!(rt; decode_sha256(&field) == Ok(digest), "{password}");
         for len in 0..43 {
-            assert!(rt; decode_sha256(&field[..len]) == Err(DecodeError));
+            assert!(rt;
+                decode_sha256(&field[..len]) == Err(DecodeError),
+                "{password} {len}"
+            );
         }
     }
 }
 
 #[test]
 fn digests_and_hash_fields_512(rt: HostRuntime) {
-    assert_eq!(rt; Sha512Params::default().rounds(), 5_000);
+    assert!(rt; Sha512Params::default().rounds() == 5_000);
     for (password, salt, rounds, digest, field) in DIGESTS_512 {
         assert!(rt; password.len() < 100);
         let Ok(params) = Sha512Params::new(rounds) else {
             panic!(rt; "rounds")
         };
         let got = sha512_crypt(password.as_bytes(), salt.as_bytes(), &params);
-        assert!(rt; got == digest, "{password:?}");
-        assert!(rt; encode_sha512(&digest) == field, "{password:?}");
-        assert!(rt; decode_sha512(&field) == Ok(digest), "{password:?}");
+        assert!(rt; got == digest, "{password}");
+        assert!(rt; encode_sha512(&digest) == field, "{password}");
+        assert!(rt; decode_sha512(&field) == Ok(digest), "{password}");
         for len in 0..86 {
-            assert!(rt; decode_sha512(&field[..len]) == Err(DecodeError));
+            assert!(rt;
+                decode_sha512(&field[..len]) == Err(DecodeError),
+                "{password} {len}"
+            );
         }
     }
 }
@@ -250,16 +256,16 @@ fn digests_and_hash_fields_512(rt: HostRuntime) {
 #[test]
 fn rounds_in_range(rt: HostRuntime) {
     // The numbers of the refusals, which callers may rest on.
-    assert_eq!(rt; CryptError::RoundsError as u8, 1);
-    assert_eq!(rt; CryptError::OutOfMemory as u8, 2);
+    assert!(rt; CryptError::RoundsError as u8 == 1);
+    assert!(rt; CryptError::OutOfMemory as u8 == 2);
     for (rounds, inside) in [
         (999, false),
         (1_000, true),
         (999_999_999, true),
         (1_000_000_000, false),
     ] {
-        assert_eq!(rt; Sha256Params::new(rounds).is_ok(), inside);
-        assert_eq!(rt; Sha512Params::new(rounds).is_ok(), inside);
+        assert!(rt; Sha256Params::new(rounds).is_ok() == inside, "{rounds}");
+        assert!(rt; Sha512Params::new(rounds).is_ok() == inside, "{rounds}");
     }
 }
 
@@ -275,18 +281,18 @@ fn check(rt: &impl Abort, password: &str, text: &str, is_256: bool) -> Result<()
 #[test]
 fn answers(rt: HostRuntime) {
     for (password, text, is_256) in MATCHES {
-        assert!(rt; check(&rt, password, text, is_256).is_ok(), "{text:?}");
+        assert!(rt; check(&rt, password, text, is_256).is_ok(), "{text}");
     }
     for (text, error) in REFUSED_256 {
         assert!(rt;
             check(&rt, "Hello world!", text, true) == Err(error),
-            "{text:?}"
+            "{text}"
         );
     }
     for (text, error) in REFUSED_512 {
         assert!(rt;
             check(&rt, "Hello world!", text, false) == Err(error),
-            "{text:?}"
+            "{text}"
         );
     }
 }
@@ -301,9 +307,9 @@ fn counted_checks(rt: HostRuntime) {
         } else {
             (sha512_check_counted(password, text, &mut counts), 88, 68)
         };
-        assert!(rt; answer.is_ok());
-        assert_eq!(rt; counts.looks(), looks);
-        assert_eq!(rt; counts.sames(), sames);
+        assert!(rt; answer.is_ok(), "{text}");
+        assert!(rt; counts.looks() == looks, "{text}");
+        assert!(rt; counts.sames() == sames, "{text}");
     }
 }
 
@@ -336,7 +342,10 @@ fn texts_of_the_faults(rt: HostRuntime) -> Result<(), Fail> {
         (FormatFault::SaltTooLong, "salt too long (maximum 16 bytes)"),
         (FormatFault::Base64, "invalid B64"),
     ] {
-        assert_eq!(rt; format!(in rt.alloc(); "{fault}")?.as_str(), text);
+        assert!(rt;
+            format!(in rt.alloc(); "{fault}")?.as_str() == text,
+            "{text}"
+        );
     }
     assert!(rt; CheckError::from(DecodeError) == CheckError::InvalidFormat(FormatFault::Base64));
     Ok(())
@@ -367,25 +376,52 @@ fn earlier_texts_written_anew(rt: HostRuntime) -> Result<(), Fail> {
     for (earlier, today) in EARLIER_TEXTS {
         assert!(rt; earlier.is_ascii());
         let record = old_record(earlier, Family::Sha256).ok_or("a record")?;
-        assert_eq!(rt; format!(in rt.alloc(); "{record}")?.as_str(), today);
+        assert!(rt; format!(in rt.alloc(); "{record}")?.as_str() == today);
+        let Ok(again) = ShaRecord::new(today, Family::Sha256) else {
+            panic!(rt; "{today}")
+        };
+        assert!(rt;
+            again.rounds_written() == record.rounds_written(),
+            "{today}"
+        );
+    }
+    Ok(())
+}
+
+#[test]
+fn texts_of_today_written_again(rt: HostRuntime) -> Result<(), Fail> {
+    for (_, today) in EARLIER_TEXTS {
+        let Ok(again) = ShaRecord::new(today, Family::Sha256) else {
+            panic!(rt; "{today}")
+        };
+        let text = format!(in rt.alloc(); "{again}")?;
+        assert!(rt; text.as_str() == today, "{today}");
+    }
+    Ok(())
+}
+
+#[test]
+fn earlier_texts_in_lent_room(rt: HostRuntime) -> Result<(), Fail> {
+    for (earlier, today) in EARLIER_TEXTS {
+        assert!(rt; earlier.is_ascii());
+        let record = old_record(earlier, Family::Sha256).ok_or("a record")?;
         let mut room = [b'x'; 100];
         let len = today.len();
         assert!(rt; 0 < len && len <= 100);
-        assert!(rt; record.print_into(&mut room) == Ok(today));
-        assert!(rt; record.print_into(&mut room[..len]) == Ok(today));
-        assert!(rt; record.print_to(&mut room[..len]) == Ok(len));
-        assert!(rt; record.print_into(&mut room[..len - 1]).is_err());
-        let Ok(again) = ShaRecord::new(today, Family::Sha256) else {
-            panic!(rt; "a text of today")
-        };
-        assert_eq!(rt; format!(in rt.alloc(); "{again}")?.as_str(), today);
-        assert_eq!(rt; again.rounds_written(), record.rounds_written());
-    }
-    for text in ["$5$rounds=999$s$x", "$6$s$x", "x", "$5$a$b$c"] {
-        assert!(rt; text.is_ascii());
-        assert!(rt; old_record(text, Family::Sha256).is_none(), "{text:?}");
+        assert!(rt; record.print_into(&mut room) == Ok(today), "{today}");
+        assert!(rt; record.print_into(&mut room[..len]) == Ok(today), "{today}");
+        assert!(rt; record.print_to(&mut room[..len]) == Ok(len), "{today}");
+        assert!(rt; record.print_into(&mut room[..len - 1]).is_err(), "{today}");
     }
     Ok(())
+}
+
+#[test]
+fn texts_that_are_no_earlier_ones(rt: HostRuntime) {
+    for text in ["$5$rounds=999$s$x", "$6$s$x", "x", "$5$a$b$c"] {
+        assert!(rt; text.is_ascii());
+        assert!(rt; old_record(text, Family::Sha256).is_none(), "{text}");
+    }
 }
 
 #[test]
@@ -396,18 +432,22 @@ fn records_of_texts(rt: HostRuntime) {
         panic!(rt; "a text")
     };
     assert!(rt; record.family() == Family::Sha512);
-    assert_eq!(rt; record.rounds(), 1_400);
+    assert!(rt; record.rounds() == 1_400);
     assert!(rt; record.rounds_written());
-    assert_eq!(rt; record.salt(), "anotherlongsalts");
-    assert_eq!(rt;
-        record.hash(),
-        "POfYwTEok97VWcjxIiSOjiykti.o/pQs.wPvMxQ6Fm7I6IoYN3CmLs66x9t0oSwbtEW7o7UmJEiDwGqd8p4ur1"
+    assert!(rt; record.salt() == "anotherlongsalts");
+    assert!(rt;
+        record.hash()
+            == "POfYwTEok97VWcjxIiSOjiykti.o/pQs.wPvMxQ6Fm7I6IoYN3CmLs66x9t0oSwbtEW7o7UmJEiDwGqd8p4ur1"
     );
+}
+
+#[test]
+fn records_refused(rt: HostRuntime) {
     for (text, error) in REFUSED_256 {
         if error != CheckError::HashMismatch {
             assert!(rt;
                 ShaRecord::new(text, Family::Sha256).err() == Some(error),
-                "{text:?}"
+                "{text}"
             );
         }
     }
@@ -423,10 +463,7 @@ fn hash_fields_of_passwords(rt: HostRuntime) {
         &Sha256Params::default(),
     )
     .expect(&rt, "memory");
-    assert_eq!(rt;
-        field.as_str(),
-        "5B8vYYiY.CVt1RlTTf8KbXBH3hsxY/GNooZaBBGWEc5"
-    );
+    assert!(rt; field.as_str() == "5B8vYYiY.CVt1RlTTf8KbXBH3hsxY/GNooZaBBGWEc5");
     let field = sha512_crypt_b64(
         alloc,
         b"Hello world!",
@@ -434,9 +471,9 @@ fn hash_fields_of_passwords(rt: HostRuntime) {
         &Sha512Params::default(),
     )
     .expect(&rt, "memory");
-    assert_eq!(rt;
-        field.as_str(),
-        "svn8UoSVapNtMuq1ukKS4tPQd8iKwSMHWjl/O817G3uBnIFNjnQJuesI68u4OTLiBFdcbYEdFCoEOfaS35inz1"
+    assert!(rt;
+        field.as_str()
+            == "svn8UoSVapNtMuq1ukKS4tPQd8iKwSMHWjl/O817G3uBnIFNjnQJuesI68u4OTLiBFdcbYEdFCoEOfaS35inz1"
     );
 }
 
@@ -448,20 +485,20 @@ fn texts_from_a_generator(rt: HostRuntime) {
     let mut rng = ChaCha20Rng::from_seed([0; 32]);
     let params = Sha256Params::new(1_000).expect(&rt, "rounds");
     let text = sha256_simple(alloc, &mut rng, "Hello world!", &params).expect(&rt, "memory");
-    assert_eq!(rt;
-        text.as_str(),
-        "$5$rounds=1000$fYt8i4nlTXDBx5OV$w/AyiZnXAglKF/2HClJ8xgUvyw4lEVtRWtjuh8fq132"
+    assert!(rt;
+        text.as_str()
+            == "$5$rounds=1000$fYt8i4nlTXDBx5OV$w/AyiZnXAglKF/2HClJ8xgUvyw4lEVtRWtjuh8fq132"
     );
-    assert_eq!(rt; text.len(), 75);
+    assert!(rt; text.len() == 75);
     assert!(rt; sha256_check("Hello world!", text.as_str()).is_ok());
     let text = sha512_simple(alloc, &mut rng, "Hello world!", &Sha512Params::default()).expect(
         &rt, "memory",
     );
-    assert_eq!(rt;
-        text.as_str(),
-        "$6$jST1cODvREgp8F5P$SrpIHYgI8oI0D5FxsQyOK.hTTHPBvzAGwafkyltGIYy2WZbIzRe9geqiDJLYg6JrFS.TiU06LRDL4Xk8wRwDT/"
+    assert!(rt;
+        text.as_str()
+            == "$6$jST1cODvREgp8F5P$SrpIHYgI8oI0D5FxsQyOK.hTTHPBvzAGwafkyltGIYy2WZbIzRe9geqiDJLYg6JrFS.TiU06LRDL4Xk8wRwDT/"
     );
-    assert_eq!(rt; text.len(), 106);
+    assert!(rt; text.len() == 106);
     assert!(rt; sha512_check("Hello world!", text.as_str()).is_ok());
     laws::simple_matches();
 }
