@@ -1,14 +1,14 @@
 //! Texts and keys that libxcrypt 4.4.33 made by crypt(3).
 
-use crate::{
+use base64ct::Counts;
+use std::test::Fail;
+use yescrypt_plain::{
     CheckError, CryptKept, MakeError, ScryptParams, TextFault, YescryptParams, in_bounds,
     read_scrypt_params, read_yescrypt_params, scrypt_check, scrypt_check_kept, scrypt_costs,
     scrypt_in_bounds, scrypt_params_text, scrypt_text, table_len, words_len, yescrypt,
     yescrypt_check, yescrypt_check_kept, yescrypt_costs, yescrypt_in, yescrypt_params_text,
     yescrypt_text,
 };
-use base64ct::Counts;
-use std::test::Fail;
 
 // ln, r, t and the key of "pleaseletmein" with the salt whose encoding is `saltsalt`.
 const KEYS: [(u32, u32, u32, [u8; 32]); 6] = [
@@ -50,24 +50,83 @@ const KEYS: [(u32, u32, u32, [u8; 32]); 6] = [
     ),
 ];
 
+const PASSWORD: &[u8] = b"pleaseletmein";
+
+const SALT: &[u8] = b"\xb8\x19\xe7\xb8\x19\xe7";
+
 #[test]
 fn keys(rt: HostRuntime) -> Result<(), Fail> {
-    let kept = CryptKept::new(rt.alloc());
-    let password = b"pleaseletmein";
-    let salt = b"\xb8\x19\xe7\xb8\x19\xe7";
     for (ln, r, t, key) in KEYS {
         let params = YescryptParams { ln, r, t };
-        assert!(rt; in_bounds(params));
-        assert!(rt;
-            yescrypt(rt.alloc(), password, salt, params)? == key,
-            "{ln} {r} {t}"
-        );
-        assert!(rt;
-            kept.yescrypt(rt.alloc(), password, salt, params)? == key,
-            "{ln} {r} {t}"
-        );
+        assert!(rt; in_bounds(params), "{ln} {r} {t}");
+        let key_found = yescrypt(rt.alloc(), PASSWORD, SALT, params)?;
+        assert!(rt; key_found == key, "{ln} {r} {t}");
     }
     Ok(())
+}
+
+// How often this asks for memory is told in bench/refused_memory.py: nine times, four for words and five for tables. The last
+// key is made in what is there.
+#[test]
+fn keys_in_kept_tables(rt: HostRuntime) -> Result<(), Fail> {
+    let kept = CryptKept::new(rt.alloc());
+    for (ln, r, t, key) in KEYS {
+        let params = YescryptParams { ln, r, t };
+        assert!(rt; in_bounds(params), "{ln} {r} {t}");
+        let key_found = kept.yescrypt(rt.alloc(), PASSWORD, SALT, params)?;
+        assert!(rt; key_found == key, "{ln} {r} {t}");
+    }
+    Ok(())
+}
+
+// Two requests, as bench/refused_memory.py tells: what is refused is not asked for again.
+#[test]
+fn a_key_in_two_vectors(rt: HostRuntime) -> Result<(), Fail> {
+    let found = yescrypt_check(rt.alloc(), "", YESCRYPT[1].1);
+    if found == Err(CheckError::OutOfMemory) {
+        return Err("want of memory".into());
+    }
+    assert!(rt; found == Ok(()));
+    Ok(())
+}
+
+// Three requests, as bench/refused_memory.py tells: the words grow for each of the three texts, and the second round asks for
+// none. The second text's key has fewer words than the last one's.
+#[test]
+fn scrypt_texts_in_kept_words(rt: HostRuntime) -> Result<(), Fail> {
+    let kept = CryptKept::new(rt.alloc());
+    let mut counts = Counts::new();
+    for (password, stored) in [SCRYPT[1], SCRYPT[2], SCRYPT[0], SCRYPT[1], SCRYPT[0]] {
+        assert!(rt; counts.looks() <= 1_000 && counts.sames() <= 1_000);
+        let found = scrypt_check_kept(rt.alloc(), &kept, password, stored, &mut counts);
+        if found == Err(CheckError::OutOfMemory) {
+            return Err("want of memory".into());
+        }
+        assert!(rt; found == Ok(()), "{stored}");
+    }
+    Ok(())
+}
+
+// No request, as bench/refused_memory.py tells: a text with a fault and a password too long are answered before memory is
+// asked for.
+#[test]
+fn answers_before_memory(rt: HostRuntime) {
+    let letters = [b'a'; 4_097];
+    let Ok(long) = str::from_utf8(&letters) else {
+        panic!(rt; "letters are text")
+    };
+    assert!(rt;
+        yescrypt_check(rt.alloc(), long, YESCRYPT[1].1) == Err(CheckError::PasswordTooLong)
+    );
+    assert!(rt; scrypt_check(rt.alloc(), long, SCRYPT[1].1) == Err(CheckError::PasswordTooLong));
+    assert!(rt;
+        yescrypt_check(rt.alloc(), long, "$y$j/.$./")
+            == Err(CheckError::InvalidFormat(TextFault::NoHash))
+    );
+    assert!(rt;
+        scrypt_check(rt.alloc(), long, "$7$2/..../....")
+            == Err(CheckError::InvalidFormat(TextFault::NoHash))
+    );
 }
 
 // The memory may hold anything, and may be longer than needed.
@@ -135,16 +194,13 @@ fn yescrypt_texts(rt: HostRuntime) -> Result<(), Fail> {
     let kept = CryptKept::new(rt.alloc());
     for (password, stored) in YESCRYPT {
         let found = yescrypt_check(rt.alloc(), password, stored);
-        assert!(rt; found == Ok(()), "{stored:?} {found:?}");
+        assert!(rt; found == Ok(()), "{stored}");
         let found = yescrypt_check(rt.alloc(), "another", stored);
-        assert!(rt;
-            found == Err(CheckError::HashMismatch),
-            "{stored:?} {found:?}"
-        );
+        assert!(rt; found == Err(CheckError::HashMismatch), "{stored}");
         let mut counts = Counts::new();
         let found = yescrypt_check_kept(rt.alloc(), &kept, password, stored, &mut counts);
-        assert!(rt; found == Ok(()), "{stored:?} {found:?}");
-        assert!(rt; counts.looks() == 44 && counts.sames() == 36);
+        assert!(rt; found == Ok(()), "{stored}");
+        assert!(rt; counts.looks() == 44 && counts.sames() == 36, "{stored}");
     }
     Ok(())
 }
@@ -169,16 +225,13 @@ fn scrypt_texts(rt: HostRuntime) -> Result<(), Fail> {
     let kept = CryptKept::new(rt.alloc());
     for (password, stored) in SCRYPT {
         let found = scrypt_check(rt.alloc(), password, stored);
-        assert!(rt; found == Ok(()), "{stored:?} {found:?}");
+        assert!(rt; found == Ok(()), "{stored}");
         let found = scrypt_check(rt.alloc(), "another", stored);
-        assert!(rt;
-            found == Err(CheckError::HashMismatch),
-            "{stored:?} {found:?}"
-        );
+        assert!(rt; found == Err(CheckError::HashMismatch), "{stored}");
         let mut counts = Counts::new();
         let found = scrypt_check_kept(rt.alloc(), &kept, password, stored, &mut counts);
-        assert!(rt; found == Ok(()), "{stored:?} {found:?}");
-        assert!(rt; counts.looks() == 44 && counts.sames() == 36);
+        assert!(rt; found == Ok(()), "{stored}");
+        assert!(rt; counts.looks() == 44 && counts.sames() == 36, "{stored}");
     }
     Ok(())
 }
@@ -287,10 +340,7 @@ const YESCRYPT_FAULTS: [(&str, TextFault); 27] = [
 fn yescrypt_faults(rt: HostRuntime) -> Result<(), Fail> {
     for (stored, fault) in YESCRYPT_FAULTS {
         let found = yescrypt_check(rt.alloc(), "pw", stored);
-        assert!(rt;
-            found == Err(CheckError::InvalidFormat(fault)),
-            "{stored:?} {found:?}"
-        );
+        assert!(rt; found == Err(CheckError::InvalidFormat(fault)), "{stored}");
     }
     Ok(())
 }
@@ -352,10 +402,7 @@ const SCRYPT_FAULTS: [(&str, TextFault); 14] = [
 fn scrypt_faults(rt: HostRuntime) -> Result<(), Fail> {
     for (stored, fault) in SCRYPT_FAULTS {
         let found = scrypt_check(rt.alloc(), "pw", stored);
-        assert!(rt;
-            found == Err(CheckError::InvalidFormat(fault)),
-            "{stored:?} {found:?}"
-        );
+        assert!(rt; found == Err(CheckError::InvalidFormat(fault)), "{stored}");
     }
     Ok(())
 }
@@ -369,7 +416,7 @@ fn long_passwords(rt: HostRuntime) -> Result<(), Fail> {
     };
     for (_, stored) in YESCRYPT {
         let found = yescrypt_check(rt.alloc(), long, stored);
-        assert!(rt; found == Err(CheckError::PasswordTooLong));
+        assert!(rt; found == Err(CheckError::PasswordTooLong), "{stored}");
     }
     let found = yescrypt_check(rt.alloc(), &long[1..], YESCRYPT[1].1);
     assert!(rt; found == Err(CheckError::HashMismatch));
@@ -407,14 +454,19 @@ fn fields(rt: HostRuntime) -> Result<(), Fail> {
     for (params, field) in PARAMS {
         assert!(rt;
             read_yescrypt_params(field.as_bytes()) == Ok(params),
-            "{field:?}"
+            "{field}"
         );
         assert!(rt; in_bounds(params));
         assert!(rt;
             yescrypt_params_text(params).as_slice() == field.as_bytes(),
-            "{field:?}"
+            "{field}"
         );
     }
+    Ok(())
+}
+
+#[test]
+fn scrypt_fields(rt: HostRuntime) {
     let params = ScryptParams {
         ln: 14,
         r: 32,
@@ -424,7 +476,6 @@ fn fields(rt: HostRuntime) -> Result<(), Fail> {
     assert!(rt; scrypt_in_bounds(params));
     assert!(rt; scrypt_params_text(params).as_slice() == b"CU..../....".as_slice());
     assert!(rt; !in_bounds(YescryptParams { ln: 1, r: 8, t: 0 }));
-    Ok(())
 }
 
 #[test]
@@ -451,8 +502,19 @@ fn not_made(rt: HostRuntime) -> Result<(), Fail> {
         (&long[..], &long[..64], params, MakeError::PasswordTooLong),
     ] {
         let text = yescrypt_text(rt.alloc(), password, salt, params);
-        assert!(rt; text.map(|_| ()) == Err(error));
+        assert!(rt;
+            text.map(|_| ()) == Err(error),
+            "{} {}",
+            password.len(),
+            salt.len()
+        );
     }
+    Ok(())
+}
+
+#[test]
+fn scrypt_texts_not_made(rt: HostRuntime) -> Result<(), Fail> {
+    let long = [b'a'; 4097];
     let params = ScryptParams { ln: 6, r: 3, p: 2 };
     let none = ScryptParams { ln: 6, r: 3, p: 0 };
     for (password, salt, params, error) in [
@@ -463,25 +525,34 @@ fn not_made(rt: HostRuntime) -> Result<(), Fail> {
         (&long[..], &long[..86], params, MakeError::PasswordTooLong),
     ] {
         let text = scrypt_text(rt.alloc(), password, salt, params);
-        assert!(rt; text.map(|_| ()) == Err(error));
+        assert!(rt;
+            text.map(|_| ()) == Err(error),
+            "{} {}",
+            password.len(),
+            salt.len()
+        );
     }
     Ok(())
 }
 
 #[test]
 fn costs(rt: HostRuntime) {
-    assert_eq!(rt;
-        yescrypt_costs("$y$j2.//$./$id/pr9M1.HIRSLIKXB/WJRDDnOU3bUkk089O.c4L1C/"),
-        Ok(YescryptParams { ln: 5, r: 1, t: 2 })
+    assert!(rt;
+        yescrypt_costs("$y$j2.//$./$id/pr9M1.HIRSLIKXB/WJRDDnOU3bUkk089O.c4L1C/")
+            == Ok(YescryptParams { ln: 5, r: 1, t: 2 })
     );
     for (stored, fault) in YESCRYPT_FAULTS {
-        assert_eq!(rt; yescrypt_costs(stored), Err(fault), "{stored:?}");
+        assert!(rt; yescrypt_costs(stored) == Err(fault), "{stored}");
     }
-    assert_eq!(rt;
-        scrypt_costs("$7$41....0....SodiumChloride$i79Z2Io0yuEUnAEV0Z2t4r.guoEXBFEWthY/nUn9u//"),
-        Ok(ScryptParams { ln: 6, r: 3, p: 2 })
+}
+
+#[test]
+fn costs_of_scrypt(rt: HostRuntime) {
+    assert!(rt;
+        scrypt_costs("$7$41....0....SodiumChloride$i79Z2Io0yuEUnAEV0Z2t4r.guoEXBFEWthY/nUn9u//")
+            == Ok(ScryptParams { ln: 6, r: 3, p: 2 })
     );
     for (stored, fault) in SCRYPT_FAULTS {
-        assert_eq!(rt; scrypt_costs(stored), Err(fault), "{stored:?}");
+        assert!(rt; scrypt_costs(stored) == Err(fault), "{stored}");
     }
 }
