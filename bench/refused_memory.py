@@ -4,7 +4,7 @@
     bench/refused_memory.py [--programs] [CRATE..]
     bench/refused_memory.py --requests [CRATE..]
 
-For each crate (the crates of tests of base64ct, mcf, phc; sha_crypt, scrypt_plain and the programs if none is named) `rt try --test --fail-alloc N`
+For each crate (the crates of tests of base64ct, mcf, phc and scrypt_plain; sha_crypt and the programs if none is named) `rt try --test --fail-alloc N`
 runs its tests with request N refused, for N from 1 until a run meets no refusal (at most 40). For pwcheck it also runs
 the program over one line of each kind, for pwfile the program alone, over commands that need no digest. A run ends with its want of memory or as usual; anything else is marked.
 With --programs the tests are left out.
@@ -19,7 +19,7 @@ import subprocess
 import sys
 
 TOP = os.path.dirname(os.path.dirname(os.path.abspath(__file__)))
-CRATES = ["base64ct_tests", "mcf_tests", "phc_tests", "sha_crypt", "scrypt_plain", "pwcheck", "pwfile"]
+CRATES = ["base64ct_tests", "mcf_tests", "phc_tests", "sha_crypt", "scrypt_plain_tests", "pwcheck", "pwfile"]
 # The requests of a test: one for each vector that a page promises, and one for each growth of a kept table.
 REQUESTS = {
     "argon2_plain_tests": {"a_record_in_one_vector": 1, "records_in_a_kept_table": 4, "vectors": 3, "answers_before_memory": 0},
