@@ -68,7 +68,7 @@ fn keys(rt: HostRuntime) -> Result<(), Fail> {
 // How often this asks for memory is told in bench/refused_memory.py: nine times, four for words and five for tables. The last
 // key is made in what is there.
 #[test]
-fn keys_in_kept_tables(rt: HostRuntime) -> Result<(), Fail> {
+fn takes_9_for_keys_in_kept_tables(rt: HostRuntime) -> Result<(), Fail> {
     let kept = CryptKept::new(rt.alloc());
     for (ln, r, t, key) in KEYS {
         let params = YescryptParams { ln, r, t };
@@ -81,7 +81,7 @@ fn keys_in_kept_tables(rt: HostRuntime) -> Result<(), Fail> {
 
 // Two requests, as bench/refused_memory.py tells: what is refused is not asked for again.
 #[test]
-fn a_key_in_two_vectors(rt: HostRuntime) -> Result<(), Fail> {
+fn takes_2_for_a_key(rt: HostRuntime) -> Result<(), Fail> {
     let found = yescrypt_check(rt.alloc(), "", YESCRYPT[1].1);
     if found == Err(CheckError::OutOfMemory) {
         return Err("want of memory".into());
@@ -93,7 +93,7 @@ fn a_key_in_two_vectors(rt: HostRuntime) -> Result<(), Fail> {
 // Three requests, as bench/refused_memory.py tells: the words grow for each of the three texts, and the second round asks for
 // none. The second text's key has fewer words than the last one's.
 #[test]
-fn scrypt_texts_in_kept_words(rt: HostRuntime) -> Result<(), Fail> {
+fn takes_3_for_scrypt_texts_in_kept_words(rt: HostRuntime) -> Result<(), Fail> {
     let kept = CryptKept::new(rt.alloc());
     let mut counts = Counts::new();
     for (password, stored) in [SCRYPT[1], SCRYPT[2], SCRYPT[0], SCRYPT[1], SCRYPT[0]] {
@@ -110,7 +110,7 @@ fn scrypt_texts_in_kept_words(rt: HostRuntime) -> Result<(), Fail> {
 // No request, as bench/refused_memory.py tells: a text with a fault and a password too long are answered before memory is
 // asked for.
 #[test]
-fn answers_before_memory(rt: HostRuntime) {
+fn takes_0_before_the_text_is_read(rt: HostRuntime) {
     let letters = [b'a'; 4_097];
     let Ok(long) = str::from_utf8(&letters) else {
         panic!(rt; "letters are text")
