@@ -78,17 +78,22 @@ def version():
         return re.search(r'^#define PWCHECK_VERSION "([0-9]+\.[0-9]+)"$', source.read(), re.M).group(1)
 
 
-def make_static(static, scratch):
-    """One object with all of both archives, of which the exports alone are global."""
+def joined(static, exports, parts):
+    """One object with all of some archives, of which the exports alone are global, in an archive."""
+    with tempfile.TemporaryDirectory() as scratch:
+        whole = os.path.join(scratch, os.path.basename(static)[3:-2] + ".o")
+        run("ld", "-r", "-o", whole, "--whole-archive", *map(os.path.abspath, parts))
+        run("objcopy", "--wildcard", "--keep-global-symbol=" + exports, whole)
+        if os.path.exists(static):
+            os.remove(static)
+        run("ar", "rcsD", static, whole)
+
+
+def make_static(static):
     if DIST:
         shutil.copy(os.path.join(DIST, "libpwcheck.a"), static)
-        return
-    whole = os.path.join(scratch, "pwcheck.o")
-    run("ld", "-r", "-o", whole, "--whole-archive", *archives())
-    run("objcopy", "--wildcard", "--keep-global-symbol=pwcheck_*", whole)
-    if os.path.exists(static):
-        os.remove(static)
-    run("ar", "rcsD", static, whole)
+    else:
+        joined(static, "pwcheck_*", archives())
 
 
 def make_links(lib, name, full, soname):
@@ -134,8 +139,7 @@ def laid_out(folder, prefix=None):
     os.makedirs(include, exist_ok=True)
     shutil.copy(os.path.join(TOP, "include", "pwcheck.h"), include)
     static = os.path.join(lib, "libpwcheck.a")
-    with tempfile.TemporaryDirectory() as scratch:
-        make_static(static, scratch)
+    make_static(static)
     make_shared(lib, static)
     for name in ("pwcheck", "pwcrypt"):
         with open(os.path.join(lib, "pkgconfig", name + ".pc"), "w", encoding="utf-8") as out:

@@ -14,7 +14,7 @@ import sys
 TOP = os.path.dirname(os.path.dirname(os.path.abspath(__file__)))
 
 # Libraries of which a crate may use an impl alone, which it doesn't name, and what shows that it does.
-IMPLS = {"subtle": r"\bbool::from\("}
+IMPLS = {"subtle": r"\bbool::from\(", "clap": r"\bmatches\.\w+\("}
 
 
 def layers(top=TOP):

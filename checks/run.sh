@@ -2,8 +2,8 @@
 # The repository's own checks, after the prover's. Each ends with a status that isn't 0 where it finds a fault.
 #
 #     checks/run.sh quick    the numbers of the header and of the bindings, what the pages name, the layers, the pictures, dist/ and its
-#                            comparison, and what crashes leave of a table of the built pwstore, in half a minute, without any build:
-#                            for each push; it needs strace
+#                            comparison, the faces in C over the libraries of dist/, and what crashes leave of a table of the built
+#                            pwstore, in a minute, without any proof: for each push; it needs strace
 #     checks/run.sh          that, and the C library, its callers, a run under sanitizers, the installation, the programs of README.md
 #
 # The second needs gcc, binutils and pkg-config, and builds the library and the programs by rt, which proves what no
@@ -19,6 +19,7 @@ python3 checks/layers.py
 python3 bench/pictures.py check
 python3 checks/dist.py
 checks/verify_try.sh
+checks/c_faces.sh
 command -v strace >/dev/null 2>&1 || apt-get install -y strace >/dev/null 2>&1 || true
 python3 bench/crashes.py quick
 work=$(mktemp -d)

@@ -14,8 +14,8 @@ import sys
 
 from page_texts import TOP, end, page_texts
 
-CLI = "crates/pwtool/src/cli.rt"
-BOUNDS = "crates/pwtool/src/bounds.rt"
+CLI = "crates/pwtool_cli/src/cli.rt"
+BOUNDS = "crates/pwtool_forms/src/bounds.rt"
 
 # A name, the file and the pattern of the source (or none), the patterns of the pages, and how often a page states it at least.
 FACTS = [
@@ -56,9 +56,9 @@ FACTS = [
     ("the processor minutes of the gate", None, [r"from nothing on four cores, (\d+) of processor time", r"so (\d+) of processor time"], 2),
     ("the minutes of the first answer", None, [r"prints the same: (\d+) minutes on four cores", r"first\.sh` took (\d+) minutes by the clock"], 2),
     ("the processor minutes of the first answer", None, [r"minutes on four cores and (\d+) of processor time", r"first answer (\d+) of processor time"], 2),
-    ("the status of bad words", ("crates/pwtool/src/status.rt", r"BAD_WORDS: u8 = (\d+)"),
+    ("the status of bad words", ("crates/pwtool_forms/src/status.rt", r"BAD_WORDS: u8 = (\d+)"),
      [r"(\d+) \|? ?the words of the command line are no form of the program"], 2),
-    ("the status of a file that can't be opened", ("crates/pwtool/src/status.rt", r"NO_FILE: u8 = (\d+)"),
+    ("the status of a file that can't be opened", ("crates/pwtool_forms/src/status.rt", r"NO_FILE: u8 = (\d+)"),
      [r"(\d+) \|? ?a file can't be opened", r"It (\d+) a file can't"], 2),
 ]
 for name in ("sha-rounds", "bcrypt-cost", "yescrypt-ln", "scrypt-ln", "pbkdf2-rounds", "pbkdf2-sha512-rounds", "argon2-memory"):

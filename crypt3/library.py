@@ -1,6 +1,6 @@
 #!/usr/bin/env python3
 """Builds libpwcrypt, crypt(3) over the proved calls, in a folder: lib/libpwcrypt.so.1.0 with the links libpwcrypt.so.1 and
-libpwcrypt.so.
+libpwcrypt.so, and lib/libpwcrypt_c.a, the proved calls below its face in C.
 
     crypt3/library.py FOLDER
 
@@ -37,16 +37,24 @@ def archives():
     return [archive, os.path.join(kit, "c", "liblibc_c.a")]
 
 
+def link(path, soname, calls):
+    """The face in C over the proved calls, as a shared library."""
+    library.run("gcc", *FLAGS, *shlex.split(os.environ.get("CFLAGS", "")), "-shared", "-o", path, "-Wl,-soname," + soname, *LINK,
+                os.path.join(HERE, "pwcrypt.c"), os.path.abspath(calls), cwd=TOP)
+
+
 def laid_out(folder):
     """The shared library under its full version, with its links; the answer is its path."""
     lib = os.path.join(os.path.abspath(folder), "lib")
     os.makedirs(lib, exist_ok=True)
     full, soname = "libpwcrypt.so." + VERSION, "libpwcrypt.so." + VERSION.split(".", maxsplit=1)[0]
+    calls = os.path.join(lib, "libpwcrypt_c.a")
     if library.DIST:
         shutil.copy(os.path.join(library.DIST, full), lib)
+        shutil.copy(os.path.join(library.DIST, "libpwcrypt_c.a"), lib)
     else:
-        library.run("gcc", *FLAGS, *shlex.split(os.environ.get("CFLAGS", "")), "-shared", "-o", os.path.join(lib, full),
-                    "-Wl,-soname," + soname, *LINK, os.path.join(HERE, "pwcrypt.c"), *map(os.path.abspath, archives()), cwd=TOP)
+        library.joined(calls, "pwcrypt_*", archives())
+        link(os.path.join(lib, full), soname, calls)
     library.make_links(lib, "libpwcrypt", full, soname)
     return os.path.join(lib, full)
 

@@ -27,5 +27,6 @@ prove line_io base64ct
 prove line_program mcf phc sha_crypt
 prove stored_check
 prove scrypt_plain
+prove pwcheck_run
 cd pwcheck
 rt run -- check < ../../examples/passwords.txt

@@ -13,8 +13,6 @@ mod names;
 mod records;
 mod scheme;
 mod sha_texts;
-#[cfg(test)]
-mod tests;
 mod texts;
 
 pub use error::{MakeFault, NameFault};

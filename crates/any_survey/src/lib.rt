@@ -11,6 +11,3 @@ pub use costs::{Scheme, TextCosts, TextKind, text_kind};
 pub use judgement::{Judgement, LeastCosts, judged};
 pub use lines::{SurveyLines, run_survey};
 pub use rows::Format;
-
-#[cfg(test)]
-mod tests;

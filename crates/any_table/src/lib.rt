@@ -5,8 +5,6 @@
 mod any_texts;
 mod fault;
 mod fields;
-#[cfg(test)]
-mod tests;
 mod words;
 
 pub use any_texts::{AnyKept, AnyTexts};

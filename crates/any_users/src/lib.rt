@@ -8,15 +8,9 @@
 mod answer;
 mod fewer;
 mod join;
-#[cfg(test)]
-mod join_tests;
 mod joined;
 pub mod laws;
 mod no_text;
-#[cfg(test)]
-mod tests;
-#[cfg(test)]
-mod two_file_tests;
 mod users;
 
 pub use answer::JoinAnswer;

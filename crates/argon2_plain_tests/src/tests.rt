@@ -151,7 +151,7 @@ fn records(rt: HostRuntime) {
 // How often this asks for memory is told in bench/refused_memory.py: four times, as the table grows for 8, 64, 256 and 512 KiB
 // alone. Where a request is refused, this ends by the want of memory.
 #[test]
-fn records_in_a_kept_table(rt: HostRuntime) -> Result<(), Fail> {
+fn takes_4_for_records_in_a_kept_table(rt: HostRuntime) -> Result<(), Fail> {
     let kept = Argon2Kept::new(rt.alloc());
     for text in RECORDS {
         for (password, same) in [("password", true), ("passwore", false)] {
@@ -167,7 +167,7 @@ fn records_in_a_kept_table(rt: HostRuntime) -> Result<(), Fail> {
 
 // One request, as bench/refused_memory.py tells: a vector that is refused is not asked for again.
 #[test]
-fn a_record_in_one_vector(rt: HostRuntime) -> Result<(), Fail> {
+fn takes_1_for_a_record(rt: HostRuntime) -> Result<(), Fail> {
     let found = check_stored(rt.alloc(), &Argon2Plain, "password", RECORDS[1]);
     if found == Err(StoredError::OutOfMemory) {
         return Err("want of memory".into());
@@ -179,7 +179,7 @@ fn a_record_in_one_vector(rt: HostRuntime) -> Result<(), Fail> {
 // No request, as bench/refused_memory.py tells: a password too long, a text with a fault and a record that is not taken are
 // answered before memory is asked for.
 #[test]
-fn answers_before_memory(rt: HostRuntime) {
+fn takes_0_before_the_text_is_read(rt: HostRuntime) {
     let letters = [b'a'; 4_097];
     let Ok(long) = str::from_utf8(&letters) else {
         panic!(rt; "letters are text")

@@ -24,14 +24,14 @@ fn fed<E: Encoding, R: Abort>(
     let mut buf = [7u8; 64];
     let mut e = Encoder::<E>::new_wrapped(&mut buf[..len], width, ending).expect(rt, "made");
     for part in parts {
-        assert_eq!(rt; e.encode(part), Ok(()));
+        assert!(rt; e.encode(part) == Ok(()));
     }
-    assert_eq!(rt; e.encode(last.0).is_ok(), last.1);
-    assert_eq!(rt; e.position(), position);
+    assert!(rt; e.encode(last.0).is_ok() == last.1);
+    assert!(rt; e.position() == position);
     match e.finish_with_remaining() {
         Ok((written, rest)) => {
-            assert_eq!(rt; Some(written), text);
-            assert_eq!(rt; written.len() + rest.len(), len);
+            assert!(rt; Some(written) == text);
+            assert!(rt; written.len() + rest.len() == len);
             rest.fill(9);
         }
         Err(error) => assert!(rt; error == Error::InvalidLength && text.is_none()),
@@ -45,7 +45,7 @@ fn stands<R: Abort>(rt: &R, buf: &[u8], len: usize, text: Option<&str>) {
     assert!(rt; buf[len..].iter().all(|b| *b == 7));
     if let Some(text) = text {
         assert!(rt; text.len() <= len);
-        assert_eq!(rt; &buf[..text.len()], text.as_bytes());
+        assert!(rt; &buf[..text.len()] == text.as_bytes());
         assert!(rt; buf[text.len()..len].iter().all(|b| *b == 9));
     }
 }
@@ -99,26 +99,26 @@ fn encoders_in_one_line(rt: HostRuntime) {
             == Some(Error::InvalidLength)
     );
     let mut e = Encoder::<Base64>::new(&mut buf).expect(&rt, "made");
-    assert_eq!(rt; e.encode(&[1, 2, 3, 4]), Ok(()));
-    assert_eq!(rt; e.finish(), Ok("AQIDBA=="));
-    assert_eq!(rt; &buf, b"AQIDBA==\x07\x07\x07\x07\x07\x07\x07\x07");
+    assert!(rt; e.encode(&[1, 2, 3, 4]) == Ok(()));
+    assert!(rt; e.finish() == Ok("AQIDBA=="));
+    assert!(rt; &buf == b"AQIDBA==\x07\x07\x07\x07\x07\x07\x07\x07");
 }
 
 #[test]
 fn encoder_writes(rt: HostRuntime) -> Result<(), Fail> {
     let mut buf = [0u8; 9];
     let mut e = Encoder::<Base64>::new_wrapped(&mut buf, 4, LineEnding::LF).expect(&rt, "made");
-    assert_eq!(rt; e.write(&[0; 6])?, 6);
+    assert!(rt; e.write(&[0; 6])? == 6);
     e.flush()?;
     match e.write(&[0; 3]) {
         Ok(_) => assert!(rt; false),
         Err(error) => assert!(rt; error.kind() == ErrorKind::InvalidData),
     }
-    assert_eq!(rt; e.finish(), Ok("AAAA\nAAAA"));
+    assert!(rt; e.finish() == Ok("AAAA\nAAAA"));
     let mut buf = [0u8; 8];
     let mut e = Encoder::<Base64>::new(&mut buf).expect(&rt, "made");
     e.write_all(b"hello")?;
-    assert_eq!(rt; e.finish(), Ok("aGVsbG8="));
+    assert!(rt; e.finish() == Ok("aGVsbG8="));
     Ok(())
 }
 
@@ -131,15 +131,15 @@ fn expect_parts<E: Encoding, R: Abort>(rt: &R, text: &[u8], width: usize, parts:
         let n = part.len();
         assert!(rt; n <= 8);
         let bytes = d.decode(&mut buf[..n]).expect(rt, "decoded");
-        assert_eq!(rt; bytes, *part);
+        assert!(rt; bytes == *part);
         match again.read(&mut buf[..n]) {
-            Ok(count) => assert_eq!(rt; &buf[..count], *part),
+            Ok(count) => assert!(rt; &buf[..count] == *part),
             Err(_) => assert!(rt; false),
         }
     }
     assert!(rt; d.is_finished());
     match again.read(&mut buf) {
-        Ok(count) => assert_eq!(rt; count, 0),
+        Ok(count) => assert!(rt; count == 0),
         Err(_) => assert!(rt; false),
     }
 }
@@ -182,7 +182,7 @@ fn decoder_rows(rt: HostRuntime) {
         Ok(_) => assert!(rt; false),
         Err(error) => assert!(rt; error.kind() == ErrorKind::InvalidData),
     }
-    assert_eq!(rt; d.remaining_len(), 6);
+    assert!(rt; d.remaining_len() == 6);
     let mut d = Decoder::<Base64Unpadded>::new_wrapped(b"AQIDB\rAUG", 5).expect(&rt, "made");
     let mut seven = [0u8; 7];
     assert!(rt; d.decode(&mut seven).err() == Some(Error::InvalidLength));
@@ -190,9 +190,9 @@ fn decoder_rows(rt: HostRuntime) {
         Ok(()) => assert!(rt; false),
         Err(error) => assert!(rt; error.kind() == ErrorKind::InvalidData),
     }
-    assert_eq!(rt; d.remaining_len(), 6);
+    assert!(rt; d.remaining_len() == 6);
     let bytes = d.decode(&mut seven[..6]).expect(&rt, "six");
-    assert_eq!(rt; bytes, [1, 2, 3, 4, 5, 6].as_slice());
+    assert!(rt; bytes == [1, 2, 3, 4, 5, 6].as_slice());
 }
 
 // What is left of a text behind its first `cut` bytes is appended to a vector that holds one byte.
@@ -215,7 +215,7 @@ fn appended<R: Abort>(
         Ok(bytes) => (bytes, 0),
         Err(_) => ([].as_slice(), left),
     };
-    assert_eq!(rt; d.remaining_len(), more);
+    assert!(rt; d.remaining_len() == more);
     assert!(rt; v.starts_with(&[7]) && v.len() == 1 + bytes.len() && v.ends_with(bytes));
 }
 
@@ -301,10 +301,10 @@ fn feed_two<R: Abort>(
     assert!(rt; cut <= bytes.len());
     let mut room = [0u8; 200];
     let mut e = Encoder::<Base64>::new_wrapped(&mut room, width, ending).expect(rt, "made");
-    assert_eq!(rt; e.encode(&bytes[..cut]), Ok(()));
-    assert_eq!(rt; e.encode(&bytes[cut..]), Ok(()));
+    assert!(rt; e.encode(&bytes[..cut]) == Ok(()));
+    assert!(rt; e.encode(&bytes[cut..]) == Ok(()));
     let written = e.finish().expect(rt, "fits");
-    assert_eq!(rt; written.as_bytes(), text);
+    assert!(rt; written.as_bytes() == text);
 }
 
 // A decoder of `text` read in two pieces gives `bytes`.
@@ -313,12 +313,12 @@ fn read_two<R: Abort>(rt: &R, bytes: &[u8], cut: usize, width: usize, text: &[u8
     let mut room = [0u8; 50];
     let mut d = Decoder::<Base64>::new_wrapped(text, width).expect(rt, "made");
     let front = d.decode(&mut room[..cut]).expect(rt, "the front");
-    assert_eq!(rt; front, &bytes[..cut]);
-    assert_eq!(rt; d.remaining_len(), bytes.len() - cut);
+    assert!(rt; front == &bytes[..cut]);
+    assert!(rt; d.remaining_len() == bytes.len() - cut);
     let rest = d
         .decode(&mut room[..bytes.len() - cut])
         .expect(rt, "the rest");
-    assert_eq!(rt; rest, &bytes[cut..]);
+    assert!(rt; rest == &bytes[cut..]);
     assert!(rt; d.is_finished());
 }
 
@@ -369,9 +369,9 @@ fn fed_in_steps<R: Abort>(
     assert!(rt; step > 0);
     let mut e = Encoder::<Base64>::new_wrapped(room, width, ending).expect(rt, "made");
     for part in bytes.chunks(step) {
-        assert_eq!(rt; e.encode(part), Ok(()));
+        assert!(rt; e.encode(part) == Ok(()));
     }
-    assert_eq!(rt; e.finish().expect(rt, "fits").as_bytes(), text);
+    assert!(rt; e.finish().expect(rt, "fits").as_bytes() == text);
 }
 
 // A decoder of `text` of which `step` bytes are asked a call.
@@ -387,10 +387,7 @@ fn read_in_steps<R: Abort>(
     let mut d = Decoder::<Base64>::new_wrapped(text, width).expect(rt, "made");
     for part in bytes.chunks(step) {
         assert!(rt; part.len() <= room.len());
-        assert_eq!(rt;
-            d.decode(&mut room[..part.len()]).expect(rt, "a part"),
-            part
-        );
+        assert!(rt; d.decode(&mut room[..part.len()]).expect(rt, "a part") == part);
     }
     assert!(rt; d.is_finished());
 }

@@ -22,6 +22,13 @@ parts_answer password (Err e) = Err (InvalidFormat e)
 parts_answer password (Ok p) =
     if has_zero password then Err ZeroByte else (if hash_matches password p then Ok tt else Err HashMismatch)
 
+-- the same, where another test than equality of all bytes decides
+abbrev pub answer_by : (List ℕ → List ℕ → Bool) → List ℕ → Result Parts BcryptFault → Result (Unit {0}) BcryptError
+answer_by same password (Err e) = Err (InvalidFormat e)
+answer_by same password (Ok p) =
+    if has_zero password then Err ZeroByte
+    else (if same (bcrypt password p.salt p.cost) p.hash then Ok tt else Err HashMismatch)
+
 -- the answer for a password and a stored text
 unfoldable pub bcrypt_answer : List ℕ → List ℕ → Result (Unit {0}) BcryptError
 bcrypt_answer password text = parts_answer password (text_parts text)

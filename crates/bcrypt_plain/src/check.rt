@@ -1,11 +1,12 @@
 //! The check of a password against a stored text.
 
 ghost use Rattle.std.specs.Prelude.{◌≡◌, ◌↔◌, ◌≤◌, ◌+◌, ◌^◌, Err, Ok, false, if◌then◌else◌, true};
-ghost use Rattle.bcrypt_plain.specs.Check.{bcrypt_answer, has_zero, is_verdict, parts_answer};
+ghost use Rattle.bcrypt_plain.specs.Check.{answer_by, bcrypt_answer, has_zero, is_verdict};
 ghost use Rattle.bcrypt_plain.specs.Made.{IsHashText};
 ghost use Rattle.bcrypt_plain.specs.Text.{text_cost};
 ghost use Rattle.bcrypt_plain.specs.Views.{as_parts};
 
+use crate::compare::Compare;
 use crate::text::{BcryptParts, text_parts};
 use crate::{BcryptError, BcryptFault, bcrypt};
 use base64ct::Counts;
@@ -29,21 +30,25 @@ fn answer_of(matches: bool) -> Result<(), BcryptError>
     }
 }
 
-// Whether the hash is that of the password. The hashes are compared to their end.
-fn check_parts(password: &[u8], parts: BcryptParts, counts: &mut Counts) -> Result<(), BcryptError>
+// Whether the hash is that of the password, as the comparison says.
+fn check_parts<C: Compare>(
+    password: &[u8],
+    parts: BcryptParts,
+    compare: &mut C,
+) -> Result<(), BcryptError>
     requires cost { parts.cost ≤ 31 }
-    requires sames { counts.old.sames ≤ 2 ^ 62 + 8 }
-    ensures answer { result ≡ parts_answer password.now (as_parts (Ok parts)) }
-    ensures looks { counts.new.looks ≡ counts.old.looks }
-    ensures sames { is_verdict result ≡ true → counts.new.sames ≡ counts.old.sames + 23 }
-    ensures sames_stay { counts.old.sames ≤ counts.new.sames }
-    ensures no_sames { is_verdict result ≡ false → counts.new.sames ≡ counts.old.sames }
+    requires sames { C.sames compare.old ≤ 2 ^ 62 + 8 }
+    ensures answer { result ≡ answer_by C.same password.now (as_parts (Ok parts)) }
+    ensures looks { C.looks compare.new ≡ C.looks compare.old }
+    ensures sames { is_verdict result ≡ true → C.sames compare.new ≡ C.sames compare.old + 23 }
+    ensures sames_stay { C.sames compare.old ≤ C.sames compare.new }
+    ensures no_sames { is_verdict result ≡ false → C.sames compare.new ≡ C.sames compare.old }
 {
     if has_zero(password) {
         return Err(BcryptError::ZeroByte);
     }
     let hash = bcrypt(password, &parts.salt, parts.cost);
-    answer_of(bool::from(counts.same_bytes(&hash, &parts.hash)))
+    answer_of(compare.same_hashes(&hash, &parts.hash))
 }
 
 /// The cost that a valid text names: 4 to 31, the binary logarithm of the number of turns. Nothing is hashed.

@@ -14,6 +14,7 @@
 
 mod blowfish;
 mod check;
+mod compare;
 mod digest;
 mod error;
 mod field;
@@ -21,8 +22,6 @@ pub mod laws;
 mod make;
 mod pi;
 mod schedule;
-#[cfg(test)]
-mod tests;
 mod text;
 mod version;
 

@@ -12,8 +12,6 @@ pub mod laws;
 mod lines;
 mod parts;
 mod runs;
-#[cfg(test)]
-mod tests;
 
 pub use fewer::run_foreign_join_fewer;
 pub use join::run_foreign_join;

@@ -16,8 +16,6 @@ mod field;
 pub mod laws;
 mod magic;
 mod run;
-#[cfg(test)]
-mod tests;
 mod turns;
 
 pub use check::check_legacy;

@@ -49,6 +49,3 @@ pub fn pbkdf2_sha512(password: &[u8], salt: &[u8], rounds: u32, out: &mut [u8])
 {
     derive::fill::<64, HmacSha512>(password, salt, rounds, out);
 }
-
-#[cfg(test)]
-mod tests;

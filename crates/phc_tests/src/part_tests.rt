@@ -62,7 +62,7 @@ fn decimals(rt: HostRuntime) {
     for (text, number) in DECIMALS {
         let value = value(&rt, text);
         assert!(rt; value.decimal() == number.ok_or(Error::ParamValueInvalid));
-        assert_eq!(rt; value.is_decimal(), number.is_some());
+        assert!(rt; value.is_decimal() == number.is_some());
     }
 }
 
@@ -70,16 +70,21 @@ fn decimals(rt: HostRuntime) {
 fn values(rt: HostRuntime) -> Result<(), AllocError> {
     let long = format!(in rt.alloc(); "{SIXTEEN}{SIXTEEN}{SIXTEEN}{SIXTEEN}")?;
     let sixteen = value(&rt, SIXTEEN);
-    assert_eq!(rt; sixteen.as_str(), SIXTEEN);
+    assert!(rt; sixteen.as_str() == SIXTEEN);
     assert!(rt; sixteen.as_bytes() == SIXTEEN.as_bytes());
-    assert_eq!(rt; value(&rt, &long).len(), Value::MAX_LENGTH);
+    assert!(rt; value(&rt, &long).len() == Value::MAX_LENGTH);
     assert!(rt; value(&rt, "").is_empty() && !sixteen.is_empty());
     assert!(rt; value(&rt, "a") < value(&rt, "b"));
-    assert_eq!(rt; format!(in rt.alloc(); "{sixteen}")?.as_str(), SIXTEEN);
-    let longer = format!(in rt.alloc(); "{long};")?;
+    assert!(rt; format!(in rt.alloc(); "{sixteen}")?.as_str() == SIXTEEN);
+    Ok(())
+}
+
+#[test]
+fn refused_values(rt: HostRuntime) -> Result<(), AllocError> {
+    let longer = format!(in rt.alloc(); "{SIXTEEN}{SIXTEEN}{SIXTEEN}{SIXTEEN};")?;
     assert!(rt; Value::new(&longer) == Err(Error::ParamValueTooLong));
     for text in ["x;y", "a=b", "a,b", "a$b", "a b", "\u{e9}"] {
-        assert!(rt; Value::new(text) == Err(Error::ParamValueInvalid));
+        assert!(rt; Value::new(text) == Err(Error::ParamValueInvalid), "{text}");
     }
     Ok(())
 }
@@ -96,7 +101,10 @@ fn decoded_values(rt: HostRuntime) {
     assert!(rt; room == [4, 5, 6, 7]);
     let encoding = Some(Error::Base64(base64ct::Error::InvalidEncoding));
     for text in ["Mi", "A", "AA-", "...."] {
-        assert!(rt; value(&rt, text).b64_decode(&mut room).err() == encoding);
+        assert!(rt;
+            value(&rt, text).b64_decode(&mut room).err() == encoding,
+            "{text}"
+        );
     }
 }
 
@@ -126,29 +134,39 @@ const BAD_SALTS: [(&str, Error); 7] = [
 ];
 
 #[test]
-fn salts(rt: HostRuntime) -> Result<(), AllocError> {
+fn refused_salts(rt: HostRuntime) {
     for (text, fault) in BAD_SALTS {
-        assert!(rt; Salt::from_b64(text) == Err(fault));
-        assert!(rt; SaltString::from_b64(text) == Err(fault));
-        assert!(rt; text.parse::<Salt>() == Err(fault));
-        assert!(rt; text.parse::<SaltString>() == Err(fault));
+        assert!(rt; Salt::from_b64(text) == Err(fault), "{text}");
+        assert!(rt; SaltString::from_b64(text) == Err(fault), "{text}");
+        assert!(rt; text.parse::<Salt>() == Err(fault), "{text}");
+        assert!(rt; text.parse::<SaltString>() == Err(fault), "{text}");
     }
+}
+
+#[test]
+fn salts(rt: HostRuntime) -> Result<(), AllocError> {
     let bytes = [0x69, 0xb7, 0x1d, 0x69, 0xb7, 0x1d, 0x69, 0xb7];
     let salt = Salt::from_b64("abcdabcdabc").expect(&rt, "a salt");
     assert!(rt; salt.as_bytes() == bytes.as_slice());
     assert!(rt; Salt::new(&bytes) == Ok(salt));
     assert!(rt; Salt::new(&COUNTED[..7]) == Err(Error::SaltTooShort));
     assert!(rt; Salt::new(&COUNTED[..49]) == Err(Error::SaltTooLong));
-    assert_eq!(rt; format!(in rt.alloc(); "{salt}")?.as_str(), "abcdabcdabc");
+    assert!(rt; format!(in rt.alloc(); "{salt}")?.as_str() == "abcdabcdabc");
+    Ok(())
+}
+
+#[test]
+fn texts_of_salts(rt: HostRuntime) -> Result<(), AllocError> {
+    let salt = Salt::from_b64("abcdabcdabc").expect(&rt, "a salt");
     let text = salt.to_salt_string();
-    assert_eq!(rt; text.as_str(), "abcdabcdabc");
+    assert!(rt; text.as_str() == "abcdabcdabc");
     assert!(rt; SaltString::from_b64("abcdabcdabc") == Ok(text));
     assert!(rt; text.to_salt() == salt);
-    assert_eq!(rt; format!(in rt.alloc(); "{text}")?.as_str(), "abcdabcdabc");
+    assert!(rt; format!(in rt.alloc(); "{text}")?.as_str() == "abcdabcdabc");
     let longest = Salt::new(&COUNTED[..48])
         .expect(&rt, "a salt")
         .to_salt_string();
-    assert_eq!(rt; longest.as_str(), &COUNTED_TEXT[..SaltString::MAX_LENGTH]);
+    assert!(rt; longest.as_str() == &COUNTED_TEXT[..SaltString::MAX_LENGTH]);
     Ok(())
 }
 
@@ -194,12 +212,9 @@ impl TryFill for Given<'_> {
 fn salts_of_a_generator(rt: HostRuntime) {
     let mut rng = ChaCha20Rng::from_seed([0; 32]);
     let salt = Salt::from_rng(&mut rng);
-    assert_eq!(rt; salt.as_bytes().len(), Salt::RECOMMENDED_LENGTH);
+    assert!(rt; salt.as_bytes().len() == Salt::RECOMMENDED_LENGTH);
     assert!(rt; salt.as_bytes() == &CHACHA[..16]);
-    assert_eq!(rt;
-        SaltString::from_rng(&mut rng).as_str(),
-        "vdIZuKCN7RqoNu/Mi3cNxw"
-    );
+    assert!(rt; SaltString::from_rng(&mut rng).as_str() == "vdIZuKCN7RqoNu/Mi3cNxw");
 }
 
 #[test]
@@ -212,10 +227,10 @@ fn salts_of_a_generator_that_refuses(rt: HostRuntime) {
     assert!(rt; Salt::try_from_rng(&mut rng) == Err("not yet"));
     assert!(rt; Salt::try_from_rng(&mut rng) == Ok(Salt::new(&CHACHA[..16]).expect(&rt, "a salt")));
     let text = SaltString::try_from_rng(&mut rng).expect(&rt, "a salt");
-    assert_eq!(rt; text.as_str(), "vdIZuKCN7RqoNu/Mi3cNxw");
+    assert!(rt; text.as_str() == "vdIZuKCN7RqoNu/Mi3cNxw");
     assert!(rt; SaltString::try_from_rng(&mut rng) == Err("not yet"));
-    assert_eq!(rt; rng.refusals, 2);
-    assert_eq!(rt; rng.calls, 4);
+    assert!(rt; rng.refusals == 2);
+    assert!(rt; rng.calls == 4);
 }
 
 // ---- outputs
@@ -241,9 +256,9 @@ const BAD_OUTPUTS: [(&str, Error); 5] = [
 #[test]
 fn refused_outputs(rt: HostRuntime) {
     for (text, fault) in BAD_OUTPUTS {
-        assert!(rt; Output::decode(text) == Err(fault));
-        assert!(rt; Output::b64_decode(text) == Err(fault));
-        assert!(rt; text.parse::<Output>() == Err(fault));
+        assert!(rt; Output::decode(text) == Err(fault), "{text}");
+        assert!(rt; Output::b64_decode(text) == Err(fault), "{text}");
+        assert!(rt; text.parse::<Output>() == Err(fault), "{text}");
     }
     assert!(rt; Output::new(&COUNTED[..9]) == Err(SHORT));
     assert!(rt; Output::new(&COUNTED) == Err(LONG));
@@ -271,26 +286,37 @@ fn b64_encoded_as(rt: &impl Abort, most: &Output) {
 }
 
 #[test]
-fn outputs(rt: HostRuntime) -> Result<(), AllocError> {
+fn outputs(rt: HostRuntime) {
     let ten = Output::new(&COUNTED[1..11]).expect(&rt, "an output");
     assert!(rt; Output::decode("AQIDBAUGBwgJCg") == Ok(ten));
-    assert_eq!(rt; ten.len(), Output::MIN_LENGTH);
+    assert!(rt; ten.len() == Output::MIN_LENGTH);
     let most = Output::new(&COUNTED[..64]).expect(&rt, "an output");
     assert!(rt; most.as_bytes() == &COUNTED[..Output::MAX_LENGTH]);
     assert!(rt; Output::decode(COUNTED_TEXT) == Ok(most));
-    assert_eq!(rt; Output::B64_MAX_LENGTH, 86);
-    assert_eq!(rt; most.encoded_len(), Output::B64_MAX_LENGTH);
-    assert_eq!(rt; most.b64_len(), Output::B64_MAX_LENGTH);
+}
+
+#[test]
+fn the_longest_output(rt: HostRuntime) -> Result<(), AllocError> {
+    let most = Output::new(&COUNTED[..64]).expect(&rt, "an output");
+    assert!(rt; Output::B64_MAX_LENGTH == 86);
+    assert!(rt; most.encoded_len() == Output::B64_MAX_LENGTH);
+    assert!(rt; most.b64_len() == Output::B64_MAX_LENGTH);
     let mut short = [7; 85];
     let fault = most.encode(&mut short).err();
     assert!(rt; fault == Some(Error::Base64(base64ct::Error::InvalidLength)));
     encoded_as(&rt, &most);
     b64_encoded_as(&rt, &most);
-    assert_eq!(rt; format!(in rt.alloc(); "{most}")?.as_str(), COUNTED_TEXT);
+    assert!(rt; format!(in rt.alloc(); "{most}")?.as_str() == COUNTED_TEXT);
+    Ok(())
+}
+
+#[test]
+fn outputs_are_compared(rt: HostRuntime) {
+    let ten = Output::new(&COUNTED[1..11]).expect(&rt, "an output");
+    let most = Output::new(&COUNTED[..64]).expect(&rt, "an output");
     assert!(rt; bool::from(ten.ct_eq(&ten)) && !bool::from(ten.ct_eq(&most)));
     let other = Output::new(&COUNTED[2..12]).expect(&rt, "an output");
     assert!(rt; ten != other && ten != most);
-    Ok(())
 }
 
 #[test]
@@ -333,40 +359,72 @@ const BAD_PARAMS: [(&str, Error); 10] = [
 #[test]
 fn refused_params(rt: HostRuntime) {
     for (text, fault) in BAD_PARAMS {
-        assert!(rt; text.parse::<ParamsString>() == Err(fault));
+        assert!(rt; text.parse::<ParamsString>() == Err(fault), "{text}");
     }
 }
 
-#[test]
-fn read_params(rt: HostRuntime) -> Result<(), AllocError> {
-    let params = "ln=16,r=8,p=01,r=x,e="
+// Five parameters, of which two have one name, one has a value that is no decimal, and one an empty value.
+fn five_params(rt: &impl Abort) -> ParamsString {
+    "ln=16,r=8,p=01,r=x,e="
         .parse::<ParamsString>()
-        .expect(&rt, "parameters");
+        .expect(rt, "parameters")
+}
+
+#[test]
+fn params_by_name(rt: HostRuntime) {
+    let params = five_params(&rt);
     assert!(rt; params.get(name(&rt, "ln")) == Some(value(&rt, "16")));
     assert!(rt; params.get(name(&rt, "x")) == None);
     assert!(rt; params.get_str(name(&rt, "r")) == Some("8"));
+}
+
+#[test]
+fn decimals_by_name(rt: HostRuntime) {
+    let params = five_params(&rt);
     assert!(rt; params.get_decimal(name(&rt, "r")) == Some(8));
     assert!(rt; params.get_decimal(name(&rt, "p")) == None);
+    assert!(rt; params.get_decimal_named("ln") == Some(16));
+}
+
+#[test]
+fn params_by_a_text(rt: HostRuntime) {
+    let params = five_params(&rt);
     assert!(rt; params.get_named("e") == Some(value(&rt, "")));
     assert!(rt; params.get_named("R") == None);
     assert!(rt; params.get_str_named("p") == Some("01"));
-    assert!(rt; params.get_decimal_named("ln") == Some(16));
+}
+
+#[test]
+fn pairs_in_turn(rt: HostRuntime) -> Result<(), AllocError> {
+    let params = five_params(&rt);
     let mut pairs = params.iter();
     assert!(rt; pairs.next() == Some((name(&rt, "ln"), value(&rt, "16"))));
     let mut again = pairs.clone()?;
     for (text, wanted) in [("r", "8"), ("p", "01"), ("r", "x"), ("e", "")] {
-        assert!(rt; pairs.next() == Some((name(&rt, text), value(&rt, wanted))));
+        assert!(rt;
+            pairs.next() == Some((name(&rt, text), value(&rt, wanted))),
+            "{text}={wanted}"
+        );
     }
     assert!(rt; pairs.next() == None);
     assert!(rt; again.next() == Some((name(&rt, "r"), value(&rt, "8"))));
-    assert_eq!(rt; params.as_str(), "ln=16,r=8,p=01,r=x,e=");
+    Ok(())
+}
+
+#[test]
+fn texts_of_params(rt: HostRuntime) -> Result<(), AllocError> {
+    let params = five_params(&rt);
+    assert!(rt; params.as_str() == "ln=16,r=8,p=01,r=x,e=");
     assert!(rt; params.as_bytes() == params.as_str().as_bytes());
-    assert_eq!(rt; params.len(), 21);
+    assert!(rt; params.len() == 21);
     assert!(rt; !params.is_empty());
-    assert_eq!(rt;
-        format!(in rt.alloc(); "{params}")?.as_str(),
-        params.as_str()
-    );
+    assert!(rt; format!(in rt.alloc(); "{params}")?.as_str() == params.as_str());
+    Ok(())
+}
+
+#[test]
+fn params_are_compared(rt: HostRuntime) -> Result<(), AllocError> {
+    let params = five_params(&rt);
     assert!(rt; params.clone()? == params);
     assert!(rt; params != ParamsString::default());
     assert!(rt; "".parse::<ParamsString>() == Ok(ParamsString::new()));
@@ -374,38 +432,57 @@ fn read_params(rt: HostRuntime) -> Result<(), AllocError> {
     Ok(())
 }
 
+// Three parameters of bytes.
+fn three_params(rt: &impl Abort) -> ParamsString {
+    "a=AQ,b=AgM,c=BAUG"
+        .parse::<ParamsString>()
+        .expect(rt, "parameters")
+}
+
 #[test]
-fn added_pairs(rt: HostRuntime) {
+fn added_bytes(rt: HostRuntime) {
     let mut params = ParamsString::new();
     assert!(rt; params.add_b64_bytes(name(&rt, "a"), &[1]) == Ok(()));
     assert!(rt; params.add_b64_bytes(name(&rt, "b"), &[2, 3]) == Ok(()));
     assert!(rt; params.add_b64_bytes_named("c", &[4, 5, 6]) == Ok(()));
-    assert_eq!(rt; params.as_str(), "a=AQ,b=AgM,c=BAUG");
+    assert!(rt; params.as_str() == "a=AQ,b=AgM,c=BAUG");
+}
+
+#[test]
+fn names_added_twice(rt: HostRuntime) {
+    let mut params = three_params(&rt);
     let twice = Err(Error::ParamNameDuplicated);
     assert!(rt; params.add_b64_bytes(name(&rt, "a"), &COUNTED) == twice);
     assert!(rt; params.add_str(name(&rt, "a"), value(&rt, "1")) == twice);
     assert!(rt; params.add_decimal(name(&rt, "c"), 1) == twice);
+    assert!(rt; params.as_str() == "a=AQ,b=AgM,c=BAUG");
+}
+
+#[test]
+fn bytes_too_long(rt: HostRuntime) {
+    let mut params = three_params(&rt);
     assert!(rt;
         params.add_b64_bytes(name(&rt, "d"), &COUNTED[..49]) == Err(Error::ParamValueTooLong)
     );
     assert!(rt; params.add_b64_bytes_named("d", &COUNTED[..49]) == Err(Error::ParamValueTooLong));
     assert!(rt; params.add_b64_bytes_named("D", &COUNTED[..49]) == Err(Error::ParamNameInvalid));
-    assert_eq!(rt; params.as_str(), "a=AQ,b=AgM,c=BAUG");
+    assert!(rt; params.as_str() == "a=AQ,b=AgM,c=BAUG");
+}
+
+#[test]
+fn added_pairs(rt: HostRuntime) {
+    let mut params = three_params(&rt);
     assert!(rt; params.add_decimal(name(&rt, "d"), 0) == Ok(()));
     assert!(rt; params.add_decimal_named("e", 4_294_967_295) == Ok(()));
     assert!(rt; params.add_decimal_named("", 1) == Err(Error::ParamNameInvalid));
     assert!(rt; params.add_str_named("f", "") == Ok(()));
     assert!(rt; params.add_str(name(&rt, "g-1"), value(&rt, "/+.-")) == Ok(()));
-    assert_eq!(rt;
-        params.as_str(),
-        "a=AQ,b=AgM,c=BAUG,d=0,e=4294967295,f=,g-1=/+.-"
-    );
+    assert!(rt; params.as_str() == "a=AQ,b=AgM,c=BAUG,d=0,e=4294967295,f=,g-1=/+.-");
 }
 
 #[test]
-fn full_params(rt: HostRuntime) -> Result<(), AllocError> {
+fn names_and_values_refused(rt: HostRuntime) -> Result<(), AllocError> {
     let most = format!(in rt.alloc(); "{SIXTEEN}{SIXTEEN}{SIXTEEN}{SIXTEEN}")?;
-    let full = format!(in rt.alloc(); "a={most},b={}", &most[..58])?;
     let mut params = ParamsString::new();
     assert!(rt; params.add_str_named("A", "1") == Err(Error::ParamNameInvalid));
     assert!(rt; params.add_str_named("A", "x;y") == Err(Error::ParamNameInvalid));
@@ -413,15 +490,23 @@ fn full_params(rt: HostRuntime) -> Result<(), AllocError> {
     let longer = format!(in rt.alloc(); "{most}1")?;
     assert!(rt; params.add_str_named("a", &longer) == Err(Error::ParamValueInvalid));
     assert!(rt; params.is_empty());
+    Ok(())
+}
+
+#[test]
+fn full_params(rt: HostRuntime) -> Result<(), AllocError> {
+    let most = format!(in rt.alloc(); "{SIXTEEN}{SIXTEEN}{SIXTEEN}{SIXTEEN}")?;
+    let full = format!(in rt.alloc(); "a={most},b={}", &most[..58])?;
+    let mut params = ParamsString::new();
     assert!(rt; params.add_str_named("a", &most) == Ok(()));
     assert!(rt; params.add_str_named("b", &most[..59]) == Err(Error::ParamsMaxExceeded));
     assert!(rt; params.add_str_named("b", &most[..58]) == Ok(()));
-    assert_eq!(rt; params.len(), 127);
+    assert!(rt; params.len() == 127);
     assert!(rt; params.add_str_named("c", "") == Err(Error::ParamsMaxExceeded));
     assert!(rt; params.add_decimal_named("c", 1) == Err(Error::ParamsMaxExceeded));
     assert!(rt; params.add_b64_bytes_named("c", &[]) == Err(Error::ParamsMaxExceeded));
     assert!(rt; params.add_str_named("a", "") == Err(Error::ParamNameDuplicated));
-    assert_eq!(rt; params.as_str(), full.as_str());
+    assert!(rt; params.as_str() == full.as_str());
     assert!(rt; full.parse::<ParamsString>() == Ok(params));
     Ok(())
 }

@@ -27,8 +27,6 @@ mod old;
 mod params;
 mod record;
 mod simple;
-#[cfg(test)]
-mod tests;
 mod turns;
 
 use base64ct::Counts;

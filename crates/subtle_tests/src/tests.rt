@@ -44,116 +44,148 @@ fn negated<T: ConditionallyNegatable>(mut value: T, choice: Choice) -> T {
     value
 }
 
+// Two bits, and what `and`, `or` and `xor` make of them.
+const BITS: [(u8, u8, u8, u8, u8); 4] = [
+    (0, 0, 0, 0, 0),
+    (0, 1, 0, 1, 1),
+    (1, 0, 0, 1, 1),
+    (1, 1, 1, 1, 0),
+];
+
 #[test]
 fn choices_are_bits(rt: HostRuntime) {
-    for (a, b, and, or, xor) in [
-        (0, 0, 0, 0, 0),
-        (0, 1, 0, 1, 1),
-        (1, 0, 0, 1, 1),
-        (1, 1, 1, 1, 0),
-    ] {
+    for (a, b, and, or, xor) in BITS {
         let (x, y) = (choice(a == 1), choice(b == 1));
         let (mut anded, mut ored, mut xored) = (x, x, x);
         anded &= y;
         ored |= y;
         xored ^= y;
-        assert_eq!(rt;
-            [(x & y).unwrap_u8(), anded.unwrap_u8()],
-            [and, and],
+        assert!(rt;
+            [(x & y).unwrap_u8(), anded.unwrap_u8()] == [and, and],
             "{a} & {b}"
         );
-        assert_eq!(rt;
-            [(x | y).unwrap_u8(), ored.unwrap_u8()],
-            [or, or],
+        assert!(rt;
+            [(x | y).unwrap_u8(), ored.unwrap_u8()] == [or, or],
             "{a} | {b}"
         );
-        assert_eq!(rt;
-            [(x ^ y).unwrap_u8(), xored.unwrap_u8()],
-            [xor, xor],
+        assert!(rt;
+            [(x ^ y).unwrap_u8(), xored.unwrap_u8()] == [xor, xor],
             "{a} ^ {b}"
-        );
-        assert_eq!(rt; [x.unwrap_u8(), (!x).unwrap_u8()], [a, 1 - a]);
-        assert_eq!(rt; bool::from(x), a == 1);
-        assert_eq!(rt; equality(&x, &y), [1 - xor, xor]);
-        assert_eq!(rt;
-            selection(x, y, choice(true)).map(|c| c.unwrap_u8()),
-            [b, b, b, a]
         );
     }
 }
 
 #[test]
-fn numbers_are_compared(rt: HostRuntime) {
-    for (a, b, gt, lt) in [
-        (13u8, 42u8, 0, 1),
-        (42, 13, 1, 0),
-        (13, 13, 0, 0),
-        (0, 255, 0, 1),
-        (128, 127, 1, 0),
-    ] {
-        let (eq, ne) = (1 - gt - lt, gt + lt);
-        let (wide_a, wide_b) = (u128::from(a) << 100, u128::from(b) << 100);
-        assert_eq!(rt; order(&a, &b), [gt, lt], "{a}, {b}");
-        assert_eq!(rt; order(&u16::from(a), &u16::from(b)), [gt, lt], "{a}, {b}");
-        assert_eq!(rt; order(&u32::from(a), &u32::from(b)), [gt, lt], "{a}, {b}");
-        assert_eq!(rt; order(&u64::from(a), &u64::from(b)), [gt, lt], "{a}, {b}");
-        assert_eq!(rt; order(&wide_a, &wide_b), [gt, lt], "{a}, {b}");
-        assert_eq!(rt; order(&a.cmp(&b), &Ordering::Equal), [gt, lt], "{a}, {b}");
-        assert_eq!(rt; equality(&a, &b), [eq, ne], "{a}, {b}");
-        assert_eq!(rt;
-            equality(&u16::from(a), &u16::from(b)),
-            [eq, ne],
+fn choices_are_compared_and_selected(rt: HostRuntime) {
+    for (a, b, _, _, xor) in BITS {
+        let (x, y) = (choice(a == 1), choice(b == 1));
+        assert!(rt; [x.unwrap_u8(), (!x).unwrap_u8()] == [a, 1 - a], "{a}");
+        assert!(rt; bool::from(x) == (a == 1), "{a}");
+        assert!(rt; equality(&x, &y) == [1 - xor, xor], "{a}, {b}");
+        assert!(rt;
+            selection(x, y, choice(true)).map(|c| c.unwrap_u8()) == [b, b, b, a],
             "{a}, {b}"
-        );
-        assert_eq!(rt;
-            equality(&u32::from(a), &u32::from(b)),
-            [eq, ne],
-            "{a}, {b}"
-        );
-        assert_eq!(rt;
-            equality(&u64::from(a), &u64::from(b)),
-            [eq, ne],
-            "{a}, {b}"
-        );
-        assert_eq!(rt;
-            equality(&usize::from(a), &usize::from(b)),
-            [eq, ne],
-            "{a}, {b}"
-        );
-        assert_eq!(rt; equality(&wide_a, &wide_b), [eq, ne], "{a}, {b}");
-        assert_eq!(rt;
-            equality(&i16::from(a), &i16::from(b)),
-            [eq, ne],
-            "{a}, {b}"
-        );
-        assert_eq!(rt;
-            equality(&i32::from(a), &i32::from(b)),
-            [eq, ne],
-            "{a}, {b}"
-        );
-        assert_eq!(rt;
-            equality(&i64::from(a), &i64::from(b)),
-            [eq, ne],
-            "{a}, {b}"
-        );
-        assert_eq!(rt;
-            equality(&i128::from(a), &i128::from(b)),
-            [eq, ne],
-            "{a}, {b}"
-        );
-        assert_eq!(rt;
-            equality(&a.cmp(&b), &Ordering::Equal),
-            [eq, ne],
-            "{a}, {b}"
-        );
-        let (less, equal, greater) = laws::exactly_one_holds(&a, &b);
-        assert_eq!(rt;
-            [less.unwrap_u8(), equal.unwrap_u8(), greater.unwrap_u8()],
-            [lt, eq, gt]
         );
     }
-    assert_eq!(rt; equality(&-128i8, &127), [0, 1]);
-    assert_eq!(rt; equality(&-1isize, &-1), [1, 0]);
+}
+
+// Two numbers, whether the first is greater, and whether it is less.
+const NUMBERS: [(u8, u8, u8, u8); 5] = [
+    (13, 42, 0, 1),
+    (42, 13, 1, 0),
+    (13, 13, 0, 0),
+    (0, 255, 0, 1),
+    (128, 127, 1, 0),
+];
+
+#[test]
+fn numbers_are_ordered(rt: HostRuntime) {
+    for (a, b, gt, lt) in NUMBERS {
+        assert!(rt; order(&a, &b) == [gt, lt], "{a}, {b}");
+        assert!(rt; order(&u16::from(a), &u16::from(b)) == [gt, lt], "{a}, {b}");
+        assert!(rt; order(&u32::from(a), &u32::from(b)) == [gt, lt], "{a}, {b}");
+    }
+}
+
+#[test]
+fn wide_numbers_and_orders_are_ordered(rt: HostRuntime) {
+    for (a, b, gt, lt) in NUMBERS {
+        let (wide_a, wide_b) = (u128::from(a) << 100, u128::from(b) << 100);
+        assert!(rt; order(&u64::from(a), &u64::from(b)) == [gt, lt], "{a}, {b}");
+        assert!(rt; order(&wide_a, &wide_b) == [gt, lt], "{a}, {b}");
+        assert!(rt; order(&a.cmp(&b), &Ordering::Equal) == [gt, lt], "{a}, {b}");
+    }
+}
+
+#[test]
+fn numbers_are_equal(rt: HostRuntime) {
+    for (a, b, gt, lt) in NUMBERS {
+        let (eq, ne) = (1 - gt - lt, gt + lt);
+        assert!(rt; equality(&a, &b) == [eq, ne], "{a}, {b}");
+        assert!(rt;
+            equality(&u16::from(a), &u16::from(b)) == [eq, ne],
+            "{a}, {b}"
+        );
+        assert!(rt;
+            equality(&u32::from(a), &u32::from(b)) == [eq, ne],
+            "{a}, {b}"
+        );
+        assert!(rt;
+            equality(&u64::from(a), &u64::from(b)) == [eq, ne],
+            "{a}, {b}"
+        );
+    }
+}
+
+#[test]
+fn wide_numbers_and_orders_are_equal(rt: HostRuntime) {
+    for (a, b, gt, lt) in NUMBERS {
+        let (eq, ne) = (1 - gt - lt, gt + lt);
+        let (wide_a, wide_b) = (u128::from(a) << 100, u128::from(b) << 100);
+        assert!(rt;
+            equality(&usize::from(a), &usize::from(b)) == [eq, ne],
+            "{a}, {b}"
+        );
+        assert!(rt; equality(&wide_a, &wide_b) == [eq, ne], "{a}, {b}");
+        assert!(rt;
+            equality(&a.cmp(&b), &Ordering::Equal) == [eq, ne],
+            "{a}, {b}"
+        );
+    }
+}
+
+#[test]
+fn signed_numbers_are_equal(rt: HostRuntime) {
+    for (a, b, gt, lt) in NUMBERS {
+        let (eq, ne) = (1 - gt - lt, gt + lt);
+        assert!(rt;
+            equality(&i16::from(a), &i16::from(b)) == [eq, ne],
+            "{a}, {b}"
+        );
+        assert!(rt;
+            equality(&i32::from(a), &i32::from(b)) == [eq, ne],
+            "{a}, {b}"
+        );
+        assert!(rt;
+            equality(&i64::from(a), &i64::from(b)) == [eq, ne],
+            "{a}, {b}"
+        );
+        assert!(rt;
+            equality(&i128::from(a), &i128::from(b)) == [eq, ne],
+            "{a}, {b}"
+        );
+    }
+}
+
+#[test]
+fn one_of_three_holds(rt: HostRuntime) {
+    for (a, b, gt, lt) in NUMBERS {
+        let (less, equal, greater) = laws::exactly_one_holds(&a, &b);
+        let answers = [less.unwrap_u8(), equal.unwrap_u8(), greater.unwrap_u8()];
+        assert!(rt; answers == [lt, 1 - gt - lt, gt], "{a}, {b}");
+    }
+    assert!(rt; equality(&-128i8, &127) == [0, 1]);
+    assert!(rt; equality(&-1isize, &-1) == [1, 0]);
     laws::equality_agrees_with_order(&13u8, &42);
     laws::gt_steps(8, 13, 42);
 }
@@ -161,54 +193,51 @@ fn numbers_are_compared(rt: HostRuntime) {
 #[test]
 fn values_are_selected(rt: HostRuntime) {
     let (no, yes) = (choice(false), choice(true));
-    assert_eq!(rt; selection(13u8, 42, no), [13, 13, 13, 42]);
-    assert_eq!(rt; selection(13u8, 42, yes), [42, 42, 42, 13]);
-    assert_eq!(rt; selection(13u16, 4200, yes), [4200, 4200, 4200, 13]);
-    assert_eq!(rt;
-        selection(13u32, 1 << 31, yes),
-        [1 << 31, 1 << 31, 1 << 31, 13]
-    );
-    assert_eq!(rt;
-        selection(13u64, 1 << 63, yes),
-        [1 << 63, 1 << 63, 1 << 63, 13]
-    );
-    assert_eq!(rt;
-        selection(13u128, 1 << 127, yes),
-        [1 << 127, 1 << 127, 1 << 127, 13]
-    );
-    assert_eq!(rt; selection(-128i8, 1, yes), [1, 1, 1, -128]);
-    assert_eq!(rt; selection(-128i16, 1, yes), [1, 1, 1, -128]);
-    assert_eq!(rt; selection(-128i32, 1, yes), [1, 1, 1, -128]);
-    assert_eq!(rt; selection(-128i64, 1, yes), [1, 1, 1, -128]);
-    assert_eq!(rt; selection(-128i128, 1, no), [-128, -128, -128, 1]);
+    assert!(rt; selection(13u8, 42, no) == [13, 13, 13, 42]);
+    assert!(rt; selection(13u8, 42, yes) == [42, 42, 42, 13]);
+    assert!(rt; selection(13u16, 4200, yes) == [4200, 4200, 4200, 13]);
+    assert!(rt; selection(13u32, 1 << 31, yes) == [1 << 31, 1 << 31, 1 << 31, 13]);
+}
+
+#[test]
+fn wide_values_are_selected(rt: HostRuntime) {
+    let yes = choice(true);
+    assert!(rt; selection(13u64, 1 << 63, yes) == [1 << 63, 1 << 63, 1 << 63, 13]);
+    assert!(rt; selection(13u128, 1 << 127, yes) == [1 << 127, 1 << 127, 1 << 127, 13]);
+    assert!(rt; selection(-128i8, 1, yes) == [1, 1, 1, -128]);
+}
+
+#[test]
+fn signed_values_are_selected(rt: HostRuntime) {
+    let (no, yes) = (choice(false), choice(true));
+    assert!(rt; selection(-128i16, 1, yes) == [1, 1, 1, -128]);
+    assert!(rt; selection(-128i32, 1, yes) == [1, 1, 1, -128]);
+    assert!(rt; selection(-128i64, 1, yes) == [1, 1, 1, -128]);
+    assert!(rt; selection(-128i128, 1, no) == [-128, -128, -128, 1]);
+}
+
+#[test]
+fn orders_and_arrays_are_selected(rt: HostRuntime) {
+    let (no, yes) = (choice(false), choice(true));
     let (less, greater) = (Ordering::Less, Ordering::Greater);
-    assert_eq!(rt;
-        selection(less, greater, yes),
-        [greater, greater, greater, less]
-    );
-    assert_eq!(rt;
-        selection([1u8, 2], [3, 4], yes),
-        [[3, 4], [3, 4], [3, 4], [1, 2]]
-    );
-    assert_eq!(rt;
-        selection([1u8, 2], [3, 4], no),
-        [[1, 2], [1, 2], [1, 2], [3, 4]]
-    );
+    assert!(rt; selection(less, greater, yes) == [greater, greater, greater, less]);
+    assert!(rt; selection([1u8, 2], [3, 4], yes) == [[3, 4], [3, 4], [3, 4], [1, 2]]);
+    assert!(rt; selection([1u8, 2], [3, 4], no) == [[1, 2], [1, 2], [1, 2], [3, 4]]);
     let (mut first, mut second) = ([1u8, 2], [3, 4]);
     laws::swap_exchanges_both(&mut first, &mut second, yes);
-    assert_eq!(rt; (first, second), ([3, 4], [1, 2]));
+    assert!(rt; (first, second) == ([3, 4], [1, 2]));
 }
 
 #[test]
 fn numbers_are_negated(rt: HostRuntime) {
     for (value, answer) in [(-128i8, -128), (127, -127), (-1, 1), (0, 0)] {
-        assert_eq!(rt; negated(value, choice(false)), value);
-        assert_eq!(rt; negated(value, choice(true)), answer);
+        assert!(rt; negated(value, choice(false)) == value, "{value}");
+        assert!(rt; negated(value, choice(true)) == answer, "{value}");
     }
-    assert_eq!(rt; negated(5i16, choice(true)), -5);
-    assert_eq!(rt; negated(5i32, choice(true)), -5);
-    assert_eq!(rt; negated(5i64, choice(true)), -5);
-    assert_eq!(rt; negated(5i128, choice(true)), -5);
+    assert!(rt; negated(5i16, choice(true)) == -5);
+    assert!(rt; negated(5i32, choice(true)) == -5);
+    assert!(rt; negated(5i64, choice(true)) == -5);
+    assert!(rt; negated(5i128, choice(true)) == -5);
 }
 
 #[test]
@@ -269,13 +298,10 @@ fn continued(yes: bool, answers: bool) -> Option<u8> {
 
 #[test]
 fn closures_are_called_in_both_cases(rt: HostRuntime) {
-    assert_eq!(rt; mapped(false), (None, 0));
-    assert_eq!(rt; mapped(true), (Some(8), 7));
-    assert_eq!(rt;
-        [continued(false, true), continued(true, false)],
-        [None, None]
-    );
-    assert_eq!(rt; continued(true, true), Some(8));
+    assert!(rt; mapped(false) == (None, 0));
+    assert!(rt; mapped(true) == (Some(8), 7));
+    assert!(rt; [continued(false, true), continued(true, false)] == [None, None]);
+    assert!(rt; continued(true, true) == Some(8));
 }
 
 #[test]
@@ -288,11 +314,11 @@ fn comparisons_are_counted(rt: HostRuntime) {
     ];
     for (a, b, answer, comparisons) in rows {
         let mut counting = Counting::new();
-        assert_eq!(rt; eq_with(&mut counting, a, b).unwrap_u8(), answer);
-        assert_eq!(rt; counting.count(), comparisons);
-        assert_eq!(rt; ct_eq_slices(a, b).unwrap_u8(), answer);
+        assert!(rt; eq_with(&mut counting, a, b).unwrap_u8() == answer, "{a:?}");
+        assert!(rt; counting.count() == comparisons, "{a:?}");
+        assert!(rt; ct_eq_slices(a, b).unwrap_u8() == answer, "{a:?}");
     }
     let mut counting = Counting::new();
-    assert_eq!(rt; counting.same(97, 97).unwrap_u8(), 1);
-    assert_eq!(rt; BlackBox::new(counting.count()).get(), 1);
+    assert!(rt; counting.same(97, 97).unwrap_u8() == 1);
+    assert!(rt; BlackBox::new(counting.count()).get() == 1);
 }

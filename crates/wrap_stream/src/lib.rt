@@ -9,8 +9,6 @@ mod place;
 mod program;
 mod reader;
 mod status;
-#[cfg(test)]
-mod tests;
 mod unwrap;
 mod width;
 mod wrap;

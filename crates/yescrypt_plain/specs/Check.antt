@@ -31,6 +31,12 @@ abbrev pub yescrypt_verdict : List ℕ → Result YescryptMeaning TextFault → 
 yescrypt_verdict password (Err e) = Err (InvalidFormat e)
 yescrypt_verdict password (Ok m) = verdict password (yescrypt_matches password m)
 
+-- the same, where another test than equality of all bytes decides
+abbrev pub yescrypt_verdict_by : (List ℕ → List ℕ → Bool) → List ℕ → Result YescryptMeaning TextFault → Answer
+yescrypt_verdict_by same password (Err e) = Err (InvalidFormat e)
+yescrypt_verdict_by same password (Ok m) =
+    verdict password (same (yescrypt password m.salt m.params.ln m.params.r m.params.t) m.hash)
+
 -- the answer for a password and a text `$y$`
 unfoldable pub yescrypt_answer : List ℕ → List ℕ → Answer
 yescrypt_answer password text = yescrypt_verdict password (yescrypt_text text)
@@ -46,6 +52,12 @@ scrypt_matches password m =
 abbrev pub scrypt_verdict : List ℕ → Result ScryptMeaning TextFault → Answer
 scrypt_verdict password (Err e) = Err (InvalidFormat e)
 scrypt_verdict password (Ok m) = verdict password (scrypt_matches password m)
+
+-- the same, where another test than equality of all bytes decides
+abbrev pub scrypt_verdict_by : (List ℕ → List ℕ → Bool) → List ℕ → Result ScryptMeaning TextFault → Answer
+scrypt_verdict_by same password (Err e) = Err (InvalidFormat e)
+scrypt_verdict_by same password (Ok m) =
+    verdict password (same (scrypt password m.salt (2 ^ m.params.ln) m.params.r m.params.p 32) m.hash)
 
 -- the answer for a password and a text `$7$`
 unfoldable pub scrypt_answer : List ℕ → List ℕ → Answer

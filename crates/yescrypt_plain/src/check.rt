@@ -2,12 +2,13 @@
 
 ghost use Rattle.std.specs.Prelude.{◌≡◌, ◌↔◌, ◌≤◌, ◌+◌, ◌^◌, Err, Ok, false, if◌then◌else◌, length, true};
 ghost use Rattle.stored_check.specs.Limits.{password_max};
-ghost use Rattle.yescrypt_plain.specs.Check.{IsAnswer, is_verdict, scrypt_answer, scrypt_verdict, yescrypt_answer};
-ghost use Rattle.yescrypt_plain.specs.Check.{yescrypt_verdict};
+ghost use Rattle.yescrypt_plain.specs.Check.{IsAnswer, is_verdict, scrypt_answer, scrypt_verdict_by, yescrypt_answer};
+ghost use Rattle.yescrypt_plain.specs.Check.{yescrypt_verdict_by};
 ghost use Rattle.yescrypt_plain.specs.Made.{IsScryptText, IsYescryptText};
 ghost use Rattle.yescrypt_plain.specs.Params.{in_bounds, scrypt_in_bounds};
 ghost use Rattle.yescrypt_plain.specs.Views.{as_scrypt, as_yescrypt};
 
+use crate::compare::Compare;
 use crate::text::{ScryptParts, YescryptParts, scrypt_text, yescrypt_text};
 use crate::{CheckError, CryptKept};
 use base64ct::Counts;
@@ -26,29 +27,29 @@ fn answer_of(matches: bool) -> Result<(), CheckError>
     }
 }
 
-// Whether the hash is that of the password. The hashes are compared to their end.
-fn check_yescrypt_parts(
+// Whether the hash is that of the password, as the comparison says.
+fn check_yescrypt_parts<C: Compare>(
     alloc: Global,
     kept: &CryptKept,
     password: &[u8],
     parts: YescryptParts,
-    counts: &mut Counts,
+    compare: &mut C,
 ) -> Result<(), CheckError>
     requires bounds { in_bounds parts.params ≡ true }
     requires salt { length parts.salt ≤ 64 }
-    requires sames { counts.old.sames ≤ 2 ^ 62 + 8 }
-    ensures answer { IsAnswer (yescrypt_verdict password.now (as_yescrypt (Ok parts))) result }
-    ensures looks { counts.new.looks ≡ counts.old.looks }
-    ensures sames { is_verdict result ≡ true → counts.new.sames ≡ counts.old.sames + 32 }
-    ensures sames_stay { counts.old.sames ≤ counts.new.sames }
-    ensures no_sames { is_verdict result ≡ false → counts.new.sames ≡ counts.old.sames }
+    requires sames { C.sames compare.old ≤ 2 ^ 62 + 8 }
+    ensures answer { IsAnswer (yescrypt_verdict_by C.same password.now (as_yescrypt (Ok parts))) result }
+    ensures looks { C.looks compare.new ≡ C.looks compare.old }
+    ensures sames { is_verdict result ≡ true → C.sames compare.new ≡ C.sames compare.old + 32 }
+    ensures sames_stay { C.sames compare.old ≤ C.sames compare.new }
+    ensures no_sames { is_verdict result ≡ false → C.sames compare.new ≡ C.sames compare.old }
 {
     if password.len() > PASSWORD_MAX {
         return Err(CheckError::PasswordTooLong);
     }
     match kept.yescrypt(alloc, password, parts.salt.as_slice(), parts.params) {
         Err(AllocError) => Err(CheckError::OutOfMemory),
-        Ok(key) => answer_of(bool::from(counts.same_bytes(&key, &parts.hash))),
+        Ok(key) => answer_of(compare.same_hashes(&key, &parts.hash)),
     }
 }
 
@@ -94,29 +95,29 @@ pub fn yescrypt_check_kept(
     }
 }
 
-// Whether the hash is that of the password. The hashes are compared to their end.
-fn check_scrypt_parts(
+// Whether the hash is that of the password, as the comparison says.
+fn check_scrypt_parts<C: Compare>(
     alloc: Global,
     kept: &CryptKept,
     password: &[u8],
     parts: ScryptParts<'_>,
-    counts: &mut Counts,
+    compare: &mut C,
 ) -> Result<(), CheckError>
     requires bounds { scrypt_in_bounds parts.params ≡ true }
     requires salt { length parts.salt.now ≤ 86 }
-    requires sames { counts.old.sames ≤ 2 ^ 62 + 8 }
-    ensures answer { IsAnswer (scrypt_verdict password.now (as_scrypt (Ok parts.entry))) result }
-    ensures looks { counts.new.looks ≡ counts.old.looks }
-    ensures sames { is_verdict result ≡ true → counts.new.sames ≡ counts.old.sames + 32 }
-    ensures sames_stay { counts.old.sames ≤ counts.new.sames }
-    ensures no_sames { is_verdict result ≡ false → counts.new.sames ≡ counts.old.sames }
+    requires sames { C.sames compare.old ≤ 2 ^ 62 + 8 }
+    ensures answer { IsAnswer (scrypt_verdict_by C.same password.now (as_scrypt (Ok parts.entry))) result }
+    ensures looks { C.looks compare.new ≡ C.looks compare.old }
+    ensures sames { is_verdict result ≡ true → C.sames compare.new ≡ C.sames compare.old + 32 }
+    ensures sames_stay { C.sames compare.old ≤ C.sames compare.new }
+    ensures no_sames { is_verdict result ≡ false → C.sames compare.new ≡ C.sames compare.old }
 {
     if password.len() > PASSWORD_MAX {
         return Err(CheckError::PasswordTooLong);
     }
     match kept.scrypt(alloc, password, parts.salt, parts.params) {
         Err(AllocError) => Err(CheckError::OutOfMemory),
-        Ok(key) => answer_of(bool::from(counts.same_bytes(&key, &parts.hash))),
+        Ok(scrypt_key) => answer_of(compare.same_hashes(&scrypt_key, &parts.hash)),
     }
 }
 

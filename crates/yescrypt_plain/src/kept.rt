@@ -92,6 +92,8 @@ impl CryptKept {
 // Makes at least `len` words. A smaller vector is given back before the larger is asked for.
 fn grow_words(alloc: Global, words: &mut Vec<u32>, len: usize) -> Result<(), AllocError>
     ensures room { OnOk result (len ≤ vec_len words.new) }
+    ensures kept { len ≤ vec_len words.old → words.new ≡ words.old }
+    ensures grown { vec_len words.old < len → OnOk result (vec_len words.new ≡ len) }
 {
     if words.len() >= len {
         return Ok(());
@@ -104,6 +106,8 @@ fn grow_words(alloc: Global, words: &mut Vec<u32>, len: usize) -> Result<(), All
 // Makes a table of at least `len` words. A smaller one is given back before the larger is asked for.
 fn grow_table(alloc: Global, table: &mut Vec<u64>, len: usize) -> Result<(), AllocError>
     ensures room { OnOk result (len ≤ vec_len table.new) }
+    ensures kept { len ≤ vec_len table.old → table.new ≡ table.old }
+    ensures grown { vec_len table.old < len → OnOk result (vec_len table.new ≡ len) }
 {
     if table.len() >= len {
         return Ok(());

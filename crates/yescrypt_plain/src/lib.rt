@@ -13,6 +13,7 @@ ghost use Rattle.yescrypt_plain.specs.Yescrypt.{yescrypt};
 
 mod block_mix;
 mod check;
+mod compare;
 mod costs;
 mod error;
 mod field;
@@ -26,8 +27,6 @@ mod pwx;
 mod rows;
 mod scrypt_key;
 mod smix;
-#[cfg(test)]
-mod tests;
 mod text;
 
 pub use check::{scrypt_check, scrypt_check_kept, yescrypt_check, yescrypt_check_kept};

@@ -1,0 +1,240 @@
+//! Lines of foreign texts. The texts are Django's and passlib's, of the password `secret`.
+
+use any_check::CostLimits;
+use any_survey::{Format, LeastCosts, SurveyLines};
+use any_users::JoinEnd;
+use foreign_lines::{
+    ForeignLines, LineForm, run_foreign, run_foreign_join, run_foreign_join_fewer,
+    run_foreign_survey, run_foreign_users,
+};
+use foreign_text::Foreign;
+use line_io::{MemorySink, MemorySource};
+use std::hash::RandomState;
+use std::test::Fail;
+
+// The bounds that each text below reaches, but for that on PBKDF2.
+fn rounds_below(most: u32) -> CostLimits {
+    CostLimits {
+        sha_rounds: 5_000,
+        bcrypt_cost: 4,
+        yescrypt_ln: 2,
+        yescrypt_r: 1,
+        yescrypt_t: 0,
+        pbkdf2_rounds: most,
+        scrypt_ln: 1,
+        scrypt_r: 1,
+        scrypt_p: 1,
+        argon2_memory: 64,
+        argon2_passes: 1,
+        argon2_lanes: 1,
+    }
+}
+
+const DJANGO: &[u8] =
+    b"secret\tpbkdf2_sha256$1000$abcdefgh$GHUbOYNfzc/1XP2MWJxQ0OB83AthJA5LJEJcJ6ahzFY=\n\
+    Secret\tpbkdf2_sha256$1000$abcdefgh$GHUbOYNfzc/1XP2MWJxQ0OB83AthJA5LJEJcJ6ahzFY=\n\
+    secret\tpbkdf2_sha256$1001$abcdefgh$GHUbOYNfzc/1XP2MWJxQ0OB83AthJA5LJEJcJ6ahzFY=\n\
+    secret\tpbkdf2_sha256$1000$abcdefgi$GHUbOYNfzc/1XP2MWJxQ0OB83AthJA5LJEJcJ6ahzFY=\n\
+    secret\targon2$argon2id$v=19$m=64,t=1,p=1$c2FsdHNhbHRzYWx0$AC+v+iUUNjKqIQVBDjpkAw\n\
+    secret\tbcrypt$$2b$04$abcdefghijklmnopqrstuu2r9OfJnfCsdneAXAGHnS4UpFFP8WIrW\n\
+    secret\tbcrypt_sha256$$2b$04$abcdefghijklmnopqrstuu2r9OfJnfCsdneAXAGHnS4UpFFP8WIrW\n\
+    secret\tpbkdf2_sha256$1000$seasalt$GHUbOYNfzc/1XP2MWJxQ0OB83AthJA5LJEJcJ6ahzFY=\n\
+    \xff\tbcrypt_sha256$x\n\
+    no tab\n\
+    secret\t\n";
+
+const DJANGO_WORDS: &[u8] =
+    b"match\nmismatch\nmismatch\nmismatch\nmatch\nmatch\nunsupported-bcrypt-sha256\n\
+    foreign-salt-length\nbadline\nbadline\nunsupported-scheme\n";
+
+#[test]
+fn lines_of_django(rt: HostRuntime) {
+    let mut room = [0; 256];
+    let mut source = MemorySource::new(DJANGO, 7, &[]);
+    let mut sink = MemorySink::new(&mut room, 256, &[]);
+    let status = run_foreign(
+        rt.alloc(),
+        Foreign::Django,
+        None,
+        &mut source,
+        &mut sink,
+        10_000,
+    );
+    assert!(rt; status == 1);
+    assert!(rt; sink.bytes() == DJANGO_WORDS);
+}
+
+// Only the first of the two texts is of more rounds than the bound allows.
+#[test]
+fn a_bound_on_cost(rt: HostRuntime) {
+    let input =
+        b"secret\t$pbkdf2-sha256$7$YWJjZGVmZ2g$oNzBqFb03A.goX/CUpviOBd1EZ5cZP30Ade7.vnhkhM\n";
+    for (most, word, status) in [(6, b"too-costly\n".as_slice(), 1), (7, b"match\n", 0)] {
+        let mut room = [0; 32];
+        let mut source = MemorySource::new(input, 100, &[]);
+        let mut sink = MemorySink::new(&mut room, 32, &[]);
+        let limits = Some(rounds_below(most));
+        let got = run_foreign(
+            rt.alloc(),
+            Foreign::Passlib,
+            limits,
+            &mut source,
+            &mut sink,
+            10_000,
+        );
+        assert!(rt; got == status, "{most}: {got}");
+        assert!(rt; sink.bytes() == word, "{most}");
+    }
+}
+
+#[test]
+fn lines_with_users(rt: HostRuntime) {
+    let input =
+        b"ann:secret\t{PBKDF2-SHA256}7$YWJjZGVmZ2g$oNzBqFb03A.goX/CUpviOBd1EZ5cZP30Ade7.vnhkhM\n\
+        ben:secret\t{PBKDF2-SHA512}7$YWJjZGVmZ2g$QB4lyLY5MDmsMNUCYLZH2QEGr5FThdP3MvCnw5io4OWVGbSwILJD5krweRfPTiM/CyBlm7LPbnoEaD1M06jb3Q\n\
+        ida:secret\t{PBKDF2-SHA512}7$YWJjZGVmZ2g$oNzBqFb03A.goX/CUpviOBd1EZ5cZP30Ade7.vnhkhM\n\
+        bob:se:cret\t{CRYPT}$1$abcdefgh$cHJi5PXp/ki/ktXzqlk6I1\n\
+        eve:secret\t{SSHA}w78RgX/K4KeShALYnY8MnQPuLpRG6P0/\n\
+        x\ty:secret\t{SSHA}x\n\
+        carl:secret\t{CRYPT}ud03EAGigf5FA\n\
+        zoe\n";
+    let mut room = [0; 256];
+    let mut source = MemorySource::new(input, 100, &[]);
+    let mut sink = MemorySink::new(&mut room, 256, &[]);
+    let status = run_foreign_users(
+        rt.alloc(),
+        Foreign::Ldap,
+        None,
+        &mut source,
+        &mut sink,
+        10_000,
+    );
+    assert!(rt; status == 1);
+    let words =
+        b"ann\tmatch\nben\tmatch\nida\tmismatch\nbob\tmismatch\neve\tunsupported-sha1\nbadline\ncarl\tunsupported-des-crypt\nbadline\n";
+    assert!(rt; sink.bytes() == words.as_slice());
+}
+
+const PASSWORDS: &[u8] = b"ann:secret\nbob:Secret\neve:secret\nfay:secret\nlocked:secret\n";
+
+const TEXTS: &[u8] =
+    b"ann:{CRYPT}$5$rounds=1000$abcdefgh$XIppta5rT8zJUu4vAOKQXrwq9uY4Ijlz6VjyOmkx5i4:1:2\n\
+    bob:{CRYPT}$1$abcdefgh$cHJi5PXp/ki/ktXzqlk6I1\n\
+    carl:{CRYPT}$1$abcdefgh$cHJi5PXp/ki/ktXzqlk6I1:\n\
+    eve:{PBKDF2-SHA1}1$abc$def:\n\
+    fay::\n\
+    locked:!{SSHA}x:\n\
+    nobody:{MD5}x\n\
+    \n";
+
+const JOINED: &[u8] =
+    b"ann\tmatch\nbob\tmismatch\ncarl\tno-password\neve\tunsupported-pbkdf2-sha1\nfay\tempty\n\
+    locked\tlocked\nnobody\tunsupported-md5\nbadline\n";
+
+#[test]
+fn users_beside_passwords(rt: HostRuntime) -> Result<(), Fail> {
+    let mut room = [0; 256];
+    let mut passwords = MemorySource::new(PASSWORDS, 9, &[]);
+    let mut texts = MemorySource::new(TEXTS, 9, &[]);
+    let mut sink = MemorySink::new(&mut room, 256, &[]);
+    let end = run_foreign_join(
+        rt.alloc(),
+        RandomState::new(&rt)?,
+        Foreign::Ldap,
+        None,
+        &mut passwords,
+        &mut texts,
+        &mut sink,
+        10_000,
+    );
+    assert!(rt; end == JoinEnd::Texts(1));
+    assert!(rt; sink.bytes() == JOINED);
+    Ok(())
+}
+
+#[test]
+fn users_read_first(rt: HostRuntime) -> Result<(), Fail> {
+    let mut room = [0; 256];
+    let mut users = MemorySource::new(TEXTS, 100, &[]);
+    let mut passwords = MemorySource::new(PASSWORDS, 9, &[]);
+    let mut texts = MemorySource::new(TEXTS, 9, &[]);
+    let mut sink = MemorySink::new(&mut room, 256, &[]);
+    let end = run_foreign_join_fewer(
+        rt.alloc(),
+        RandomState::new(&rt)?,
+        Foreign::Ldap,
+        None,
+        &mut users,
+        &mut passwords,
+        &mut texts,
+        &mut sink,
+        10_000,
+    );
+    assert!(rt; end == Ok(JoinEnd::Texts(1)));
+    assert!(rt; sink.bytes() == JOINED);
+    Ok(())
+}
+
+const LEAST: LeastCosts = LeastCosts {
+    sha_rounds: 1_000,
+    bcrypt_cost: 10,
+    yescrypt_ln: 12,
+    scrypt_ln: 14,
+    pbkdf2_rounds: 600_000,
+    pbkdf2_sha512_rounds: 210_000,
+    argon2_memory: 19_456,
+};
+
+#[test]
+fn rows_of_a_survey(rt: HostRuntime) {
+    let mut room = [0; 512];
+    let mut source = MemorySource::new(TEXTS, 50, &[]);
+    let mut sink = MemorySink::new(&mut room, 512, &[]);
+    let mut lines = ForeignLines {
+        foreign: Foreign::Ldap,
+        form: LineForm::Surveyed,
+        inner: SurveyLines::new(LEAST, Format::Tabs),
+    };
+    let status = run_foreign_survey(&mut lines, &mut source, &mut sink, 10_000);
+    assert!(rt; status == 1);
+    let rows = b"ann\tsha256-crypt\trounds=1000\tok\n\
+        bob\tmd5-crypt\t-\tweak: md5-crypt\n\
+        carl\tmd5-crypt\t-\tweak: md5-crypt\n\
+        eve\t-\t-\tno scheme\n\
+        fay\t-\t-\tempty\n\
+        locked\t-\t-\tlocked\n\
+        nobody\t-\t-\tno scheme\n\
+        \t-\t-\tbadline\n\
+        \n\
+        2\tmd5-crypt weak\n\
+        1\tsha256-crypt ok\n\
+        1\tempty\n\
+        1\tlocked\n\
+        2\tno scheme\n\
+        1\tbadline\n";
+    assert!(rt; sink.bytes() == rows.as_slice());
+}
+
+// A line of 8,192 bytes whose converted text would make it longer, one of more, and one that is short again.
+#[test]
+fn long_lines(rt: HostRuntime) {
+    let mut input = [b'a'; 8_192 + 8_194 + 2];
+    let tail = b"\tpbkdf2_sha256$1000$abcdefgh$GHUbOYNfzc/1XP2MWJxQ0OB83AthJA5LJEJcJ6ahzFY=\n";
+    let start = 8_193 - tail.len();
+    input[start..8_193].copy_from_slice(tail);
+    input[16_386] = b'\n';
+    input[16_387] = b'\n';
+    let mut room = [0; 64];
+    let mut source = MemorySource::new(&input, 5_000, &[]);
+    let mut sink = MemorySink::new(&mut room, 64, &[]);
+    let status = run_foreign(
+        rt.alloc(),
+        Foreign::Django,
+        None,
+        &mut source,
+        &mut sink,
+        100_000,
+    );
+    assert!(rt; status == 1);
+    assert!(rt; sink.bytes() == b"toolong\ntoolong\nbadline\n".as_slice());
+}

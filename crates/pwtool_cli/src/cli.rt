@@ -1,0 +1,255 @@
+//! The command line.
+
+use crate::make_cli::{make, normalize, unwrap, wrap};
+use crate::options::{file, flag, form, plus, wanted, with_from, with_telling};
+use crate::table_form::table;
+use clap::{Arg, Command, value_parser};
+use std::alloc::{AllocError, Global};
+
+/// What stands behind the options in the help of the program.
+const STATUSES: &str = "\
+Statuses:
+   0  the whole input was read, and every answer is a match
+   1  the whole input was read, and some answer is another word
+   3  a read failed; the whole lines that were taken are answered
+   4  a write failed
+   5  memory is wanting; the lines before are answered
+   6  the input has more than 2^40 bytes
+   8  a word of the command line isn't UTF-8
+  64  the words of the command line are no form of the program
+  66  the file can't be opened
+'pwtool check --help', 'pwtool join --help', 'pwtool survey --help' and pwtool(1) tell more.";
+
+/// What stands behind the options in the help of `check`.
+const LINES: &str = "\
+A line is a password, a tab and a stored text: of md5-crypt ($1$, $apr1$), SHA-crypt
+($5$, $6$), bcrypt ($2a$, $2b$, $2y$), yescrypt ($y$) or crypt's scrypt ($7$), or a PHC
+record of scrypt ($scrypt$), PBKDF2 ($pbkdf2-sha256$, $pbkdf2-sha512$) or Argon2 ($argon2d$,
+$argon2i$, $argon2id$). The word is match, mismatch, or the first cause that there is no verdict:
+no-scheme where no scheme has the text, too-costly where a number of it is above the most
+given here. With --from the texts are foreign ones, of which those that aren't read get a
+word that begins with unsupported- or foreign-. pwtool(1) has all words. Status 0 is for
+matches alone, 1 for some other word; pwtool --help has the rest.";
+
+/// What stands behind the options in the help of `join`.
+const USERS: &str = "\
+A line of TEXTS is a user, a colon and a stored text, which ends at the next colon: a line of a
+shadow or htpasswd file as it is. A line of PASSWORDS is a user, a colon and a password; of lines
+of one user the last counts. Each line of TEXTS is answered, in order, by its user, a tab and a
+word: match, mismatch, empty, locked (the text begins with * or !), no-password (PASSWORDS has no
+line of the user), or a word of 'pwtool check'. With --no-text no password is checked: each line
+of PASSWORDS whose user has no line in TEXTS is answered by its user, a tab and no-text. One of
+the two files may be -, standard input. The smaller of two regular files is kept in memory, else
+PASSWORDS, with --no-text TEXTS. Status 0 is for matches alone (--no-text: no answer), 1 for some
+other word; pwtool --help has the rest.";
+
+/// What stands behind the options in the help of `survey`.
+const TEXTS: &str = "\
+A line is a user, a colon and a stored text, which ends at the next colon: a line of a shadow or
+htpasswd file as it is. No password is asked for, and nothing is hashed. A row is the user, the
+scheme, its costs and a judgement, with tabs between them: ok, weak (with what is weak), locked
+(the text begins with * or !), empty, no scheme (none has the text), invalid (it has a fault),
+badline (no user) or toolong. Behind the rows stands how many there are of each. md5-crypt is weak
+in any case. Status 0 is for accounts that are ok or locked, 1 for some other; pwtool --help has
+the rest.";
+
+// What an option bounds: its name, its help, its least and its most.
+#[derive(Drop)]
+struct CostOption {
+    name: &'static str,
+    help: &'static str,
+    least: i64,
+    most: i64,
+}
+
+fn cost(name: &'static str, help: &'static str, least: i64, most: i64) -> CostOption {
+    CostOption {
+        name,
+        help,
+        least,
+        most,
+    }
+}
+
+// The bounds on cost. The most of each is what its scheme takes.
+fn costs() -> [CostOption; 12] {
+    [
+        cost(
+            "max-sha-rounds",
+            "SHA-crypt: rounds, 1000 to 999999999",
+            1_000,
+            999_999_999,
+        ),
+        cost("max-bcrypt-cost", "bcrypt: cost, 4 to 31", 4, 31),
+        cost("max-yescrypt-ln", "yescrypt: log2 of N, 2 to 23", 2, 23),
+        cost("max-yescrypt-r", "yescrypt: r, 1 to 524287", 1, 524_287),
+        cost("max-yescrypt-t", "yescrypt: t, 0 to 1024", 0, 1_024),
+        cost(
+            "max-pbkdf2-rounds",
+            "PBKDF2: i, 1 to 10000000",
+            1,
+            10_000_000,
+        ),
+        cost(
+            "max-scrypt-ln",
+            "scrypt: ln, 1 to 24, and log2 of N of $7$",
+            1,
+            24,
+        ),
+        cost("max-scrypt-r", "scrypt: r, 1 to 131072", 1, 131_072),
+        cost("max-scrypt-p", "scrypt: p, 1 to 1024", 1, 1_024),
+        cost(
+            "max-argon2-memory",
+            "Argon2: m in KiB, 8 to 2097152",
+            8,
+            2_097_152,
+        ),
+        cost("max-argon2-passes", "Argon2: t, 1 to 2097152", 1, 2_097_152),
+        cost("max-argon2-lanes", "Argon2: p, 1 to 262144", 1, 262_144),
+    ]
+}
+
+// The least costs that aren't weak.
+fn least_costs() -> [CostOption; 7] {
+    [
+        least("least-sha-rounds", "SHA-crypt: rounds (5000)"),
+        least("least-bcrypt-cost", "bcrypt: cost (10)"),
+        least("least-yescrypt-ln", "yescrypt: log2 of N (12)"),
+        least("least-scrypt-ln", "scrypt: ln, and log2 of N of $7$ (14)"),
+        least("least-pbkdf2-rounds", "PBKDF2 with SHA-256: i (600000)"),
+        least(
+            "least-pbkdf2-sha512-rounds",
+            "PBKDF2 with SHA-512: i (210000)",
+        ),
+        least("least-argon2-memory", "Argon2: m in KiB (19456)"),
+    ]
+}
+
+fn least(name: &'static str, help: &'static str) -> CostOption {
+    cost(name, help, 0, 4_294_967_295)
+}
+
+// The argument of an option.
+fn argument<'a>(alloc: Global, option: &CostOption, heading: &'static str) -> Arg<'a> {
+    Arg::new(alloc, option.name)
+        .long(option.name)
+        .value_name("N")
+        .value_parser(value_parser!(u32).range(option.least..=option.most))
+        .help_heading(heading)
+        .help(option.help)
+}
+
+// A form with options that bound costs, below a heading.
+fn with_costs<'a>(
+    alloc: Global,
+    command: Result<Command<'a>, AllocError>,
+    options: &[CostOption],
+    heading: &'static str,
+) -> Result<Command<'a>, AllocError> {
+    let mut command = command;
+    for option in options {
+        command = plus(command, argument(alloc, option, heading));
+    }
+    command
+}
+
+/// The heading of the bounds on cost.
+const MOST: &str = "The most that a stored text may ask for (left out: what its scheme takes)";
+
+/// The heading of the least costs.
+const LEAST: &str = "The least that isn't weak (left out: the number that stands behind)";
+
+// The form `check`.
+fn check<'a>(alloc: Global) -> Result<Command<'a>, AllocError> {
+    let command = form(
+        alloc,
+        "check",
+        "Answer each line, a password, a tab and a stored text, with one word",
+        LINES,
+    );
+    let command = plus(Ok(command), file(alloc));
+    let users = "Lines begin with a user and a colon; keep the user before the word";
+    let command = plus(command, flag(alloc, "users", users));
+    with_costs(
+        alloc,
+        with_telling(alloc, with_from(alloc, command)),
+        &costs(),
+        MOST,
+    )
+}
+
+// The form `join`.
+fn join<'a>(alloc: Global) -> Result<Command<'a>, AllocError> {
+    let command = form(
+        alloc,
+        "join",
+        "Answer each user of a shadow or htpasswd file by the password in another file",
+        USERS,
+    );
+    let texts = "A shadow or htpasswd file: a user, a colon and a stored text a line";
+    let command = plus(Ok(command), wanted(alloc, "TEXTS", texts));
+    let passwords = "A user, a colon and a password a line";
+    let command = plus(command, wanted(alloc, "PASSWORDS", passwords));
+    let no_text = "Answer the users of PASSWORDS who have no line in TEXTS, and check no password";
+    let command = plus(command, flag(alloc, "no-text", no_text));
+    with_costs(
+        alloc,
+        with_telling(alloc, with_from(alloc, command)),
+        &costs(),
+        MOST,
+    )
+}
+
+// The form `survey`.
+fn survey<'a>(alloc: Global) -> Result<Command<'a>, AllocError> {
+    let command = form(
+        alloc,
+        "survey",
+        "Tell the scheme and the cost of each user's stored text, and whether it is weak",
+        TEXTS,
+    );
+    let command = plus(Ok(command), file(alloc));
+    let csv = "Write four fields of CSV a line, and no counts";
+    let command = plus(command, flag(alloc, "csv", csv));
+    let json = "Write an object of JSON a line, and no counts";
+    let command = plus(command, flag(alloc, "json", json));
+    with_costs(
+        alloc,
+        with_telling(alloc, with_from(alloc, command)),
+        &least_costs(),
+        LEAST,
+    )
+}
+
+// The command line without its forms.
+fn program<'a>(alloc: Global) -> Result<Command<'a>, AllocError> {
+    let command = Command::new(alloc, "pwtool").bin_name("pwtool")?;
+    Ok(
+        command
+            .version("0.1.0")
+            .about("Passwords checked against stored texts of every scheme")
+            .subcommand_required(true)
+            .disable_help_subcommand(true)
+            .after_help(STATUSES),
+    )
+}
+
+// A command line with one more form.
+fn with<'a>(
+    command: Result<Command<'a>, AllocError>,
+    form: Result<Command<'a>, AllocError>,
+) -> Result<Command<'a>, AllocError> {
+    command?.subcommand(form?)
+}
+
+/// The program's command line.
+pub fn command<'a>(alloc: Global) -> Result<Command<'a>, AllocError> {
+    let command = with(program(alloc), check(alloc));
+    let command = with(command, join(alloc));
+    let command = with(command, survey(alloc));
+    let command = with(command, make(alloc));
+    let command = with(command, table(alloc));
+    let command = with(command, normalize(alloc));
+    let command = with(command, wrap(alloc));
+    with(command, unwrap(alloc))
+}

@@ -1,0 +1,72 @@
+//! What the forms have in common on the command line.
+
+use clap::{Arg, ArgAction, Command};
+use std::alloc::{AllocError, Global};
+
+/// The spellings of foreign texts by their names.
+const SPELLINGS: &[&str] = &["django", "ldap", "passlib"];
+
+/// A form without its words: its name, what it does, and what stands behind the options in its help.
+pub fn form<'a>(
+    alloc: Global,
+    name: &'static str,
+    about: &'static str,
+    after_help: &'static str,
+) -> Command<'a> {
+    Command::new(alloc, name)
+        .about(about)
+        .after_help(after_help)
+}
+
+/// A form with one more word or option.
+///
+/// A chain of these takes less of the prover's time than one of `?`, at each of which all that was made before is given back.
+pub fn plus<'a>(
+    command: Result<Command<'a>, AllocError>,
+    argument: Arg<'a>,
+) -> Result<Command<'a>, AllocError> {
+    command?.arg(argument)
+}
+
+/// The word that names the file.
+pub fn file<'a>(alloc: Global) -> Arg<'a> {
+    Arg::new(alloc, "FILE").help("The file; standard input where it is left out or -")
+}
+
+/// A word that a form wants.
+pub fn wanted<'a>(alloc: Global, name: &'static str, help: &'static str) -> Arg<'a> {
+    Arg::new(alloc, name).required(true).help(help)
+}
+
+/// An option without a value.
+pub fn flag<'a>(alloc: Global, name: &'static str, help: &'static str) -> Arg<'a> {
+    Arg::new(alloc, name)
+        .long(name)
+        .action(ArgAction::SetTrue)
+        .help(help)
+}
+
+/// A form with the option that says whose spelling the stored texts have.
+pub fn with_from<'a>(
+    alloc: Global,
+    command: Result<Command<'a>, AllocError>,
+) -> Result<Command<'a>, AllocError> {
+    let from = Arg::new(alloc, "from")
+        .long("from")
+        .value_name("SPELLING")
+        .value_parser(SPELLINGS)
+        .help("The stored texts are spelled as Django, LDAP or passlib spells them");
+    plus(command, from)
+}
+
+/// A form with the options that say what is told on standard error.
+pub fn with_telling<'a>(
+    alloc: Global,
+    command: Result<Command<'a>, AllocError>,
+) -> Result<Command<'a>, AllocError> {
+    let progress =
+        "Tell once a second on standard error how far the run is (a terminal is told anyway)";
+    let command = plus(command, flag(alloc, "progress", progress));
+    let quiet = "Tell nothing but errors on standard error, and the progress if it is asked for";
+    plus(command, flag(alloc, "quiet", quiet))
+}

@@ -1,0 +1,189 @@
+//! The form `make` from its command line on: what of it reaches the system.
+
+ghost use Rattle.std.specs.Prelude.{◌≡◌};
+ghost use Rattle.any_make.specs.Costs.{scheme_of};
+ghost use Rattle.pwtool_forms.specs.Make.{end_status};
+
+use crate::fault::say;
+use crate::status::BAD_WORDS;
+use any_make::{
+    Argon2Cost, MakeCost, MakeEnd, MakeFault, MakeScheme, NameFault, run_make, scheme_named,
+};
+use clap::ArgMatches;
+use line_io::{StdSink, StdSource};
+use line_program::status::{ALL_GOOD, NO_MEMORY, READ_FAULT, SOME_OTHER, WRITE_FAULT};
+use std::io;
+use std::io::IsTerminal;
+use std::random::RandomSource;
+use yescrypt_plain::{ScryptParams, YescryptParams};
+
+// The number of an option, or the recommended one.
+fn number(matches: &ArgMatches<'_>, option: &str, recommended: u32) -> u32 {
+    matches.get_one::<u32>(option).unwrap_or(recommended)
+}
+
+/// What the text is to cost, by the options and the recommendation.
+pub fn cost_of(matches: &ArgMatches<'_>, recommended: MakeCost) -> MakeCost
+    ensures scheme { scheme_of result ≡ scheme_of recommended }
+{
+    match recommended {
+        MakeCost::ShaCrypt(family, rounds) => {
+            MakeCost::ShaCrypt(family, number(matches, "rounds", rounds))
+        }
+        MakeCost::Scrypt(cost) => MakeCost::Scrypt(ScryptParams {
+            ln: number(matches, "ln", cost.ln),
+            r: number(matches, "r", cost.r),
+            p: number(matches, "p", cost.p),
+        }),
+        MakeCost::Bcrypt(cost) => MakeCost::Bcrypt(number(matches, "cost", cost)),
+        MakeCost::Yescrypt(cost) => MakeCost::Yescrypt(YescryptParams {
+            ln: number(matches, "ln", cost.ln),
+            r: number(matches, "r", cost.r),
+            t: number(matches, "t", cost.t),
+        }),
+        MakeCost::Argon2id(cost) => MakeCost::Argon2id(Argon2Cost {
+            memory: number(matches, "memory", cost.memory),
+            passes: number(matches, "passes", cost.passes),
+            lanes: number(matches, "lanes", cost.lanes),
+        }),
+        MakeCost::Pbkdf2Sha256(rounds) => {
+            MakeCost::Pbkdf2Sha256(number(matches, "rounds", rounds))
+        }
+    }
+}
+
+// The options that name a cost of some scheme.
+const OPTIONS: [&str; 9] = [
+    "rounds", "cost", "ln", "r", "p", "t", "memory", "passes", "lanes",
+];
+
+// Whether an option names a cost of a scheme.
+fn is_option_of(scheme: MakeScheme, option: &str) -> bool {
+    match scheme {
+        MakeScheme::ShaCrypt(_) | MakeScheme::Pbkdf2Sha256 => option == "rounds",
+        MakeScheme::Scrypt => option == "ln" || option == "r" || option == "p",
+        MakeScheme::Bcrypt => option == "cost",
+        MakeScheme::Yescrypt => option == "ln" || option == "r" || option == "t",
+        MakeScheme::Argon2id => option == "memory" || option == "passes" || option == "lanes",
+    }
+}
+
+// The option that is given though it names no cost of the scheme.
+fn other_option(matches: &ArgMatches<'_>, scheme: MakeScheme) -> Option<&'static str> {
+    for option in OPTIONS {
+        if matches.get_one::<u32>(option).is_some() && !is_option_of(scheme, option) {
+            return Some(option);
+        }
+    }
+    None
+}
+
+// The scheme that is named; what is said where there is none tells why.
+fn scheme_of(rt: &HostRuntime, name: &str) -> Option<MakeScheme> {
+    match scheme_named(name) {
+        Ok(scheme) => Some(scheme),
+        Err(NameFault::Weak) => {
+            let _ = eprintln!(rt;
+                "pwtool: {name}: no text of it is made, as 1,000 rounds of MD5 are too weak"
+            );
+            None
+        }
+        Err(NameFault::Unknown) => {
+            let _ = eprintln!(rt;
+                "pwtool: {name}: no scheme of which texts are made: 'pwtool make --help' has them"
+            );
+            None
+        }
+    }
+}
+
+// Why no text is made of a line.
+fn cause_of(fault: MakeFault) -> &'static str {
+    match fault {
+        MakeFault::Cost => "the scheme doesn't take the cost",
+        MakeFault::Salt => "the salt has another length than the scheme's",
+        MakeFault::PasswordTooLong => {
+            "the password has more bytes than count: 4096, of bcrypt 72"
+        }
+        MakeFault::NotUtf8 => "the password isn't UTF-8",
+        MakeFault::ZeroByte => "the password has a zero byte, where crypt(3) takes it to end",
+        MakeFault::OutOfMemory => "memory is wanting for the key",
+        MakeFault::BufferShort => "the text is too long",
+    }
+}
+
+/// Says why there is no text, and gives the status.
+pub fn told(rt: &impl Eprint, end: MakeEnd) -> u8
+    ensures status { result ≡ end_status end }
+{
+    match end {
+        MakeEnd::Made => ALL_GOOD,
+        MakeEnd::ReadFault => {
+            say(rt, "standard input: a read failed");
+            READ_FAULT
+        }
+        MakeEnd::WriteFault => {
+            say(rt, "standard output: a write failed");
+            WRITE_FAULT
+        }
+        MakeEnd::NoLine => {
+            say(rt, "standard input: there is no line");
+            SOME_OTHER
+        }
+        MakeEnd::LongLine => {
+            say(rt, "standard input: the line has more than 8192 bytes");
+            SOME_OTHER
+        }
+        MakeEnd::Refused(MakeFault::OutOfMemory) => {
+            say(rt, cause_of(MakeFault::OutOfMemory));
+            NO_MEMORY
+        }
+        MakeEnd::Refused(fault) => {
+            say(rt, cause_of(fault));
+            SOME_OTHER
+        }
+    }
+}
+
+// The most bytes of a salt.
+const SALT_MAX: usize = 16;
+
+// Makes the text of the first line of standard input, with a salt from the system's random source.
+fn make(rt: &HostRuntime, cost: MakeCost) -> u8 {
+    let mut bytes = [0; SALT_MAX];
+    let salt = &mut bytes[..cost.scheme().salt_length()];
+    if rt.fill_bytes(salt).is_err() {
+        say(rt, "the system gives no random bytes");
+        return READ_FAULT;
+    }
+    let mut source = StdSource::new(rt.reader());
+    let mut sink = StdSink::new(io::writer(rt));
+    told(rt, run_make(rt.alloc(), cost, salt, &mut source, &mut sink))
+}
+
+/// Makes the text of the password on standard input, and gives the status.
+pub fn run_make_form(rt: &HostRuntime, matches: &ArgMatches<'_>) -> u8 {
+    let name = matches.get_str("SCHEME").unwrap_or("");
+    let Some(scheme) = scheme_of(rt, name) else {
+        return BAD_WORDS;
+    };
+    if let Some(option) = other_option(matches, scheme) {
+        let _ = eprintln!(rt; "pwtool: --{option}: it is no cost of {name}");
+        return BAD_WORDS;
+    }
+    let cost = cost_of(matches, scheme.recommended());
+    if !cost.is_taken() {
+        let _ = eprintln!(rt;
+            "pwtool: {name}: it doesn't take the cost: 'pwtool make --help' has the ranges"
+        );
+        return BAD_WORDS;
+    }
+    if rt.stdin().is_terminal() && !matches.get_flag("echo") {
+        let _ = eprintln!(rt;
+            "pwtool: the terminal would show the password: \
+            'stty -echo; head -n 1 | pwtool make {name}; stty echo', or --echo"
+        );
+        return BAD_WORDS;
+    }
+    make(rt, cost)
+}
