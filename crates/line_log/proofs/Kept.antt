@@ -1,8 +1,8 @@
 -- One more call joins those that a file in memory has had.
-use Rattle.std.proofs.Common.{◌≡◌, ◌⊎◌, inl, inr, ⊎_elim, ℕ, zero, suc, ◌≤◌, Bool, List, [], ◌∷◌, ◌++◌, length, drop, Vec, refl, sym, subst, arith, length-append}
+use Rattle.std.proofs.Common.{◌≡◌, ◌⊎◌, inl, inr, ⊎_elim, ℕ, zero, suc, ◌≤◌, Bool, true, false, List, [], ◌∷◌, ◌++◌, length, Vec, sym, subst, arith, length-append}
 use Rattle.std.specs.declared.alloc.Global.{Global}
-use Rattle.std.proofs.lemmas.List.{take_min}
-use Rattle.line_log.specs.Device.{Cut, Elapses, Follows, Torn, Zeroed}
+use Rattle.line_log.specs.Device.{Cut, Elapses, Follows, Torn}
+use Rattle.line_log.proofs.DoneCalls.{cut_unchanged, torn_same}
 use Rattle.line_log.specs.Memory.{After, MayHold, Outcome, Since}
 use Rattle.line_log.specs.declared.memory.Call.{Call}
 use Rattle.line_log.specs.declared.memory.Call.TheVariants.{Write, CutTo, Sync, Replace}
@@ -41,9 +41,6 @@ elapses_push left calls later call same = subst (λ (l : List Call). Elapses (le
 })
 
 -- what may be left after each call
-pub torn_same : (at n : ℕ) (c : List ℕ) → Torn at n c c
-torn_same at n c = record { before = take_min at c; after = refl; no_shorter = omega arith; no_longer = omega arith }
-
 pub write_same : (left : List ℕ → Type 0) (at n : ℕ) → Follows (Torn at n) left left
 write_same left at n = λ c now. (c, now, torn_same at n c)
 
@@ -56,12 +53,8 @@ write_follows left calls later at copy bytes is same = λ c now.
     let from = after_push left calls (Write at copy) c (subst (λ (l : List Call). After left l c) same now) in
     (from.0, from.1, subst (λ (b : List ℕ). Torn at (length b) from.0 c) is from.2)
 
-zeroed_same : (bytes : List ℕ) → Zeroed bytes bytes
-zeroed_same [] = tt
-zeroed_same (b ∷ bytes) = (inl refl, zeroed_same bytes)
-
 pub cut_same : (left : List ℕ → Type 0) (len : ℕ) → Follows (Cut len) left left
-cut_same left len = λ c now. (c, now, record { front = refl; rest = zeroed_same (drop len c) })
+cut_same left len = λ c now. (c, now, cut_unchanged len c)
 
 pub cut_still : (left : List ℕ → Type 0) (calls later : List Call) (len : ℕ) → later ≡ calls → Follows (Cut len) (After left calls) (After left later)
 cut_still left calls later len same = subst (λ (l : List Call). Follows (Cut len) (After left calls) (After left l)) (sym same) (cut_same (After left calls) len)
@@ -79,3 +72,16 @@ pub replace_leaves : (left : List ℕ → Type 0) (calls later : List Call) (cop
     → (c : List ℕ) → After left later c → After left calls c ⊎ MayHold is_synced bytes c
 replace_leaves left calls later copy is_synced bytes is same c now =
     subst (λ (b : List ℕ). After left calls c ⊎ MayHold is_synced b c) is (after_push left calls (Replace copy is_synced) c (subst (λ (l : List Call). After left l c) same now))
+
+-- ---- what a read gives stays among what may be left
+
+push_after : (left : List ℕ → Type 0) (calls : List Call) (call : Call) (c : List ℕ) → Outcome (After left calls) call c → After left (calls ++ call ∷ []) c
+push_after left [] call c now = now
+push_after left (d ∷ calls) call c now = push_after (Outcome left d) calls call c now
+
+pub leaves_push : (left : List ℕ → Type 0) (calls later : List Call) (call : Call) (c : List ℕ) → later ≡ calls ++ call ∷ [] → Outcome (After left calls) call c → After left later c
+leaves_push left calls later call c same now = subst (λ (l : List Call). After left l c) (sym same) (push_after left calls call c now)
+
+pub hold_same : (is_synced : Bool) (bytes c : List ℕ) → c ≡ bytes → MayHold is_synced bytes c
+hold_same true bytes c is = is
+hold_same false bytes c is = tt

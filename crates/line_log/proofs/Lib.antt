@@ -1,4 +1,5 @@
 pub mod Crash
+pub mod DoneCalls
 mod Ends
 mod Kept
 pub mod LogLines

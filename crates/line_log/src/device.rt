@@ -11,6 +11,9 @@ use line_io::Failed;
 /// A crash is a power cut, or the end of the process whatever its cause. What it may leave of the file is known at each
 /// moment, and so is what a crash at some moment since an earlier one might have left: a contract speaks of a crash
 /// during a call by that. After `Failed` nothing is said of the bytes of the file but what a crash may leave.
+///
+/// What a read gives is among what a crash may leave, after each call if it was before it (`leaves`): so no clause that says
+/// what such a file has is empty.
 pub trait Device {
     /// The bytes that a read of the file gives.
     ghost seen: { Self → List ℕ };
@@ -38,6 +41,7 @@ pub trait Device {
         requires within { at ≤ length (seen self.old) }
         ensures written { OnOk result (Holds (seen self.old) at bytes.now (seen self.new)) }
         ensures crash { Follows (Torn at (length bytes.now)) (may_leave self.old) (may_leave self.new) }
+        ensures leaves { may_leave self.old (seen self.old) → may_leave self.new (seen self.new) }
         ensures time { Elapses (moment self.old) (moment self.new) (left_since self.old) (left_since self.new) (may_leave self.new) }
         ensures count { faults self.old ≤ faults self.new }
         ensures cause { OnErr result (HasRisen (faults self.old) (faults self.new)) };
@@ -48,6 +52,7 @@ pub trait Device {
         requires durable { Only (seen self.old) (may_leave self.old) }
         ensures cut { OnOk result (seen self.new ≡ take len (seen self.old)) }
         ensures crash { Follows (Cut len) (may_leave self.old) (may_leave self.new) }
+        ensures leaves { may_leave self.old (seen self.old) → may_leave self.new (seen self.new) }
         ensures time { Elapses (moment self.old) (moment self.new) (left_since self.old) (left_since self.new) (may_leave self.new) }
         ensures count { faults self.old ≤ faults self.new }
         ensures cause { OnErr result (HasRisen (faults self.old) (faults self.new)) };
@@ -60,6 +65,7 @@ pub trait Device {
         ensures durable { OnOk result (Only (seen self.old) (may_leave self.new)) }
         ensures seen { seen self.new ≡ seen self.old }
         ensures crash { (c : List ℕ) → may_leave self.new c → may_leave self.old c }
+        ensures leaves { may_leave self.old (seen self.old) → may_leave self.new (seen self.new) }
         ensures time { Elapses (moment self.old) (moment self.new) (left_since self.old) (left_since self.new) (may_leave self.new) }
         ensures count { faults self.old ≤ faults self.new }
         ensures cause { OnErr result (HasRisen (faults self.old) (faults self.new)) };
@@ -69,6 +75,7 @@ pub trait Device {
         ensures begun { OnOk result (replacement self.new ≡ []) }
         ensures seen { seen self.new ≡ seen self.old }
         ensures crash { (c : List ℕ) → may_leave self.new c → may_leave self.old c }
+        ensures leaves { may_leave self.old (seen self.old) → may_leave self.new (seen self.new) }
         ensures time { Elapses (moment self.old) (moment self.new) (left_since self.old) (left_since self.new) (may_leave self.new) }
         ensures count { faults self.old ≤ faults self.new }
         ensures cause { OnErr result (HasRisen (faults self.old) (faults self.new)) };
@@ -78,6 +85,7 @@ pub trait Device {
         ensures appended { OnOk result (replacement self.new ≡ replacement self.old ++ bytes.now) }
         ensures seen { seen self.new ≡ seen self.old }
         ensures crash { (c : List ℕ) → may_leave self.new c → may_leave self.old c }
+        ensures leaves { may_leave self.old (seen self.old) → may_leave self.new (seen self.new) }
         ensures time { Elapses (moment self.old) (moment self.new) (left_since self.old) (left_since self.new) (may_leave self.new) }
         ensures count { faults self.old ≤ faults self.new }
         ensures cause { OnErr result (HasRisen (faults self.old) (faults self.new)) };
@@ -88,6 +96,7 @@ pub trait Device {
         ensures replacement { replacement self.new ≡ replacement self.old }
         ensures seen { seen self.new ≡ seen self.old }
         ensures crash { (c : List ℕ) → may_leave self.new c → may_leave self.old c }
+        ensures leaves { may_leave self.old (seen self.old) → may_leave self.new (seen self.new) }
         ensures time { Elapses (moment self.old) (moment self.new) (left_since self.old) (left_since self.new) (may_leave self.new) }
         ensures count { faults self.old ≤ faults self.new }
         ensures cause { OnErr result (HasRisen (faults self.old) (faults self.new)) };
@@ -96,6 +105,7 @@ pub trait Device {
     fn replace(&mut self) -> Result<(), Failed>
         ensures replaced { OnOk result (seen self.new ≡ replacement self.old) }
         ensures crash { (c : List ℕ) → may_leave self.new c → may_leave self.old c ⊎ replacement_may_hold self.old c }
+        ensures leaves { may_leave self.old (seen self.old) → may_leave self.new (seen self.new) }
         ensures time { Elapses (moment self.old) (moment self.new) (left_since self.old) (left_since self.new) (may_leave self.new) }
         ensures count { faults self.old ≤ faults self.new }
         ensures cause { OnErr result (HasRisen (faults self.old) (faults self.new)) };

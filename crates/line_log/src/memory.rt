@@ -45,6 +45,7 @@ impl MemoryDevice {
     /// A file with these bytes, all of them on the disk. Its call of the number `failing` will fail.
     pub fn new(alloc: Global, start: Vec<u8>, failing: u64) -> Result<MemoryDevice, AllocError>
         ensures bytes { IfOk result (λ device. device_bytes device ≡ start.items) }
+        ensures leaves { IfOk result (λ device. ⟦<MemoryDevice as Device>⟧.may_leave device (⟦<MemoryDevice as Device>⟧.seen device)) }
     {
         Ok(MemoryDevice {
             alloc,

@@ -1,6 +1,7 @@
 use Rattle.std.proofs.Common.{◌≡◌, List, ◌∷◌, is_ok, refl, ap, ◌∙◌}
 use Rattle.file_device.specs.Calls.{Call, Began}
 use Rattle.file_device.proofs.Steps.{begun, cause, count, left_as_before, on_ok, seen_as_before, time}
+use Rattle.file_device.proofs.Leaving.{leaves}
 use Rattle.file_device.proofs.device.FileDeviceDevice.begin_replacement.Goals as goal
 
 call : (c : goal.After-note) → c.note.new.self.record.calls ≡ Began (is_ok c.make_replacement-done.result) ∷ c.args.self.now.record.calls
@@ -23,3 +24,6 @@ returns-clause-count c = count c.note.new.self.record.calls c.args.self.now.reco
 
 pub returns-clause-cause : goal.returns-clause-cause
 returns-clause-cause c = cause c.note.new.self.record.calls c.args.self.now.record.calls _ (call c) c.note.result _ c.note.ensures.result refl
+
+pub returns-clause-leaves : goal.returns-clause-leaves
+returns-clause-leaves c = λ left. leaves c.note.new.self.record.calls

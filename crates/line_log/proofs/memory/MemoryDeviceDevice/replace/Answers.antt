@@ -2,6 +2,8 @@ use Rattle.std.proofs.Common.{inl, ◌∙◌}
 use Rattle.line_log.specs.Memory.{Start}
 use Rattle.line_log.specs.declared.memory.Call.TheVariants.{Replace}
 use Rattle.line_log.proofs.Kept.{elapses_push, elapses_still, replace_leaves, still}
+use Rattle.std.proofs.Common.{inr, sym}
+use Rattle.line_log.proofs.Kept.{hold_same, leaves_push}
 use Rattle.line_log.proofs.memory.MemoryDeviceDevice.replace.Goals as goal
 
 pub returns-in-Err-clause-crash : goal.returns-in-Err-clause-crash
@@ -21,3 +23,17 @@ returns-clause-crash c = replace_leaves (Start c.args.self.now) c.args.self.now.
 
 pub returns-clause-time : goal.returns-clause-time
 returns-clause-time c = elapses_push (Start c.args.self.now) c.args.self.now.calls.items c.note_replace.new.calls.items (Replace c.in-Ok-note_replace.ensures.call.0 c.args.self.now.is_replacement_synced) c.in-Ok-note_replace.ensures.call.2
+
+pub returns-then-failed-clause-leaves : goal.returns-then-failed-clause-leaves
+returns-then-failed-clause-leaves c = λ left. leaves_push (Start c.args.self.now) c.args.self.now.calls.items c.note_replace.new.calls.items (Replace c.in-Ok-note_replace.ensures.call.0 c.args.self.now.is_replacement_synced) c.args.self.now.bytes.items c.in-Ok-note_replace.ensures.call.2
+    (inl left)
+
+pub returns-clause-leaves : goal.returns-clause-leaves
+returns-clause-leaves c =
+    let copy = c.in-Ok-note_replace.ensures.call.0 in
+    let synced = c.args.self.now.is_replacement_synced in
+    let new = c.in-Ok.next.items in
+    let from = c.in-Ok.ensures.items_if_clones_equal (λ x y is. is) ∙ c.deref.ensures.value in
+    let kept = c.in-Ok-note_replace.ensures.call.1 ∙ c.deref-2.ensures.value in
+    λ left. leaves_push (Start c.args.self.now) c.args.self.now.calls.items c.note_replace.new.calls.items (Replace copy synced) new c.in-Ok-note_replace.ensures.call.2
+    (inr (hold_same synced copy.items new (from ∙ sym kept)))
