@@ -12,6 +12,7 @@ mkdir "$work/top"
 cp -r "$top"/{crates.txt,packaging,include,bindings,crypt3,dist} "$work/top"
 mkdir "$work/top/crates"
 [ -e "$work/top/dist/libpwcrypt_c.a" ] || echo none >"$work/top/dist/libpwcrypt_c.a"
+cp "$top/include/pwcheck.h" "$work/top/dist/pwcheck.h"
 cp -r "$work/top/dist" "$work/true"
 cat >"$work/top/install.sh" <<SH
 #!/usr/bin/env bash
