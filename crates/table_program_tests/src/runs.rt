@@ -98,7 +98,7 @@ fn faults_of_the_streams(rt: HostRuntime) {
         };
         let mut room = [0; 64];
         let mut source = MemorySource::new(b"set\tbob\t$5\nset\tann\t!\n", step.max(1), reads);
-        let mut sink = MemorySink::new(&mut room, piece, writes);
+        let mut sink = MemorySink::new(&mut room, piece.max(1), writes);
         assert!(rt; serve(&mut store, &mut source, &mut sink) == status);
         assert!(rt; sink.bytes() == replies && store.device().bytes() == after);
     }
