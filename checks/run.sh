@@ -19,6 +19,9 @@ python3 checks/layers.py
 python3 bench/pictures.py check
 python3 checks/dist.py
 checks/verify_try.sh
+if command -v mandoc >/dev/null 2>&1; then
+  for page in man/*; do mandoc -Tlint -Wwarning "$page"; done
+fi
 checks/c_faces.sh
 command -v strace >/dev/null 2>&1 || apt-get install -y strace >/dev/null 2>&1 || true
 python3 bench/crashes.py quick

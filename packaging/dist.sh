@@ -4,10 +4,11 @@
 #
 #     packaging/dist.sh [FOLDER]      (dist/ if left out)
 #
-# What isn't built is built first, and so proved (see install.sh). dist/ is renewed with each version, not with each change:
+# What isn't built is built first, and so proved (see install.sh); with PWCHECK_AS_BUILT=1 what the gate built is taken as it is. dist/ is
+# renewed with each version, not with each change:
 # checks/dist.py says whether it is of the sources that stand here.
 set -eu
-unset PWCHECK_DIST PWCHECK_AS_BUILT
+unset PWCHECK_DIST
 top=$(cd "$(dirname "$0")/.." && pwd)
 folder=${1:-$top/dist}
 work=$(mktemp -d)
