@@ -16,7 +16,8 @@
  * - The time of a check is told by the stored text: its rounds, or the parameters of scrypt. SHA-crypt's grows with the
  *   square of the password's length too, so it takes passwords of at most 4,096 bytes. A stored text of another's
  *   choice may ask for hours: bound it by pwcheck_check_limited, or by the limits of pwcheck_check_any.
- * - The processor is x86-64-v2 or later. No call was seen to need more than 10 KB of stack beside malloc's.
+ * - The processor is x86-64-v2 or later. No call was seen to need more than 16 KB of stack beside malloc's:
+ *   a thread of 24 KB is enough, and one of PTHREAD_STACK_MIN (16 KB) isn't for bcrypt.
  * - Nothing is wiped: what a call has left on the stack and in freed memory may tell of the password.
  *
  * How to check a password
@@ -79,7 +80,7 @@ enum pwcheck_answer {
     PWCHECK_OUT_OF_MEMORY = 3,      /* no verdict: there is no memory for scrypt. Never a mismatch */
     PWCHECK_PASSWORD_TOO_LONG = 4,  /* more than 4,096 bytes, and UTF-8: the whole password is read first */
 
-    /* 5 to 8: pwcheck_check and pwcheck_check_limited alone */
+    /* 5 to 8: pwcheck_check and pwcheck_check_limited; all but 6: pwcheck_check_any too */
     PWCHECK_MCF_DELIMITER = 5,      /* the stored text doesn't begin with '$', or it ends with it */
     PWCHECK_MCF_IDENTIFIER = 6,     /* the identifier isn't of a-z, 0-9 and -, or '-' is its first or last */
     PWCHECK_MCF_FIELD = 7,          /* a field is empty */
@@ -96,7 +97,7 @@ enum pwcheck_answer {
     PWCHECK_SHA_SALT_TOO_LONG = 16, /* more than 16 bytes */
     PWCHECK_SHA_BASE64 = 17,        /* the hash field is that of no digest */
 
-    /* 18 to 29: other identifiers, read as PHC records; pwcheck_check and pwcheck_check_limited alone */
+    /* 18 to 29: other identifiers, read as PHC records; pwcheck_check, pwcheck_check_limited and pwcheck_check_any */
     PWCHECK_PHC_NAME = 18,          /* the identifier is no name, or that of a parameter is none */
     PWCHECK_PHC_VALUE_LONG = 19,    /* a value of more than 64 characters */
     PWCHECK_PHC_VALUE = 20,         /* a parameter without '=', a value with a character that none may have or with a
@@ -109,7 +110,7 @@ enum pwcheck_answer {
     PWCHECK_PHC_HASH_SHORT = 26,    /* fewer than 10 bytes */
     PWCHECK_PHC_TRAILING = 27,      /* a field behind the hash */
     PWCHECK_NO_HASH = 28,           /* the record has no salt, or no hash */
-    PWCHECK_KDF = 29,               /* scrypt doesn't take the record: see pwcheck(5) */
+    PWCHECK_KDF = 29,               /* the key derivation doesn't take the record: see pwcheck(5) */
 
     PWCHECK_OVER_COST = 30,         /* no verdict: the text is valid, and its cost is above the bound;
                                      * pwcheck_check_limited and pwcheck_check_any alone */
