@@ -14,6 +14,7 @@ use std::cell::Cell;
 use std::fmt::Display;
 use std::hash::{BuildHasher, RandomState};
 use std::io::Write;
+use std::os::unix::fs::PermissionsExt;
 use std::test::Fail;
 use std::{fs, io};
 
@@ -415,6 +416,7 @@ fn a_table_made_anew(rt: HostRuntime) -> Result<(), Fail> {
         name.as_str(),
         b"#pwstore 1\nset\tann\t*\nset\tann\t!\n#",
     )?;
+    fs::set_permissions(&rt, name.as_str(), PermissionsExt::from_mode(0o600))?;
     assert!(rt; table_status(&rt, name.as_str(), "other")? == Some(64));
     assert!(rt; table_status(&rt, name.as_str(), "compact")? == Some(0));
     let left = fs::read(&rt, name.as_str())?;
