@@ -1,4 +1,4 @@
--- The names of the schemes: those that `any_survey` tells.
+-- The names of the schemes: those that `shadow_survey` tells.
 use Rattle.std.specs.Prelude.{ℕ, List, Result, Ok, Err, if◌then◌else◌, codes}
 use Rattle.sha_crypt.specs.declared.errors.Family.TheVariants.{Sha256, Sha512}
 use Rattle.stored_check.specs.Verdict.{same_text}

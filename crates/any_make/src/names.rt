@@ -6,7 +6,7 @@ ghost use Rattle.any_make.specs.Names.{no_scheme, other_scheme, scheme_name, sch
 use crate::{MakeScheme, NameFault};
 use sha_crypt::Family;
 
-/// The name of a scheme, as `any_survey` tells it.
+/// The name of a scheme, as `shadow_survey` tells it.
 pub fn scheme_name(scheme: MakeScheme) -> &'static str
     ensures name { result.now ≡ scheme_name scheme }
 {

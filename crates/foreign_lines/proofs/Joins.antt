@@ -4,13 +4,13 @@ use Rattle.std.specs.Prelude.{IfSome, Ok, Err, is_some}
 use Rattle.line_io.specs.Devices.{WhereTold}
 use Rattle.line_io.specs.Lines.{lines}
 use Rattle.line_program.specs.Outcome.{Outcome}
-use Rattle.user_lines.specs.Loads.{Loaded}
-use Rattle.user_lines.specs.Passwords.{Rows, password_in, password_of}
-use Rattle.user_lines.specs.Wanted.{LoadedWanted, has_line, is_in, wanted_password}
+use Rattle.shadow_fields.specs.Loads.{Loaded}
+use Rattle.shadow_fields.specs.Passwords.{Rows, password_in, password_of}
+use Rattle.shadow_fields.specs.Wanted.{LoadedWanted, has_line, is_in, wanted_password}
 use Rattle.any_check.specs.declared.cost.CostLimits.{CostLimits}
-use Rattle.any_users.specs.declared.join.JoinEnd.{JoinEnd}
-use Rattle.any_users.specs.declared.join.JoinEnd.TheVariants.{Passwords, Texts}
-use Rattle.any_users.proofs.TwoFiles.{both, first_alone}
+use Rattle.shadow_check.specs.declared.join.JoinEnd.{JoinEnd}
+use Rattle.shadow_check.specs.declared.join.JoinEnd.TheVariants.{Passwords, Texts}
+use Rattle.shadow_check.proofs.TwoFiles.{both, first_alone}
 use Rattle.foreign_text.specs.declared.converted.Foreign.{Foreign}
 use Rattle.foreign_lines.specs.Runs.{ForeignFewer, ForeignJoin, ForeignWanted, foreign_joined_rules}
 

@@ -3,7 +3,7 @@ use Rattle.std.specs.Prelude.{ℕ, List, [], ◌∷◌, ◌++◌, ◌==◌, leng
 use Rattle.std.specs.List.{after_last, before_last, list_any}
 use Rattle.std.specs.Str.{is_utf8}
 use Rattle.pieces.specs.Characters.{is_tab}
-use Rattle.user_lines.specs.Fields.{has_user, is_locked, rest_of, text_of_line, user_of}
+use Rattle.shadow_fields.specs.Fields.{has_user, is_locked, rest_of, text_of_line, user_of}
 use Rattle.foreign_lines.specs.declared.parts.LineForm.{LineForm}
 use Rattle.foreign_lines.specs.declared.parts.LineForm.TheVariants.{Password, Surveyed, UserPassword, UserText}
 

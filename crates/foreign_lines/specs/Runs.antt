@@ -3,14 +3,14 @@ use Rattle.std.specs.Prelude.{◌≡◌, ◌<◌, ◌≤◌, ℕ, Bool, List, []
 use Rattle.line_io.specs.Lines.{lines}
 use Rattle.line_program.specs.Outcome.{Outcome}
 use Rattle.line_program.specs.Rules.{LineRules}
-use Rattle.user_lines.specs.Passwords.{password_of}
-use Rattle.user_lines.specs.Wanted.{has_line, wanted_password}
+use Rattle.shadow_fields.specs.Passwords.{password_of}
+use Rattle.shadow_fields.specs.Wanted.{has_line, wanted_password}
 use Rattle.any_check.specs.Lines.{line_is_good, line_may_lack, line_output}
 use Rattle.any_check.specs.declared.cost.CostLimits.{CostLimits}
-use Rattle.any_users.specs.Join.{joined_is_good, joined_may_lack, joined_output}
-use Rattle.any_users.specs.Users.{user_is_good, user_may_lack, user_output}
-use Rattle.any_users.specs.declared.join.JoinEnd.{JoinEnd}
-use Rattle.any_users.specs.declared.join.JoinEnd.TheVariants.{Passwords, Texts}
+use Rattle.shadow_check.specs.Join.{joined_is_good, joined_may_lack, joined_output}
+use Rattle.shadow_check.specs.Users.{user_is_good, user_may_lack, user_output}
+use Rattle.shadow_check.specs.declared.join.JoinEnd.{JoinEnd}
+use Rattle.shadow_check.specs.declared.join.JoinEnd.TheVariants.{Passwords, Texts}
 use Rattle.foreign_text.specs.declared.converted.Foreign.{Foreign}
 use Rattle.foreign_lines.specs.Rules.{foreign_each}
 use Rattle.foreign_lines.specs.declared.parts.LineForm.TheVariants.{Password, UserPassword, UserText}
@@ -30,7 +30,7 @@ abbrev pub foreign_joined_rules : Foreign → Option CostLimits → (List ℕ �
 foreign_joined_rules foreign limits find =
     foreign_each foreign UserText (joined_output limits find) (joined_is_good limits find) (joined_may_lack limits find)
 
--- ---- over two files: as `any_users` has it, with these rules for the lines of texts
+-- ---- over two files: as `shadow_check` has it, with these rules for the lines of texts
 
 -- all passwords in memory
 abbrev pub ForeignJoin : Foreign → Option CostLimits → JoinEnd → ℕ → List ℕ → List ℕ → List ℕ → List ℕ → Type 0

@@ -3,20 +3,20 @@
 ghost use Rattle.std.specs.Prelude.{◌≡◌, ◌≢◌, ◌≤◌, ◌^◌, [], IfSome, Ok, Err};
 ghost use Rattle.line_io.specs.Devices.{WhereTold};
 ghost use Rattle.pieces.specs.FaultCounts.{HasRisen};
-ghost use Rattle.user_lines.specs.Wanted.{is_in};
-ghost use Rattle.any_users.specs.FewerOutcome.{fewer_status};
-ghost use Rattle.any_users.specs.JoinOutcome.{status_of};
+ghost use Rattle.shadow_fields.specs.Wanted.{is_in};
+ghost use Rattle.shadow_check.specs.FewerOutcome.{fewer_status};
+ghost use Rattle.shadow_check.specs.JoinOutcome.{status_of};
 ghost use Rattle.foreign_lines.specs.Runs.{ForeignFewer, ForeignWanted};
 
 use crate::join::join_texts;
 use any_check::CostLimits;
-use any_users::JoinEnd;
 use foreign_text::Foreign;
 use line_io::{Sink, Source};
 use line_program::status::SOME_OTHER;
+use shadow_check::JoinEnd;
+use shadow_fields::{Loading, LoadingWanted, Passwords, load_passwords, load_wanted};
 use std::alloc::Global;
 use std::hash::RandomState;
-use user_lines::{Loading, LoadingWanted, Passwords, load_passwords, load_wanted};
 
 // Answers the lines of foreign texts by the passwords of the users in a table.
 fn join_wanted<P: Source, T: Source, K: Sink>(
@@ -48,7 +48,7 @@ fn join_wanted<P: Source, T: Source, K: Sink>(
 }
 
 /// Answers each line of `texts` as [`run_foreign_join`](crate::run_foreign_join) does, and keeps of the passwords those alone
-/// whose users stand in `users`, a first reading of the same file, as `any_users::run_join_fewer` does.
+/// whose users stand in `users`, a first reading of the same file, as `shadow_check::run_join_fewer` does.
 pub fn run_foreign_join_fewer<U: Source, P: Source, T: Source, K: Sink>(
     alloc: Global,
     keys: RandomState,

@@ -4,21 +4,21 @@ ghost use Rattle.std.specs.Prelude.{◌≡◌, ◌≢◌, ◌≤◌, ◌^◌, If
 ghost use Rattle.line_io.specs.Devices.{WhereTold};
 ghost use Rattle.pieces.specs.FaultCounts.{HasRisen};
 ghost use Rattle.line_program.specs.Outcome.{Outcome};
-ghost use Rattle.user_lines.specs.Passwords.{password_in};
-ghost use Rattle.any_users.specs.JoinOutcome.{status_of};
+ghost use Rattle.shadow_fields.specs.Passwords.{password_in};
+ghost use Rattle.shadow_check.specs.JoinOutcome.{status_of};
 ghost use Rattle.foreign_lines.specs.Runs.{ForeignJoin, foreign_joined_rules};
 
 use crate::lines::ForeignLines;
 use crate::parts::LineForm;
 use any_check::{AnyLines, CostLimits};
-use any_users::{JoinEnd, JoinedLines};
 use foreign_text::Foreign;
 use line_io::{Sink, Source};
 use line_program::run_lines;
 use line_program::status::SOME_OTHER;
+use shadow_check::{JoinEnd, JoinedLines};
+use shadow_fields::{Loading, Passwords, load_passwords};
 use std::alloc::Global;
 use std::hash::RandomState;
-use user_lines::{Loading, Passwords, load_passwords};
 
 // Answers the lines of foreign texts by a table of passwords.
 pub(crate) fn join_texts<T: Source, K: Sink>(
@@ -49,7 +49,7 @@ pub(crate) fn join_texts<T: Source, K: Sink>(
 }
 
 /// Answers each line of `texts`, whose stored texts are in a foreign spelling, by the user's password in `passwords`, and
-/// tells where it ended, as `any_users::run_join` does.
+/// tells where it ended, as `shadow_check::run_join` does.
 ///
 /// Where a text isn't converted, the user, a tab and the word of the cause are written; an empty or a locked text isn't
 /// looked at, and all else is `run_join`'s.

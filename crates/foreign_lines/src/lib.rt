@@ -3,7 +3,7 @@
 //! [`ForeignLines`] hands each line to another responder, with the line's stored text converted by `foreign_text`; where the
 //! text isn't converted, the word of the cause is written in place of the other's reply. [`run_foreign`],
 //! [`run_foreign_users`], [`run_foreign_join`], [`run_foreign_join_fewer`] and [`run_foreign_survey`] are the runs of
-//! `any_check`, `any_users` and `any_survey` behind it.
+//! `any_check`, `shadow_check` and `shadow_survey` behind it.
 #![tactic(auto)]
 
 mod fewer;

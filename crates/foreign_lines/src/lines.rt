@@ -15,8 +15,8 @@ use line_io::{LINE_MAX, OutputBuffer, Sink};
 use line_program::Responder;
 use line_state::Ending;
 use pieces::short_bytes::ShortBytes;
+use shadow_fields::put_user;
 use std::alloc::AllocError;
-use user_lines::put_user;
 
 /// What hands lines to another responder, each with its stored text converted.
 #[derive(Drop)]

@@ -7,7 +7,7 @@ ghost use Rattle.foreign_lines.specs.Views.{as_parts};
 
 use line_program::cut_at_last_tab;
 use pieces::text::text_of;
-use user_lines::{cut_field, cut_user, is_locked};
+use shadow_fields::{cut_field, cut_user, is_locked};
 
 /// What a line is, by where its stored text stands.
 #[derive(Clone, Copy, Debug, PartialEq, Eq)]

@@ -5,20 +5,20 @@ ghost use Rattle.line_io.specs.Devices.{WhereTold};
 ghost use Rattle.line_program.specs.Outcome.{Outcome};
 ghost use Rattle.line_state.specs.Outcome.{EndedOutcome};
 ghost use Rattle.pieces.specs.FaultCounts.{HasRisen};
-ghost use Rattle.any_survey.specs.Rows.{ending_text};
-ghost use Rattle.any_survey.specs.Rules.{survey_rules};
+ghost use Rattle.shadow_survey.specs.Rows.{ending_text};
+ghost use Rattle.shadow_survey.specs.Rules.{survey_rules};
 ghost use Rattle.foreign_lines.specs.Rules.{foreign_state};
 ghost use Rattle.foreign_lines.specs.Runs.{foreign_rules, foreign_user_rules};
 
 use crate::lines::ForeignLines;
 use crate::parts::LineForm;
 use any_check::{AnyLines, CostLimits};
-use any_survey::SurveyLines;
-use any_users::UserLines;
 use foreign_text::Foreign;
 use line_io::{Sink, Source};
 use line_program::run_lines;
 use line_state::run_ended;
+use shadow_check::UserLines;
+use shadow_survey::SurveyLines;
 use std::alloc::Global;
 
 /// Answers each line of a source of at most `max` bytes with its word, and gives the status.
@@ -50,7 +50,7 @@ pub fn run_foreign<S: Source, K: Sink>(
 }
 
 /// The same of lines that begin with a user and a colon: the user and a tab stand before each word, as
-/// `any_users::run_users` has it.
+/// `shadow_check::run_users` has it.
 pub fn run_foreign_users<S: Source, K: Sink>(
     alloc: Global,
     foreign: Foreign,
@@ -76,7 +76,7 @@ pub fn run_foreign_users<S: Source, K: Sink>(
     run_lines(&mut lines, source, sink, max)
 }
 
-/// Writes the row of `any_survey::run_survey` for each line of a source of at most `max` bytes, with its stored text
+/// Writes the row of `shadow_survey::run_survey` for each line of a source of at most `max` bytes, with its stored text
 /// converted, and what that writes behind the rows. A text that isn't converted has the judgement `no scheme`. Statuses are
 /// those of `run_survey`; no memory is taken.
 pub fn run_foreign_survey<S: Source, K: Sink>(

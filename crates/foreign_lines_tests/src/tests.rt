@@ -1,14 +1,14 @@
 //! Lines of foreign texts. The texts are Django's and passlib's, of the password `secret`.
 
 use any_check::CostLimits;
-use any_survey::{Format, LeastCosts, SurveyLines};
-use any_users::JoinEnd;
 use foreign_lines::{
     ForeignLines, LineForm, run_foreign, run_foreign_join, run_foreign_join_fewer,
     run_foreign_survey, run_foreign_users,
 };
 use foreign_text::Foreign;
 use line_io::{MemorySink, MemorySource};
+use shadow_check::JoinEnd;
+use shadow_survey::{Format, LeastCosts, SurveyLines};
 use std::hash::RandomState;
 use std::test::Fail;
 

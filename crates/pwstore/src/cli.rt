@@ -2,7 +2,7 @@
 
 use clap::{Arg, Command};
 use std::alloc::{AllocError, Global};
-use table_program::HELP;
+use store_run::HELP;
 
 /// The program's command line.
 pub fn command<'a>(alloc: Global) -> Result<Command<'a>, AllocError> {

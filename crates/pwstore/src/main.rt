@@ -18,7 +18,7 @@ use clap::error::ErrorKind;
 use line_program::status::{ALL_GOOD, NO_MEMORY, NO_WORDS, WRITE_FAULT};
 use std::process::ExitCode;
 use std::{env, io};
-use table_program::{compact_file, serve_file};
+use store_run::{compact_file, serve_file};
 
 // The name that messages begin with.
 const PROGRAM: &str = "pwstore";

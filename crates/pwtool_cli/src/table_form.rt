@@ -1,10 +1,10 @@
-//! The form `table`: its command line, and what it asks of `table_program`.
+//! The form `table`: its command line, and what it asks of `store_run`.
 
 use clap::{Arg, ArgMatches, Command};
 use pwtool_forms::fault::say;
 use pwtool_forms::status::BAD_WORDS;
 use std::alloc::{AllocError, Global};
-use table_program::{HELP, compact_file, serve_file};
+use store_run::{HELP, compact_file, serve_file};
 
 // The name that messages begin with.
 const PROGRAM: &str = "pwtool";

@@ -1,8 +1,8 @@
 //! The bound on cost that the command line gives.
 
 use any_check::CostLimits;
-use any_survey::LeastCosts;
 use clap::ArgMatches;
+use shadow_survey::LeastCosts;
 
 /// The most that each scheme takes: no valid text is above it.
 const SCHEMES_OWN: CostLimits = CostLimits {

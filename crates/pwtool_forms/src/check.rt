@@ -5,11 +5,11 @@ ghost use Rattle.line_io.specs.Devices.{WhereTold};
 ghost use Rattle.pieces.specs.FaultCounts.{HasRisen};
 ghost use Rattle.line_program.specs.Outcome.{Outcome};
 ghost use Rattle.any_check.specs.Lines.{any_line_rules};
-ghost use Rattle.any_users.specs.Users.{user_line_rules};
+ghost use Rattle.shadow_check.specs.Users.{user_line_rules};
 
 use any_check::{CostLimits, run_any};
-use any_users::run_users;
 use line_io::{INPUT_MAX, Sink, Source};
+use shadow_check::run_users;
 use std::alloc::Global;
 
 /// Answers each line of a source of at most 2^40 bytes with its word, and gives the status.

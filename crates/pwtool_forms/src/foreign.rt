@@ -5,22 +5,22 @@ ghost use Rattle.line_io.specs.Devices.{WhereTold};
 ghost use Rattle.line_program.specs.Outcome.{Outcome};
 ghost use Rattle.line_state.specs.Outcome.{EndedOutcome};
 ghost use Rattle.pieces.specs.FaultCounts.{HasRisen};
-ghost use Rattle.any_survey.specs.Rows.{ending_text};
-ghost use Rattle.any_survey.specs.Rules.{survey_rules};
-ghost use Rattle.any_users.specs.FewerOutcome.{fewer_status};
-ghost use Rattle.any_users.specs.JoinOutcome.{status_of};
+ghost use Rattle.shadow_survey.specs.Rows.{ending_text};
+ghost use Rattle.shadow_survey.specs.Rules.{survey_rules};
+ghost use Rattle.shadow_check.specs.FewerOutcome.{fewer_status};
+ghost use Rattle.shadow_check.specs.JoinOutcome.{status_of};
 ghost use Rattle.foreign_lines.specs.Rules.{foreign_state};
 ghost use Rattle.foreign_lines.specs.Runs.{ForeignFewer, ForeignJoin, foreign_rules, foreign_user_rules};
 
 use any_check::CostLimits;
-use any_survey::SurveyLines;
-use any_users::JoinEnd;
 use foreign_lines::{
     ForeignLines, run_foreign, run_foreign_join, run_foreign_join_fewer, run_foreign_survey,
     run_foreign_users,
 };
 use foreign_text::Foreign;
 use line_io::{INPUT_MAX, Sink, Source};
+use shadow_check::JoinEnd;
+use shadow_survey::SurveyLines;
 use std::alloc::Global;
 use std::hash::RandomState;
 

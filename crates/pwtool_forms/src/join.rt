@@ -3,13 +3,13 @@
 ghost use Rattle.std.specs.Prelude.{◌≡◌, ◌≢◌, ◌≤◌, ◌^◌, IfSome, Ok, Err};
 ghost use Rattle.line_io.specs.Devices.{WhereTold};
 ghost use Rattle.pieces.specs.FaultCounts.{HasRisen};
-ghost use Rattle.any_users.specs.FewerOutcome.{FewerOutcome, fewer_status};
-ghost use Rattle.any_users.specs.JoinOutcome.{JoinOutcome, status_of};
-ghost use Rattle.any_users.specs.NoText.{NoTextOutcome};
+ghost use Rattle.shadow_check.specs.FewerOutcome.{FewerOutcome, fewer_status};
+ghost use Rattle.shadow_check.specs.JoinOutcome.{JoinOutcome, status_of};
+ghost use Rattle.shadow_check.specs.NoText.{NoTextOutcome};
 
 use any_check::CostLimits;
-use any_users::{JoinEnd, run_join, run_join_fewer, run_no_text};
 use line_io::{INPUT_MAX, Sink, Source};
+use shadow_check::{JoinEnd, run_join, run_join_fewer, run_no_text};
 use std::alloc::Global;
 use std::hash::RandomState;
 

@@ -4,11 +4,11 @@ ghost use Rattle.std.specs.Prelude.{◌≡◌, ◌≢◌, ◌≤◌, ◌^◌};
 ghost use Rattle.line_io.specs.Devices.{WhereTold};
 ghost use Rattle.line_state.specs.Outcome.{EndedOutcome};
 ghost use Rattle.pieces.specs.FaultCounts.{HasRisen};
-ghost use Rattle.any_survey.specs.Rows.{ending_text};
-ghost use Rattle.any_survey.specs.Rules.{survey_rules};
+ghost use Rattle.shadow_survey.specs.Rows.{ending_text};
+ghost use Rattle.shadow_survey.specs.Rules.{survey_rules};
 
-use any_survey::{SurveyLines, run_survey};
 use line_io::{INPUT_MAX, Sink, Source};
+use shadow_survey::{SurveyLines, run_survey};
 
 /// Writes a row for each line of a source of at most 2^40 bytes, and in the form for people how many there are of each
 /// judgement behind them. Statuses are those of [`run_survey`]; no memory is taken.

@@ -3,13 +3,13 @@
 
 use any_check::CostLimits;
 use any_make::{MakeCost, MakeEnd, MakeFault, scheme_named};
-use any_survey::LeastCosts;
 use pwtool_cli::{command, run_table};
 use pwtool_forms::bounds::{bound_of, least_of};
 use pwtool_forms::form::{answer, survey, survey_of};
 use pwtool_forms::make::{cost_of, told};
 use pwtool_forms::reports;
 use pwtool_forms::tally::{Counts, Tally};
+use shadow_survey::LeastCosts;
 use std::cell::Cell;
 use std::fmt::Display;
 use std::hash::{BuildHasher, RandomState};

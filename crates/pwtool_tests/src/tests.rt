@@ -2,10 +2,10 @@
 //! openssl's, of the password `secret`.
 
 use any_check::CostLimits;
-use any_survey::{Format, LeastCosts, SurveyLines};
-use any_users::JoinEnd;
 use line_io::{MemorySink, MemorySource};
 use pwtool_forms::{check_lines, check_users, join_fewer, join_files, survey_lines, tell_no_text};
+use shadow_check::JoinEnd;
+use shadow_survey::{Format, LeastCosts, SurveyLines};
 use std::hash::RandomState;
 use std::test::Fail;
 

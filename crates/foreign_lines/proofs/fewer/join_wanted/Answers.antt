@@ -1,5 +1,5 @@
 use Rattle.pieces.proofs.RisenCounts.{risen_since}
-use Rattle.user_lines.specs.Wanted.{is_in}
+use Rattle.shadow_fields.specs.Wanted.{is_in}
 use Rattle.foreign_lines.proofs.Joins.{wanted_end, wanted_texts_end}
 use Rattle.foreign_lines.proofs.fewer.join_wanted.Goals as goal
 

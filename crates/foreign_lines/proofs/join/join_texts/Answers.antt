@@ -2,9 +2,9 @@ use Rattle.std.proofs.Common.{ap}
 use Rattle.line_program.specs.Rules.{from_state}
 use Rattle.line_program.proofs.RuleLaws.{each_by_itself}
 use Rattle.line_program.proofs.Told.{outcome_as}
-use Rattle.user_lines.specs.Passwords.{password_in}
-use Rattle.any_users.specs.JoinRules.{joined_state_rules}
-use Rattle.any_users.specs.declared.joined.JoinedLines.{JoinedLines}
+use Rattle.shadow_fields.specs.Passwords.{password_in}
+use Rattle.shadow_check.specs.JoinRules.{joined_state_rules}
+use Rattle.shadow_check.specs.declared.joined.JoinedLines.{JoinedLines}
 use Rattle.foreign_lines.specs.Handed.{handed}
 use Rattle.foreign_lines.specs.Rules.{foreign_state}
 use Rattle.foreign_lines.specs.Runs.{foreign_joined_rules}

@@ -2,8 +2,8 @@ use Rattle.std.proofs.Common.{ap}
 use Rattle.line_program.specs.Rules.{from_state}
 use Rattle.line_program.proofs.RuleLaws.{each_by_itself}
 use Rattle.line_program.proofs.Told.{outcome_as}
-use Rattle.any_users.specs.UserRules.{user_state_rules}
-use Rattle.any_users.specs.declared.users.UserLines.{UserLines}
+use Rattle.shadow_check.specs.UserRules.{user_state_rules}
+use Rattle.shadow_check.specs.declared.users.UserLines.{UserLines}
 use Rattle.foreign_lines.specs.Handed.{handed}
 use Rattle.foreign_lines.specs.Rules.{foreign_state}
 use Rattle.foreign_lines.specs.Runs.{foreign_user_rules}

@@ -1,8 +1,0 @@
-use Rattle.line_io.proofs.Gathering.{puts_more}
-use Rattle.any_survey.proofs.rows.put_csv_row.Goals as goal
-
-pub returns : goal.returns
-returns g c = record {
-  puts = puts_more _ _ _ _ _ _ _ _ _ _ _ c.put.ensures.puts
-      (puts_more _ _ _ _ _ _ _ _ _ _ _ c.put_csv_text.ensures.puts c.put_cells.ensures.puts);
-}

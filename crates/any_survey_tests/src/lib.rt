@@ -1,7 +1,0 @@
-//! The tests of `any_survey`.
-//!
-//! They stand in a crate of their own, since a crate that has tests is proved twice.
-#![tactic(auto)]
-
-#[cfg(test)]
-mod tests;

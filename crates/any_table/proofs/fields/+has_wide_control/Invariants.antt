@@ -1,5 +1,0 @@
-use Rattle.std.proofs.Common.{length}
-use Rattle.any_table.proofs.fields.+has_wide_control.Given as goal
-
-abbrev pub decreases-has_wide_control : goal.decreases-has_wide_control
-decreases-has_wide_control l = length l.bytes.now

@@ -1,8 +1,0 @@
-//! Laws over runs over two files.
-
-ghost use Rattle.any_users.specs.Laws.{FewerAnswersAlike};
-
-/// A run that keeps the passwords of the texts' users alone answers as one that keeps all.
-pub fn fewer_answers_alike()
-    ensures alike { FewerAnswersAlike }
-{}

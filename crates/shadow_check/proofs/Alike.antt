@@ -1,0 +1,24 @@
+-- A run that keeps the passwords of the texts' users alone answers as one that keeps all.
+use Rattle.std.proofs.Common.{◌≡◌, ℕ, Bool, true, false, List, length, refl, Option}
+use Rattle.std.specs.Prelude.{nat_lt}
+use Rattle.shadow_fields.specs.Fields.{has_user, user_of}
+use Rattle.shadow_fields.specs.Passwords.{password_of}
+use Rattle.shadow_fields.specs.Wanted.{has_line, wanted_password}
+use Rattle.shadow_fields.proofs.LoadedWanted.{has_line_of}
+use Rattle.any_check.specs.declared.cost.CostLimits.{CostLimits}
+use Rattle.shadow_check.specs.Join.{joined_output}
+use Rattle.shadow_check.specs.Laws.{FewerAnswersAlike}
+
+by_cases : (limits : Option CostLimits) (texts passwords : List (List ℕ)) (line : List ℕ) (long user : Bool)
+    → nat_lt 8192 (length line) ≡ long → has_user line ≡ user
+    → (long ≡ false → user ≡ true → has_line texts (user_of line) ≡ true)
+    → joined_output limits (wanted_password (has_line texts) passwords) line ≡ joined_output limits (password_of passwords) line
+unfolding joined_output
+by_cases limits texts passwords line true user is_long is_user has = rw is_long refl
+by_cases limits texts passwords line false false is_long is_user has = rw (is_long, is_user) refl
+by_cases limits texts passwords line false true is_long is_user has = rw (is_long, is_user, has refl refl) refl
+
+pub alike : FewerAnswersAlike
+alike limits texts passwords i line here =
+    by_cases limits texts passwords line (nat_lt 8192 (length line)) (has_user line) refl refl
+    (λ short user. has_line_of texts i line here (rw (short, user) refl))

@@ -1,0 +1,19 @@
+use Rattle.pieces.proofs.RisenCounts.{risen_since}
+use Rattle.shadow_fields.specs.Wanted.{is_in}
+use Rattle.shadow_check.proofs.Runs.{wanted_end, wanted_texts_end}
+use Rattle.shadow_check.proofs.fewer.join_wanted.Goals as goal
+
+pub returns-then-status-gt-SOME_OTHER-clause-outcome : goal.returns-then-status-gt-SOME_OTHER-clause-outcome
+returns-then-status-gt-SOME_OTHER-clause-outcome g c =
+    wanted_end c.args.limits c.load_wanted-status.new.loading.passwords c.load_wanted-status.result c.args.max
+    (is_in c.args.loading.users) c.if-status-gt-SOME_OTHER.true _ _ _ _ _ c.load_wanted-status.ensures.loaded
+
+pub returns-clause-write_fault : goal.returns-clause-write_fault
+returns-clause-write_fault g c =
+    λ h. risen_since _ _ _ c.load_wanted-status.ensures.count (c.join_texts.ensures.write_fault h)
+
+pub returns-clause-outcome : goal.returns-clause-outcome
+returns-clause-outcome g c =
+    wanted_texts_end c.args.limits c.load_wanted-status.new.loading.passwords c.load_wanted-status.result c.args.max
+    (is_in c.args.loading.users) c.join_texts.result c.if-status-gt-SOME_OTHER.false _ _ _ _ _ _ _
+    c.load_wanted-status.ensures.loaded c.join_texts.ensures.outcome

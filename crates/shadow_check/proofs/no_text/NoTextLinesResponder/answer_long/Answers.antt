@@ -1,0 +1,15 @@
+use Rattle.std.proofs.Common.{rules, ◌≡◌, true, length, sym}
+use Rattle.std.specs.Prelude.{nat_lt}
+use Rattle.shadow_fields.specs.Wanted.{is_in}
+use Rattle.shadow_check.proofs.OfNoTexts.{long_good, long_output}
+use Rattle.shadow_check.proofs.no_text.NoTextLinesResponder.answer_long.Goals as goal
+
+pub returns-clause-good : goal.returns-clause-good
+returns-clause-good g c line long =
+    let is : nat_lt 8192 (length line) ≡ true = search rules in
+    sym (long_good (is_in c.args.self.now.users) line is)
+
+pub returns-clause-reply : goal.returns-clause-reply
+returns-clause-reply g c line long =
+    let is : nat_lt 8192 (length line) ≡ true = search rules in
+    rw (long_output (is_in c.args.self.now.users) line is) c.put.ensures.puts

@@ -1,0 +1,15 @@
+use Rattle.std.proofs.Common.{refl}
+use Rattle.line_program.specs.Rules.{from_state}
+use Rattle.line_program.proofs.RuleLaws.{each_by_itself}
+use Rattle.line_program.proofs.Told.{outcome_as}
+use Rattle.shadow_fields.specs.Wanted.{is_in}
+use Rattle.shadow_check.specs.NoText.{no_text_rules}
+use Rattle.shadow_check.specs.NoTextRules.{no_text_state_rules}
+use Rattle.shadow_check.specs.declared.no_text.NoTextLines.{NoTextLines}
+use Rattle.shadow_check.proofs.no_text.tell_users.Goals as goal
+
+pub returns-clause-outcome : goal.returns-clause-outcome
+returns-clause-outcome g c =
+    let told : NoTextLines = record { users = c.args.users } in
+    outcome_as (from_state no_text_state_rules told) (no_text_rules (is_in c.args.users))
+    (each_by_itself no_text_state_rules told (λ l. refl)) c.run_lines.result c.args.max _ _ _ _ c.run_lines.ensures.outcome

@@ -1,0 +1,118 @@
+//! A shadow file beside passwords. The texts are openssl's, of the password `secret`.
+
+use any_check::CostLimits;
+use line_io::{MemorySink, MemorySource};
+use shadow_check::{JoinEnd, run_join};
+use std::hash::RandomState;
+use std::test::Fail;
+
+// The least bound of each scheme but for SHA-crypt's rounds.
+fn rounds_below(most: usize) -> CostLimits {
+    CostLimits {
+        sha_rounds: most,
+        bcrypt_cost: 4,
+        yescrypt_ln: 2,
+        yescrypt_r: 1,
+        yescrypt_t: 0,
+        pbkdf2_rounds: 1,
+        scrypt_ln: 1,
+        scrypt_r: 1,
+        scrypt_p: 1,
+        argon2_memory: 8,
+        argon2_passes: 1,
+        argon2_lanes: 1,
+    }
+}
+
+const PASSWORDS: &[u8] =
+    b"ann:Secret\nbob:secret\nann:secret\neve:secret\nnobody\n:secret\n\xff:secret\n\
+    bytes:\xff\nempty:\nlocked:secret\nroot:secret\nstar:secret\ncol:se:cret\nsha:secret\n";
+
+const TEXTS: &[u8] = b"root:!:19000:0:99999:7:::\n\
+    ann:$1$abcdefgh$cHJi5PXp/ki/ktXzqlk6I1:19000:0:99999:7:::\n\
+    bob:$1$abcdefgh$dHJi5PXp/ki/ktXzqlk6I1\n\
+    carl:$1$abcdefgh$cHJi5PXp/ki/ktXzqlk6I1:\n\
+    locked:!$1$abcdefgh$cHJi5PXp/ki/ktXzqlk6I1::::::\n\
+    star:*:::\n\
+    empty::19000:0\n\
+    eve:x:0:0\n\
+    bytes:$1$abcdefgh$cHJi5PXp/ki/ktXzqlk6I1\n\
+    :$1$abcdefgh$cHJi5PXp/ki/ktXzqlk6I1\n\
+    \xff:$1$abcdefgh$cHJi5PXp/ki/ktXzqlk6I1:\xff\n\
+    ann:$1$abcdefgh:rest\n\
+    nobody\n\
+    \n\
+    ann:\xff\n\
+    col:$1$abcdefgh$cHJi5PXp/ki/ktXzqlk6I1\n\
+    sha:$5$abcdefgh$gruCpC7VkOTspMQTTSAR8mtlO9Upms.fwqE5y16JVM.:::";
+
+const WORDS: &[u8] =
+    b"root\tlocked\nann\tmatch\nbob\tmismatch\ncarl\tno-password\nlocked\tlocked\nstar\tlocked\n\
+    empty\tempty\neve\tno-scheme\nbytes\tbadline\n\tmatch\n\xff\tmatch\nann\tmd5-format\nbadline\nbadline\nann\tbadline\n\
+    col\tmismatch\n";
+
+#[test]
+fn each_user_by_the_last_password(rt: HostRuntime) -> Result<(), Fail> {
+    for (limits, last) in [
+        (None, b"sha\tmatch\n".as_slice()),
+        (Some(rounds_below(5_000)), b"sha\tmatch\n"),
+        (Some(rounds_below(4_999)), b"sha\ttoo-costly\n"),
+    ] {
+        let mut room = [0; 400];
+        let mut passwords = MemorySource::new(PASSWORDS, 11, &[]);
+        let mut texts = MemorySource::new(TEXTS, 50, &[]);
+        let mut sink = MemorySink::new(&mut room, 7, &[]);
+        let keys = RandomState::new(&rt)?;
+        let end = run_join(
+            rt.alloc(),
+            keys,
+            limits,
+            &mut passwords,
+            &mut texts,
+            &mut sink,
+            1_000,
+        );
+        assert!(rt; end == JoinEnd::Texts(1), "{limits:?}");
+        assert!(rt;
+            sink.bytes().strip_prefix(WORDS) == Some(last),
+            "{limits:?}"
+        );
+    }
+    Ok(())
+}
+
+// The reads of passwords, of texts and the writes that fail, the most bytes, the output and the end.
+const ENDS: [(&[u64], &[u64], &[u64], u64, &[u8], JoinEnd); 6] = [
+    (&[], &[], &[], 100, b"ann\tmatch\n", JoinEnd::Texts(0)),
+    (&[1], &[], &[], 100, b"", JoinEnd::Passwords(3)),
+    (&[], &[1], &[], 100, b"", JoinEnd::Texts(3)),
+    (&[], &[], &[0], 100, b"", JoinEnd::Texts(4)),
+    (&[], &[], &[], 10, b"", JoinEnd::Passwords(6)),
+    (&[], &[], &[], 11, b"", JoinEnd::Texts(6)),
+];
+
+#[test]
+fn ends(rt: HostRuntime) -> Result<(), Fail> {
+    for (bad_passwords, bad_texts, bad_writes, max, output, wanted) in ENDS {
+        let mut room = [0; 40];
+        let mut passwords = MemorySource::new(b"ann:secret\n", 8, bad_passwords);
+        let mut texts = MemorySource::new(
+            b"ann:$1$abcdefgh$cHJi5PXp/ki/ktXzqlk6I1\n",
+            30,
+            bad_texts,
+        );
+        let mut sink = MemorySink::new(&mut room, 40, bad_writes);
+        let end = run_join(
+            rt.alloc(),
+            RandomState::new(&rt)?,
+            None,
+            &mut passwords,
+            &mut texts,
+            &mut sink,
+            max,
+        );
+        assert!(rt; end == wanted, "{end:?}, and not {wanted:?}");
+        assert!(rt; sink.bytes() == output, "{wanted:?}");
+    }
+    Ok(())
+}

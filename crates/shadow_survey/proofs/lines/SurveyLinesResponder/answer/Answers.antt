@@ -1,0 +1,29 @@
+use Rattle.std.proofs.Common.{rules, ◌≡◌, ◌∙◌, ap, false, length, sym, List, ℕ}
+use Rattle.std.specs.Prelude.{nat_lt}
+use Rattle.shadow_survey.specs.Rows.{counted, is_good, surveyed}
+use Rattle.shadow_survey.specs.declared.judgement.Judgement.{Judgement}
+use Rattle.shadow_survey.proofs.Surveying.{of_short, row_of}
+use Rattle.shadow_survey.proofs.lines.SurveyLinesResponder.answer.Goals as goal
+
+pub returns-clause-good : goal.returns-clause-good
+returns-clause-good g c =
+    let s = c.args.self.now in
+    let short : nat_lt 8192 (length c.args.line.now) ≡ false = search rules in
+    c.put_counted.ensures.good ∙ ap is_good (c.surveyed-judgement.ensures.judgement
+    ∙ sym (ap (λ (x : List ℕ × Judgement). x.1) (of_short s.least c.args.line.now short)))
+
+pub returns-clause-reply : goal.returns-clause-reply
+returns-clause-reply g c =
+    let s = c.args.self.now in
+    let short : nat_lt 8192 (length c.args.line.now) ≡ false = search rules in
+    let row = row_of s.least c.args.line.now s.format (surveyed s.least c.args.line.now).0
+    (surveyed s.least c.args.line.now).1 (of_short s.least c.args.line.now short) in
+    rw row (rw (c.surveyed-judgement.ensures.user, c.surveyed-judgement.ensures.judgement) at c.put_counted.ensures.row)
+
+pub returns-clause-after : goal.returns-clause-after
+returns-clause-after g c =
+    let s = c.args.self.now in
+    let short : nat_lt 8192 (length c.args.line.now) ≡ false = search rules in
+    c.put_counted.ensures.count
+    ∙ ap (λ (j : Judgement). record s { counts = counted s.counts j }) (c.surveyed-judgement.ensures.judgement
+    ∙ sym (ap (λ (x : List ℕ × Judgement). x.1) (of_short s.least c.args.line.now short)))

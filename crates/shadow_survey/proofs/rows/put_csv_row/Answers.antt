@@ -1,0 +1,8 @@
+use Rattle.line_io.proofs.Gathering.{puts_more}
+use Rattle.shadow_survey.proofs.rows.put_csv_row.Goals as goal
+
+pub returns : goal.returns
+returns g c = record {
+  puts = puts_more _ _ _ _ _ _ _ _ _ _ _ c.put.ensures.puts
+      (puts_more _ _ _ _ _ _ _ _ _ _ _ c.put_csv_text.ensures.puts c.put_cells.ensures.puts);
+}

@@ -1,0 +1,191 @@
+//! The table of a file of the system: what of a program over it reaches files and streams.
+
+ghost use Rattle.std.specs.Prelude.{◌≡◌, ◌≢◌, ◌≤◌, ◌⊎◌, true, IfErr, IfOk};
+ghost use Rattle.shadow_table.specs.AnyTexts.{any_texts};
+ghost use Rattle.file_device.specs.Calls.{MayLeave, seen};
+ghost use Rattle.pw_store.specs.Stored.{IsSound, takes_changes};
+ghost use Rattle.store_run.specs.Statuses.{IsTableStatus, failed_status, unopened_status, untaken_status};
+
+use crate::messages::{Failure, Speaker};
+use crate::status::{BAD_FILE, IN_USE, NO_FILE, NO_NEW_FILE};
+use crate::table::{Untaken, compact, serve, store_of};
+use file_device::{DeviceFault, FileDevice, OpenFault, Opened, open};
+use line_io::{StdSink, StdSource};
+use line_log::OpenError;
+use line_program::status::{ALL_GOOD, NO_MEMORY, OVER_MAX, READ_FAULT, WRITE_FAULT};
+use pw_store::{DISK_FAULT, Store};
+use shadow_table::AnyTexts;
+use std::io;
+
+// The status of a file that isn't opened.
+fn unopened(fault: OpenFault) -> u8
+    ensures status { result ≡ unopened_status fault }
+    ensures statuses { IsTableStatus result }
+{
+    match fault {
+        OpenFault::InUse => IN_USE,
+        OpenFault::TooLong => BAD_FILE,
+        OpenFault::OutOfMemory => NO_MEMORY,
+        OpenFault::NotAFile | OpenFault::NoStandardStream | OpenFault::Io(_) => NO_FILE,
+    }
+}
+
+// The status of a call of the file that failed.
+fn failed(cause: Option<DeviceFault>) -> u8
+    ensures status { result ≡ failed_status cause }
+    ensures statuses { IsTableStatus result }
+{
+    match cause {
+        Some(DeviceFault::InUse) => IN_USE,
+        Some(DeviceFault::NameTaken | DeviceFault::Shared) => NO_NEW_FILE,
+        Some(DeviceFault::Io(_) | DeviceFault::Moved) | None => DISK_FAULT,
+    }
+}
+
+// The status of a file that isn't taken.
+fn untaken(cause: Option<DeviceFault>, error: OpenError) -> u8
+    ensures status { result ≡ untaken_status cause error }
+    ensures statuses { IsTableStatus result }
+{
+    match error {
+        OpenError::NoHeader | OpenError::BadLine(_) | OpenError::BadEnd(_) => BAD_FILE,
+        OpenError::Failed => failed(cause),
+        OpenError::OutOfMemory => NO_MEMORY,
+    }
+}
+
+// The store of an opened file, or the status.
+fn store_in<'a>(
+    rt: &'a HostRuntime,
+    speaker: &Speaker<'_>,
+    opened: Opened<'a>,
+) -> Result<Store<FileDevice<'a>, AnyTexts>, u8>
+    requires bytes { opened.bytes.items ≡ seen opened.device.record.calls }
+    ensures takes { IfOk result (λ store. takes_changes store ≡ true) }
+    ensures sound { IfOk result (λ store. IsSound any_texts (λ d. seen d.record.calls) (λ d c. MayLeave d.record.calls c) store) }
+    ensures untaken { IfErr result (λ status. IsTableStatus status) }
+{
+    let is_there = opened.is_there;
+    match store_of(rt.alloc(), opened.device, opened.bytes, is_there) {
+        Ok(store) => Ok(store),
+        Err(Untaken { device, error }) => {
+            speaker.say_untaken(rt, is_there, error, Failure::of(&device));
+            Err(untaken(device.cause(), error))
+        }
+    }
+}
+
+/// Says why a run ended before the end of its input, or that a write of the file failed.
+pub fn tell(
+    rt: &impl Eprint,
+    speaker: &Speaker<'_>,
+    status: u8,
+    takes: bool,
+    failure: Failure<'_>,
+) {
+    match status {
+        READ_FAULT => speaker.say(rt, "standard input: a read failed"),
+        WRITE_FAULT => speaker.say(rt, "standard output: a write failed"),
+        NO_MEMORY => speaker.say(rt, "memory is wanting for a line"),
+        OVER_MAX => speaker.say(rt, "standard input: it has more than 2^40 bytes"),
+        _ => {}
+    }
+    if !takes {
+        speaker.say_failed(rt, failure, "changes are answered disk-fault since then");
+    }
+}
+
+// Answers the commands of standard input over a store.
+fn serve_store<'a>(
+    rt: &'a HostRuntime,
+    speaker: &Speaker<'_>,
+    store: Store<FileDevice<'a>, AnyTexts>,
+) -> u8
+    requires open { takes_changes store ≡ true }
+    requires sound { IsSound any_texts (λ d. seen d.record.calls) (λ d c. MayLeave d.record.calls c) store }
+    ensures statuses { (result ≤ 7) × (result ≢ 2) }
+{
+    let mut store = store;
+    let mut source = StdSource::new(rt.reader());
+    let mut sink = StdSink::new(io::writer(rt));
+    let status = serve(&mut store, &mut source, &mut sink);
+    tell(
+        rt,
+        speaker,
+        status,
+        store.takes_changes(),
+        Failure::of(store.device()),
+    );
+    status
+}
+
+/// Answers the commands of standard input over the table of a file, which is made where it isn't there, and gives the
+/// status: that of [`serve`]; or 65, 66, 73 or 75, and 5 or 7, where the file isn't opened, made or taken. What is said on
+/// standard error begins with the name of the program.
+pub fn serve_file(rt: &HostRuntime, program: &str, file: &str) -> u8
+    ensures statuses { IsTableStatus result }
+{
+    let speaker = Speaker { program, file };
+    match open(rt, file) {
+        Ok(opened) => {
+            speaker.say_shared(rt, opened.is_shared);
+            match store_in(rt, &speaker, opened) {
+                Ok(store) => serve_store(rt, &speaker, store),
+                Err(status) => status,
+            }
+        }
+        Err(fault) => {
+            speaker.say_unopened(rt, fault);
+            unopened(fault)
+        }
+    }
+}
+
+// Writes the file of a store anew.
+fn compact_store<'a>(
+    rt: &'a HostRuntime,
+    speaker: &Speaker<'_>,
+    store: Store<FileDevice<'a>, AnyTexts>,
+) -> u8
+    requires open { takes_changes store ≡ true }
+    requires sound { IsSound any_texts (λ d. seen d.record.calls) (λ d c. MayLeave d.record.calls c) store }
+    ensures statuses { IsTableStatus result }
+{
+    let mut store = store;
+    match compact(&mut store) {
+        DISK_FAULT => {
+            speaker.say_failed(rt, Failure::of(store.device()), "it isn't written anew");
+            failed(store.device().cause())
+        }
+        NO_MEMORY => {
+            speaker.say(rt, "memory is wanting for the new file");
+            NO_MEMORY
+        }
+        _ => ALL_GOOD,
+    }
+}
+
+/// Writes a file anew, a line for each user, and gives the status: that of [`compact`], and 73 where the new file isn't made;
+/// or as [`serve_file`] where the file isn't opened or taken, and 66 where there is none. What is said on standard error begins with the name of the program.
+pub fn compact_file(rt: &HostRuntime, program: &str, file: &str) -> u8
+    ensures statuses { IsTableStatus result }
+{
+    let speaker = Speaker { program, file };
+    match open(rt, file) {
+        Ok(opened) => {
+            if !opened.is_there {
+                speaker.say_at(rt, "there is no such file");
+                return NO_FILE;
+            }
+            speaker.say_shared(rt, opened.is_shared);
+            match store_in(rt, &speaker, opened) {
+                Ok(store) => compact_store(rt, &speaker, store),
+                Err(status) => status,
+            }
+        }
+        Err(fault) => {
+            speaker.say_unopened(rt, fault);
+            unopened(fault)
+        }
+    }
+}

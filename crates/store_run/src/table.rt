@@ -1,0 +1,156 @@
+//! What a program does over any device: the table of its file, the commands on it, the file made anew.
+
+ghost use Rattle.std.specs.Prelude.{◌≡◌, ◌≢◌, ◌⊎◌, ◌≤◌, ◌^◌, [], false, true, Some, IfErr, IfOk, IfSome};
+ghost use Rattle.shadow_table.specs.AnyTexts.{any_texts};
+ghost use Rattle.line_io.specs.Devices.{WhereTold};
+ghost use Rattle.line_io.specs.Lines.{lines};
+ghost use Rattle.line_log.specs.Device.{LeavesOnly};
+ghost use Rattle.line_log.specs.Log.{Stands, recovered};
+ghost use Rattle.line_log.specs.Taker.{is_refusal};
+ghost use Rattle.pieces.specs.FaultCounts.{HasRisen};
+ghost use Rattle.pw_file.specs.History.{Rows};
+ghost use Rattle.pw_store.specs.Run.{IsLeftBy, StoreOutcome};
+ghost use Rattle.pw_store.specs.Store.{StandsFor, recovered_rows, store_fault};
+ghost use Rattle.pw_store.specs.Stored.{IsSound, device_of, lines_of_rows, rows_of, size_of, takes_changes};
+
+use line_io::{Failed, INPUT_MAX, Sink, Source};
+use line_log::{Device, OpenError};
+use line_program::status::{ALL_GOOD, NO_MEMORY};
+use pw_store::{DISK_FAULT, Store, StoreError, create, recover, run_store};
+use shadow_table::{AnyKept, AnyTexts};
+use std::alloc::Global;
+
+/// A device whose file wasn't taken, and why.
+#[derive(Drop)]
+pub struct Untaken<D: Device + Drop> {
+    pub device: D,
+    pub error: OpenError,
+}
+
+// The store of a file that is there.
+fn store_there<D: Device + Drop>(
+    alloc: Global,
+    device: D,
+    bytes: &[u8],
+) -> Result<Store<D, AnyTexts>, Untaken<D>>
+    requires bytes { bytes.now ≡ D.seen device }
+    ensures rows { IfOk result (λ store. recovered_rows any_texts (D.seen device) ≡ Some (rows_of store)) }
+    ensures takes { IfOk result (λ store. takes_changes store ≡ true) }
+    ensures sound { IfOk result (λ store. IsSound any_texts D.seen D.may_leave store) }
+    ensures same { IfOk result (λ store. recovered (D.seen (device_of store)) ≡ recovered (D.seen device)) }
+    ensures untaken { IfErr result (λ e. is_refusal e.error ≡ true → store_fault any_texts (D.seen device) ≡ Some e.error) }
+    ensures unchanged { IfErr result (λ e. is_refusal e.error ≡ true → e.device ≡ device) }
+    ensures accepted { (rows : Rows) → StandsFor any_texts rows (D.seen device) → IfErr result (λ e. is_refusal e.error ≡ false) }
+    ensures failed { IfErr result (λ e. e.error ≡ OpenError.Failed → HasRisen (D.faults device) (D.faults e.device)) }
+    ensures any_moment { IfOk result (λ store. LeavesOnly D.moment D.left_since device (device_of store)
+        (λ c. D.may_leave device c ⊎ Stands (recovered (D.seen device)) c)) }
+    ensures any_moment_untaken { IfErr result (λ e. LeavesOnly D.moment D.left_since device e.device
+        (λ c. D.may_leave device c ⊎ Stands (recovered (D.seen device)) c)) }
+{
+    let mut device = device;
+    match recover(alloc, AnyKept::new(alloc), &mut device, bytes) {
+        Ok((table, end)) => Ok(Store::new(alloc, device, table, end)),
+        Err(error) => Err(Untaken { device, error }),
+    }
+}
+
+// The store of a file that is made.
+fn store_made<D: Device + Drop>(alloc: Global, device: D) -> Result<Store<D, AnyTexts>, Untaken<D>>
+    ensures rows { IfOk result (λ store. rows_of store ≡ []) }
+    ensures takes { IfOk result (λ store. takes_changes store ≡ true) }
+    ensures sound { IfOk result (λ store. IsSound any_texts D.seen D.may_leave store) }
+    ensures same { IfOk result (λ store. recovered_rows any_texts (D.seen (device_of store)) ≡ Some []) }
+    ensures cause { IfErr result (λ e. e.error ≡ OpenError.Failed) }
+    ensures failed { IfErr result (λ e. HasRisen (D.faults device) (D.faults e.device)) }
+    ensures any_moment { IfOk result (λ store. LeavesOnly D.moment D.left_since device (device_of store)
+        (λ c. D.may_leave device c ⊎ StandsFor any_texts [] c)) }
+    ensures any_moment_untaken { IfErr result (λ e. LeavesOnly D.moment D.left_since device e.device
+        (λ c. D.may_leave device c ⊎ StandsFor any_texts [] c)) }
+{
+    let mut device = device;
+    match create(alloc, AnyKept::new(alloc), &mut device) {
+        Ok((table, end)) => Ok(Store::new(alloc, device, table, end)),
+        Err(Failed) => Err(Untaken {
+            device,
+            error: OpenError::Failed,
+        }),
+    }
+}
+
+/// The store of a device, whose file has these bytes; where there is none, a file of no users is made.
+pub fn store_of<D: Device + Drop>(
+    alloc: Global,
+    device: D,
+    bytes: Vec<u8>,
+    is_there: bool,
+) -> Result<Store<D, AnyTexts>, Untaken<D>>
+    requires bytes { bytes.items ≡ D.seen device }
+    ensures rows { is_there ≡ true → IfOk result (λ store. recovered_rows any_texts (D.seen device) ≡ Some (rows_of store)) }
+    ensures made { is_there ≡ false → IfOk result (λ store. rows_of store ≡ []) }
+    ensures takes { IfOk result (λ store. takes_changes store ≡ true) }
+    ensures sound { IfOk result (λ store. IsSound any_texts D.seen D.may_leave store) }
+
+    // The file of the store has the lines of the file that was there, or none.
+    ensures same { is_there ≡ true → IfOk result (λ store. recovered (D.seen (device_of store)) ≡ recovered (D.seen device)) }
+    ensures empty { is_there ≡ false → IfOk result (λ store. recovered_rows any_texts (D.seen (device_of store)) ≡ Some []) }
+
+    // A file that is there is refused exactly by its first fault, and isn't changed; what a run can have left isn't refused.
+    ensures untaken { is_there ≡ true → IfErr result (λ e. is_refusal e.error ≡ true → store_fault any_texts (D.seen device) ≡ Some e.error) }
+    ensures unchanged { is_there ≡ true → IfErr result (λ e. is_refusal e.error ≡ true → e.device ≡ device) }
+    ensures accepted { is_there ≡ true → (rows : Rows) → StandsFor any_texts rows (D.seen device) → IfErr result (λ e. is_refusal e.error ≡ false) }
+    ensures unmade { is_there ≡ false → IfErr result (λ e. e.error ≡ OpenError.Failed) }
+    ensures failed { IfErr result (λ e. e.error ≡ OpenError.Failed → HasRisen (D.faults device) (D.faults e.device)) }
+
+    // A crash at any moment leaves what it might have left before the call, or the same lines; or a file with no users.
+    ensures any_moment { is_there ≡ true → IfOk result (λ store. LeavesOnly D.moment D.left_since device (device_of store)
+        (λ c. D.may_leave device c ⊎ Stands (recovered (D.seen device)) c)) }
+    ensures any_moment_untaken { is_there ≡ true → IfErr result (λ e. LeavesOnly D.moment D.left_since device e.device
+        (λ c. D.may_leave device c ⊎ Stands (recovered (D.seen device)) c)) }
+    ensures any_moment_made { is_there ≡ false → IfOk result (λ store. LeavesOnly D.moment D.left_since device (device_of store)
+        (λ c. D.may_leave device c ⊎ StandsFor any_texts [] c)) }
+    ensures any_moment_unmade { is_there ≡ false → IfErr result (λ e. LeavesOnly D.moment D.left_since device e.device
+        (λ c. D.may_leave device c ⊎ StandsFor any_texts [] c)) }
+{
+    if is_there {
+        store_there(alloc, device, &bytes)
+    } else {
+        store_made(alloc, device)
+    }
+}
+
+/// Answers the commands of a source of at most 2^40 bytes over a store, and gives the status.
+pub fn serve<D: Device, S: Source, K: Sink>(
+    store: &mut Store<D, AnyTexts>,
+    source: &mut S,
+    sink: &mut K,
+) -> u8
+    requires open { takes_changes store.old ≡ true }
+    requires sound { IsSound any_texts D.seen D.may_leave store.old }
+    ensures statuses { (result ≤ 7) × (result ≢ 2) }
+    ensures read_fault { result ≡ 3 → HasRisen (S.faults source.old) (S.faults source.new) }
+    ensures write_fault { result ≡ 4 → HasRisen (K.faults sink.old) (K.faults sink.new) }
+    ensures disk_fault { takes_changes store.new ≡ false → HasRisen (D.faults (device_of store.old)) (D.faults (device_of store.new)) }
+    ensures outcome { WhereTold (S.left source.old) (S.left source.new) (K.written sink.old) (K.written sink.new)
+        (λ held taken added. StoreOutcome any_texts (rows_of store.old) (size_of store.old) (takes_changes store.new)
+        (D.may_leave (device_of store.new)) result (2 ^ 40) held taken added) }
+    ensures any_moment { IfSome (S.left source.old) (λ held. LeavesOnly D.moment D.left_since (device_of store.old) (device_of store.new)
+        (IsLeftBy any_texts (rows_of store.old) (size_of store.old) (lines held))) }
+{
+    run_store(store, source, sink, INPUT_MAX)
+}
+
+/// Writes the file anew, a line for each user, and gives the status: 0, 5 where memory is wanting, or 7.
+pub fn compact<D: Device>(store: &mut Store<D, AnyTexts>) -> u8
+    requires open { takes_changes store.old ≡ true }
+    requires sound { IsSound any_texts D.seen D.may_leave store.old }
+    ensures statuses { (result ≡ 0) ⊎ ((result ≡ 5) ⊎ (result ≡ 7)) }
+    ensures lines { result ≡ 0 → recovered (D.seen (device_of store.new)) ≡ lines_of_rows (rows_of store.old) }
+    ensures disk_fault { result ≡ 7 → HasRisen (D.faults (device_of store.old)) (D.faults (device_of store.new)) }
+    ensures any_moment { LeavesOnly D.moment D.left_since (device_of store.old) (device_of store.new) (StandsFor any_texts (rows_of store.old)) }
+{
+    match store.compact() {
+        Ok(()) => ALL_GOOD,
+        Err(StoreError::DiskFault) => DISK_FAULT,
+        Err(_) => NO_MEMORY,
+    }
+}

@@ -1,0 +1,121 @@
+//! Files that are taken, refused, made, and made anew.
+
+use crate::helpers::{ANEW, EMPTY, NONE_FAILS, THREE, TWO, memory, opened};
+use line_log::OpenError;
+use std::hash::{BuildHasher, RandomState};
+use std::os::unix::fs::PermissionsExt;
+use std::{fs, io};
+use store_run::{Untaken, compact_file, serve_file, store_of};
+
+const REFUSED: [(&[u8], OpenError); 6] = [
+    (b"", OpenError::NoHeader),
+    (b"#pwstore 2\n#", OpenError::NoHeader),
+    (b"#pwstore 1\nset\tann\n#", OpenError::BadLine(11)),
+    (
+        b"#pwstore 1\nset\tann\t*\nset\tb:c\t*\n#",
+        OpenError::BadLine(21),
+    ),
+    (
+        b"#pwstore 1\nset\tann\t*\nset\tbob\t",
+        OpenError::BadEnd(21),
+    ),
+    (b"#pwstore 1\nset\tann\tx:y\n#", OpenError::BadLine(11)),
+];
+
+#[test]
+fn files_that_are_refused(rt: HostRuntime) {
+    for (i, (file, wanted)) in REFUSED.iter().enumerate() {
+        let Some((device, bytes)) = memory(rt.alloc(), file, NONE_FAILS) else {
+            panic!(rt; "memory is wanting")
+        };
+        match store_of(rt.alloc(), device, bytes, true) {
+            Err(Untaken { device, error }) => {
+                assert!(rt; error == *wanted && device.bytes() == *file, "of {i}");
+            }
+            Ok(_) => panic!(rt; "{i} is refused"),
+        }
+    }
+}
+
+// Of more than 100 bytes, and of one that a crash left.
+const TAKEN: [(&[u8], usize); 3] = [
+    (TWO, 2),
+    (
+        b"#pwstore 1\nset\tann\t*\nset\tbob\t*\nset\tcleo\t*\nset\tdan\t*\nset\teve\t*\nset\tfred\t*\nset\tgwen\t*\nset\thal\t*\nset\tida\t*\n#",
+        9,
+    ),
+    (b"#pwstore 1\nset\tann\t*\n#et\tbob\t", 1),
+];
+
+#[test]
+fn files_that_are_taken(rt: HostRuntime) {
+    for (i, (file, users)) in TAKEN.iter().enumerate() {
+        match opened(rt.alloc(), file, NONE_FAILS) {
+            Some(store) => assert!(rt; store.len() == *users && store.takes_changes(), "of {i}"),
+            None => panic!(rt; "{i} is taken"),
+        }
+    }
+}
+
+#[test]
+fn a_file_is_made(rt: HostRuntime) {
+    let Some((device, bytes)) = memory(rt.alloc(), b"", NONE_FAILS) else {
+        panic!(rt; "memory is wanting")
+    };
+    match store_of(rt.alloc(), device, bytes, false) {
+        Ok(store) => assert!(rt; store.device().bytes() == EMPTY && store.len() == 0),
+        Err(_) => panic!(rt; "it is made"),
+    }
+}
+
+// A folder of the test's own.
+fn folder(rt: &HostRuntime) -> io::Result<String> {
+    let key = RandomState::new(rt)?.hash_one(&0u8);
+    let folder = format!(in rt.alloc(); "/tmp/table_program_{key:x}")?;
+    fs::create_dir(rt, folder.as_str())?;
+    Ok(folder)
+}
+
+// The name of a file there.
+fn named(rt: &HostRuntime, folder: &str, name: &str) -> Option<String> {
+    format!(in rt.alloc(); "{folder}/{name}").ok()
+}
+
+fn write(rt: &HostRuntime, name: &str, bytes: &[u8], mode: u32) -> bool {
+    fs::write(rt, name, bytes).is_ok()
+        && fs::set_permissions(rt, name, PermissionsExt::from_mode(mode)).is_ok()
+}
+
+fn has(rt: &HostRuntime, name: &str, bytes: &[u8]) -> bool {
+    match fs::read(rt, name) {
+        Ok(found) => found.as_slice() == bytes,
+        Err(_) => false,
+    }
+}
+
+#[test]
+fn statuses_over_files_of_the_system(rt: HostRuntime) {
+    let Ok(folder) = folder(&rt) else {
+        panic!(rt; "no folder is made")
+    };
+    let (Some(name), Some(new)) = (
+        named(&rt, folder.as_str(), "table"),
+        named(&rt, folder.as_str(), ".table.pwstore-new"),
+    ) else {
+        panic!(rt; "memory is wanting")
+    };
+    let (name, new) = (name.as_str(), new.as_str());
+    assert!(rt; compact_file(&rt, "pwstore", name) == 66);
+    assert!(rt; serve_file(&rt, "pwstore", folder.as_str()) == 66);
+    // What no run has left is in the way of the first file.
+    assert!(rt; write(&rt, new, b"mine", 0o600) && serve_file(&rt, "pwstore", name) == 73);
+    assert!(rt; has(&rt, new, b"mine") && fs::remove_file(&rt, new).is_ok());
+    assert!(rt;
+        write(&rt, name, b"set\tann\t*\n", 0o600) && serve_file(&rt, "pwstore", name) == 65
+    );
+    // With rights of others it isn't made anew, as an access control list may give them.
+    assert!(rt; write(&rt, name, THREE, 0o640) && compact_file(&rt, "pwstore", name) == 73);
+    assert!(rt; has(&rt, name, THREE));
+    assert!(rt; write(&rt, name, THREE, 0o600) && compact_file(&rt, "pwstore", name) == 0);
+    assert!(rt; has(&rt, name, ANEW) && fs::remove_dir_all(&rt, folder.as_str()).is_ok());
+}

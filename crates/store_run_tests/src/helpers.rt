@@ -1,0 +1,44 @@
+//! Files in memory and their stores.
+
+ghost use Rattle.std.specs.Prelude.{◌≡◌, true, IfSome};
+ghost use Rattle.shadow_table.specs.AnyTexts.{any_texts};
+ghost use Rattle.line_log.specs.MemoryBytes.{device_bytes};
+ghost use Rattle.pw_store.specs.Stored.{IsSound, takes_changes};
+
+use line_log::{Device, MemoryDevice};
+use pw_store::Store;
+use shadow_table::AnyTexts;
+use std::alloc::Global;
+use store_run::store_of;
+
+pub const EMPTY: &[u8] = b"#pwstore 1\n#";
+
+pub const ANN: &[u8] = b"#pwstore 1\nset\tann\t*\n#";
+
+pub const TWO: &[u8] = b"#pwstore 1\nset\tann\t*\nset\tbob\t$5\n#";
+
+pub const THREE: &[u8] = b"#pwstore 1\nset\tann\t*\nset\tbob\t$5\nset\tann\t!\n#";
+
+/// The file `THREE`, made anew.
+pub const ANEW: &[u8] = b"#pwstore 1\nset\tann\t!\nset\tbob\t$5\n#";
+
+/// The number of a call that never comes: the sync of recovery is 0, and a group has three writes and two syncs.
+pub const NONE_FAILS: u64 = 1_000;
+
+/// A file in memory, whose call of the number `failing` fails, and its bytes.
+pub fn memory(alloc: Global, file: &[u8], failing: u64) -> Option<(MemoryDevice, Vec<u8>)>
+    ensures bytes { IfSome result (λ made. made.1.items ≡ device_bytes made.0) }
+{
+    let device = MemoryDevice::new(alloc, file.to_vec(alloc).ok()?, failing).ok()?;
+    let bytes = device.bytes().to_vec(alloc).ok()?;
+    Some((device, bytes))
+}
+
+/// The store of a file that is there.
+pub fn opened(alloc: Global, file: &[u8], failing: u64) -> Option<Store<MemoryDevice, AnyTexts>>
+    ensures takes { IfSome result (λ store. takes_changes store ≡ true) }
+    ensures sound { IfSome result (λ store. IsSound any_texts ⟦<MemoryDevice as Device>⟧.seen ⟦<MemoryDevice as Device>⟧.may_leave store) }
+{
+    let (device, bytes) = memory(alloc, file, failing)?;
+    store_of(alloc, device, bytes, true).ok()
+}

@@ -1,0 +1,185 @@
+//! Commands over files in memory: replies, groups, faults.
+
+use crate::helpers::{ANEW, ANN, EMPTY, NONE_FAILS, THREE, TWO, opened};
+use line_io::{Failed, MemorySink, MemorySource, Sink, Source};
+use std::cell::Cell;
+use store_run::{compact, serve};
+
+// An input, the replies, the file after them, and the status.
+const SESSIONS: [(&[u8], &[u8], &[u8], &[u8], u8); 3] = [
+    (
+        EMPTY,
+        b"set\tann\t*\ncheck\tann\tx\nlist\nset\ta:b\tx\nset\tbob\tt\xc3\xa4\nset\tbob\t$5\ncheck\tbob\tx\ncheck\tcleo\tx\nupgrade\tbob\tx\ty\n",
+        b"ok\nlocked\nset\tann\t*\nbad-command\nbad-text\nok\ninvalid\nno-user\nbad-salt\n",
+        TWO,
+        1,
+    ),
+    (TWO, b"set\tann\t!\n", b"ok\n", THREE, 0),
+    (TWO, b"", b"", TWO, 0),
+];
+
+#[test]
+fn commands_and_replies(rt: HostRuntime) {
+    for (i, (file, input, replies, after, status)) in SESSIONS.iter().enumerate() {
+        let Some(mut store) = opened(rt.alloc(), file, NONE_FAILS) else {
+            panic!(rt; "it is opened")
+        };
+        let mut room = [0; 256];
+        let mut source = MemorySource::new(input, 1_000, &[]);
+        let mut sink = MemorySink::new(&mut room, 5, &[]);
+        assert!(rt;
+            serve(&mut store, &mut source, &mut sink) == *status,
+            "of {i}"
+        );
+        assert!(rt;
+            sink.bytes() == *replies && store.device().bytes() == *after,
+            "of {i}"
+        );
+    }
+}
+
+#[test]
+fn changes_that_wait_are_one_group(rt: HostRuntime) {
+    // How many bytes of the input come at a read, and how many calls the device has then.
+    for (step, calls) in [(1_000, 6), (11, 11)] {
+        let Some(mut store) = opened(rt.alloc(), ANN, NONE_FAILS) else {
+            panic!(rt; "it is opened")
+        };
+        let mut room = [0; 64];
+        let mut source = MemorySource::new(b"set\tbob\t$5\nset\tann\t!\n", step.max(1), &[]);
+        let mut sink = MemorySink::new(&mut room, 64, &[]);
+        assert!(rt; serve(&mut store, &mut source, &mut sink) == 0);
+        assert!(rt; sink.bytes() == b"ok\nok\n".as_slice());
+        assert!(rt; store.device().bytes() == THREE && store.device().number() == calls);
+    }
+}
+
+#[test]
+fn a_fault_of_the_disk(rt: HostRuntime) {
+    for failing in 1..6 {
+        let Some(mut store) = opened(rt.alloc(), ANN, failing) else {
+            panic!(rt; "it is opened")
+        };
+        let mut room = [0; 256];
+        let mut source = MemorySource::new(
+            b"set\tbob\t$5\nset\tann\t!\ncheck\tbob\tx\ncheck\tann\tx\nset\tcleo\tx\nupgrade\tann\tabcdabcdabc\tx\nlist\n",
+            1_000,
+            &[],
+        );
+        let mut sink = MemorySink::new(&mut room, 5, &[]);
+        assert!(rt; serve(&mut store, &mut source, &mut sink) == 7);
+        assert!(rt;
+            sink.bytes()
+                == b"disk-fault\ndisk-fault\nno-user\nlocked\ndisk-fault\ndisk-fault\nset\tann\t*\n".as_slice()
+        );
+        // No further call.
+        assert!(rt; !store.takes_changes() && store.device().number() == failing.saturating_add(1));
+    }
+}
+
+#[test]
+fn faults_of_the_streams(rt: HostRuntime) {
+    // How many bytes of the input come at a read, which read fails, how many bytes a write takes, which write fails, the status,
+    // the replies and the file: behind the first command, whose change is on the disk; and at the replies to both.
+    for (step, reads, piece, writes, status, replies, after) in [
+        (
+            11,
+            [1u64].as_slice(),
+            64,
+            [].as_slice(),
+            3,
+            b"ok\n".as_slice(),
+            TWO,
+        ),
+        (1_000, &[], 2, &[1u64], 4, b"ok", THREE),
+    ] {
+        let Some(mut store) = opened(rt.alloc(), ANN, NONE_FAILS) else {
+            panic!(rt; "it is opened")
+        };
+        let mut room = [0; 64];
+        let mut source = MemorySource::new(b"set\tbob\t$5\nset\tann\t!\n", step.max(1), reads);
+        let mut sink = MemorySink::new(&mut room, piece.max(1), writes);
+        assert!(rt; serve(&mut store, &mut source, &mut sink) == status);
+        assert!(rt; sink.bytes() == replies && store.device().bytes() == after);
+    }
+}
+
+#[test]
+fn a_file_made_anew(rt: HostRuntime) {
+    // The call that fails, the status, and the file.
+    for (failing, status, after) in [(NONE_FAILS, 0, ANEW), (1, 7, THREE)] {
+        let Some(mut store) = opened(rt.alloc(), THREE, failing) else {
+            panic!(rt; "it is opened")
+        };
+        assert!(rt; compact(&mut store) == status);
+        assert!(rt; store.device().bytes() == after);
+    }
+}
+
+// A source that gives two commands at a read, and looks before each whether those before were answered.
+#[derive(Drop)]
+struct Questions<'a> {
+    asked: usize,
+    answered: &'a Cell<usize>,
+    is_early: bool,
+}
+
+impl<'a> Source for Questions<'a> {
+    ghost use Rattle.std.specs.Prelude.{None};
+
+    ghost left = { λ _. None };
+
+    ghost faults = { λ _. 0 };
+
+    fn read(&mut self, buf: &mut [u8]) -> Result<usize, Failed> {
+        if self.answered.get() < self.asked {
+            self.is_early = true;
+        }
+        let piece = b"set\tann\tx\nset\tann\t*\n";
+        if self.asked >= 6 || buf.len() < piece.len() {
+            return Ok(0);
+        }
+        self.asked += 2;
+        let count = piece.len();
+        buf[..count].copy_from_slice(piece);
+        Ok(count)
+    }
+}
+
+// A sink that counts the lines that it took.
+#[derive(Drop)]
+struct Replies<'a> {
+    answered: &'a Cell<usize>,
+}
+
+impl<'a> Sink for Replies<'a> {
+    ghost use Rattle.std.specs.Prelude.{None};
+
+    ghost written = { λ _. None };
+
+    ghost faults = { λ _. 0 };
+
+    fn write(&mut self, piece: &[u8]) -> Result<usize, Failed> {
+        let feeds = piece.iter().filter(|byte| **byte == b'\n').count();
+        self.answered.set(self.answered.get().saturating_add(feeds));
+        Ok(piece.len())
+    }
+}
+
+#[test]
+fn no_read_while_replies_wait(rt: HostRuntime) {
+    let Some(mut store) = opened(rt.alloc(), EMPTY, NONE_FAILS) else {
+        panic!(rt; "it is opened")
+    };
+    let answered = Cell::new(0);
+    let mut source = Questions {
+        asked: 0,
+        answered: &answered,
+        is_early: false,
+    };
+    let mut sink = Replies {
+        answered: &answered,
+    };
+    assert!(rt; serve(&mut store, &mut source, &mut sink) == 0);
+    assert!(rt; !source.is_early && answered.get() == 6);
+}
