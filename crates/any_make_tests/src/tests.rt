@@ -13,14 +13,14 @@ use std::process::Abort;
 use yescrypt_plain::{CryptKept, ScryptParams, YescryptParams};
 
 #[derive(Clone, Copy)]
-struct Row {
-    cost: MakeCost,
-    password: &'static str,
-    salt: &'static [u8],
-    text: &'static str,
+pub(crate) struct Row {
+    pub cost: MakeCost,
+    pub password: &'static str,
+    pub salt: &'static [u8],
+    pub text: &'static str,
 }
 
-const ROWS: [Row; 24] = [
+pub(crate) const ROWS: [Row; 25] = [
     Row {
         cost: MakeCost::ShaCrypt(Family::Sha256, 5_000),
         password: "secret",
@@ -122,6 +122,16 @@ const ROWS: [Row; 24] = [
         password: "\ttab and $ and :",
         salt: b"\x00\x00\x00\x00\x00\x00\x00\x00\x00\x00\x00\x00\x00\x00\x00\x00",
         text: "$scrypt$ln=7,r=12,p=3$AAAAAAAAAAAAAAAAAAAAAA$0wvHBfniKoKDVSTxn49QFO6cqbtXO8pYQqoaaWUAH8A",
+    },
+    Row {
+        cost: MakeCost::Scrypt(ScryptParams {
+            ln: 1,
+            r: 1,
+            p: 101,
+        }),
+        password: "password 101",
+        salt: b"\x00\x01\x02\x03\x04\x05\x06\x07\x08\x09\x0a\x0b\x0c\x0d\x0e\x0f",
+        text: "$scrypt$ln=1,r=1,p=101$AAECAwQFBgcICQoLDA0ODw$ps8ms51WjVVj2EAGKLWFZv+7Fg8Rje/WBeRmWI/YTJw",
     },
     Row {
         cost: MakeCost::Argon2id(Argon2Cost {

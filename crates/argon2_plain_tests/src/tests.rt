@@ -74,7 +74,7 @@ const OTHERS: [(&[u8], &[u8], Params, &[u8]); 4] = [
 
 // Records of the argon2 program 20171227, for the password "password". In the table that is kept each of them comes after a
 // smaller and after a larger one.
-const RECORDS: [&str; 8] = [
+const RECORDS: [&str; 9] = [
     "$argon2id$v=19$m=8,t=1,p=1$c29tZXNhbHQ$9zpz0nGFnSHvRUZdoSvfhg",
     "$argon2d$v=19$m=64,t=2,p=2$c29tZXNhbHQ$aOJGLJi4vGu2DsaNtBiuLJ7ST8Z0ikDp",
     "$argon2i$v=19$m=64,t=2,p=2$c29tZXNhbHQ$IInz54p5lyD4CvgGVTEo8psTLK/kDQWf",
@@ -83,6 +83,7 @@ const RECORDS: [&str; 8] = [
     "$argon2id$v=19$m=64,t=2,p=2$c29tZXNhbHQ$NQrDciL0Nsy1wJcvHr079rlYvyBxhBNi",
     "$argon2i$v=19$m=512,t=2,p=2$c29tZXNhbHQ$5JZPQs5cztB2Yv9Wi4YCeg4/B/cDb0EF",
     "$argon2id$v=19$m=8,t=1,p=1$c29tZXNhbHQ$9zpz0nGFnSHvRUZdoSvfhg",
+    "$argon2id$v=19$m=616,t=1,p=77$c29tZXNhbHQ$+459t80G8/I+CxU55j2i6Y41c86Dhfo8bgOsKRQ1xnU",
 ];
 
 #[test]
@@ -148,10 +149,10 @@ fn records(rt: HostRuntime) {
     }
 }
 
-// How often this asks for memory is told in bench/refused_memory.py: four times, as the table grows for 8, 64, 256 and 512 KiB
-// alone. Where a request is refused, this ends by the want of memory.
+// How often this asks for memory is told in bench/refused_memory.py: five times, as the table grows for 8, 64, 256, 512 and 616
+// KiB alone. Where a request is refused, this ends by the want of memory.
 #[test]
-fn takes_4_for_records_in_a_kept_table(rt: HostRuntime) -> Result<(), Fail> {
+fn takes_5_for_records_in_a_kept_table(rt: HostRuntime) -> Result<(), Fail> {
     let kept = Argon2Kept::new(rt.alloc());
     for text in RECORDS {
         for (password, same) in [("password", true), ("passwore", false)] {

@@ -17,8 +17,6 @@ mod new_settings;
 mod scrypt_texts;
 mod sha_texts;
 mod status;
-#[cfg(test)]
-mod tests;
 mod texts;
 mod yescrypt_texts;
 

@@ -13,8 +13,6 @@ pub mod laws;
 mod ldap;
 mod passlib;
 mod pbkdf2;
-#[cfg(test)]
-mod tests;
 
 pub use converted::{Foreign, MadeText, stored_text};
 pub use fault::{ForeignFault, Unread};

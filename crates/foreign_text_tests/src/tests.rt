@@ -1,7 +1,7 @@
 //! Texts of Django 3.2, passlib 1.7.4 and the Python module argon2 21.1. The records for those of PBKDF2 were put together by
 //! Python's base64 and passlib's `ab64_decode`.
 
-use crate::{Foreign, ForeignFault, MadeText, Unread, stored_text};
+use foreign_text::{Foreign, ForeignFault, MadeText, Unread, stored_text};
 
 // Whether the stored text is this one.
 fn is_converted(foreign: Foreign, text: &str, stored: &str) -> bool {
@@ -219,8 +219,8 @@ const UNREAD: [(Foreign, &str, Unread, &str); 15] = [
 fn unread_schemes(rt: HostRuntime) {
     for (foreign, text, scheme, word) in UNREAD {
         let fault = ForeignFault::Unread(scheme);
-        assert_eq!(rt; fault_of(foreign, text), Some(fault), "{text}");
-        assert_eq!(rt; fault.word(), word);
+        assert!(rt; fault_of(foreign, text) == Some(fault), "{text}");
+        assert!(rt; fault.word() == word);
     }
 }
 
@@ -381,7 +381,7 @@ const FAULTS: [(Foreign, &str, ForeignFault, &str); 25] = [
 #[test]
 fn faults(rt: HostRuntime) {
     for (foreign, text, fault, word) in FAULTS {
-        assert_eq!(rt; fault_of(foreign, text), Some(fault), "{text}");
-        assert_eq!(rt; fault.word(), word);
+        assert!(rt; fault_of(foreign, text) == Some(fault), "{text}");
+        assert!(rt; fault.word() == word);
     }
 }

@@ -1,8 +1,6 @@
 //! Texts, new settings and answers of libxcrypt 4.4.33.
 
-ghost use Rattle.std.specs.Prelude.{◌≤◌, length};
-
-use crate::{
+use crypt_text::{
     CryptError, Method, SaltStatus, crypt_text, method_of, new_setting, random_len, salt_status,
 };
 use std::alloc::Global;

@@ -1,0 +1,7 @@
+//! The tests of `crypt_text`: texts, new settings and answers of libxcrypt.
+//!
+//! They are in a crate of their own, since a crate that has tests is proved twice.
+#![tactic(auto)]
+
+#[cfg(test)]
+mod tests;

@@ -1,0 +1,7 @@
+//! The tests of `foreign_text`: texts of Django, LDAP and passlib, converted and refused.
+//!
+//! They are in a crate of their own, since a crate that has tests is proved twice.
+#![tactic(auto)]
+
+#[cfg(test)]
+mod tests;
