@@ -104,6 +104,7 @@ fn bcrypt_text(id: &[u8], phrase: &[u8], parts: BcryptParts) -> ShortBytes<TEXT_
 }
 
 /// The answer for a phrase and a setting.
+#[inline(never)]
 pub(crate) fn bcrypt_answer(
     phrase: &[u8],
     setting: &[u8],

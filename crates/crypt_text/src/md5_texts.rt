@@ -19,6 +19,7 @@ fn md5_salt(rest: &[u8]) -> &[u8]
 }
 
 /// The text for a phrase, and what stands behind the prefix of a setting.
+#[inline(never)]
 pub(crate) fn md5_text(phrase: &[u8], rest: &[u8]) -> ShortBytes<TEXT_MAX>
     requires phrase { length phrase.now ≤ phrase_max }
     ensures text { result ≡ md5_text phrase.now rest.now }

@@ -107,6 +107,7 @@ fn scrypt_text(
 }
 
 /// The answer for a phrase and a setting.
+#[inline(never)]
 pub(crate) fn scrypt_answer(
     alloc: Global,
     phrase: &[u8],

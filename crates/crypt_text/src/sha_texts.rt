@@ -175,6 +175,7 @@ fn sha512_text(phrase: &[u8], parts: ShaParts<'_>) -> Result<ShortBytes<TEXT_MAX
 }
 
 /// The answer for a phrase, and what stands behind the prefix of a setting.
+#[inline(never)]
 pub(crate) fn sha_answer(
     family: Family,
     phrase: &[u8],

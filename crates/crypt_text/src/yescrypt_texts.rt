@@ -106,6 +106,7 @@ fn yescrypt_text(
 }
 
 /// The answer for a phrase and a setting.
+#[inline(never)]
 pub(crate) fn yescrypt_answer(
     alloc: Global,
     phrase: &[u8],

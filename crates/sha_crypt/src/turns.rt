@@ -42,6 +42,7 @@ fn feed_middle<const N: usize, H: Hasher<N>>(
 }
 
 // A hasher of what stands before the digest in the odd round `i`.
+#[inline(never)]
 fn front<const N: usize, H: Hasher<N>>(i: usize, dp: &[u8; N], password_len: usize, ds: &[u8]) -> H
     requires { 0 < N }
     ensures { H.holds result (front i (repeated_to password_len dp.now) ds.now) }

@@ -6,8 +6,8 @@ use Rattle.bcrypt_plain.proofs.schedule.eks_blowfish_setup.Goals as goal
 pub turns-init : goal.turns-init
 turns-init c =
     turns_first c.args.salt.now (key_of c.args.password.now) c.password_words-by_key.result c.salt_words-by_salt.result
-    c.pi_words-x.result c.expand_salted.new.x c.password_words-by_key.ensures c.salt_words-by_salt.ensures
-    c.pi_words-x.ensures c.expand_salted.ensures
+    c.pi_words.result c.expand_salted.new.x c.password_words-by_key.ensures c.salt_words-by_salt.ensures
+    c.pi_words.ensures c.expand_salted.ensures
 
 pub turns-preserved : goal.turns-preserved
 turns-preserved c =
