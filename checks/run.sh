@@ -2,7 +2,7 @@
 # The repository's own checks, after the prover's. Each ends with a status that isn't 0 where it finds a fault.
 #
 #     checks/run.sh quick    the numbers of the header and of the bindings, what the pages name, the layers, the pictures, dist/ and its
-#                            comparison, the faces in C over the libraries of dist/, and what crashes leave of a table of the built
+#                            comparison, the faces in C over the libraries of dist/, the built pwtool over each form and option, and what crashes leave of a table of the built
 #                            pwstore, in a minute, without any proof: for each push; it needs strace
 #     checks/run.sh          that, and the C library, its callers, a run under sanitizers, the installation, the programs of README.md
 #
@@ -23,6 +23,7 @@ if command -v mandoc >/dev/null 2>&1; then
   for page in man/*; do mandoc -Tlint -Wwarning "$page"; done
 fi
 checks/c_faces.sh
+python3 checks/pwtool_cases.py
 command -v strace >/dev/null 2>&1 || apt-get install -y strace >/dev/null 2>&1 || true
 python3 bench/crashes.py quick
 work=$(mktemp -d)
