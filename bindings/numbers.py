@@ -161,7 +161,7 @@ def longest_text(table):
 
 
 def lengths():
-    sha, stored, table = specs("sha_crypt", "Limits"), specs("stored_check", "Limits"), {}
+    sha, stored, table = specs("sha_crypt", "Limits"), specs("phc_kdf", "Limits"), {}
     salt, rounds = number(sha, "salt_max_len"), len(f"rounds={number(sha, 'rounds_max')}$")
     for bits, digest in ((256, 32), (512, 64)):
         field = number(sha, f"pw_size_sha{bits}")

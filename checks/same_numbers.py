@@ -23,7 +23,7 @@ FACTS = [
      [r"(?<!then )(?:line|one) (?:has|of) more than ([\d,]+) bytes", r"A line has at most ([\d,]+) bytes"], 12),
     ("the longest input", ("crates/line_io/src/buffer.rt", r"INPUT_MAX: u64 = 1 << (\d+)"),
      [r"input has more than 2\^(\d+) bytes", r"up to 2\^(\d+) bytes"], 10),
-    ("the longest password", ("crates/stored_check/src/check.rt", r"PASSWORD_MAX: usize = ([\d_]+)"),
+    ("the longest password", ("crates/phc_kdf/src/lib.rt", r"PASSWORD_MAX: usize = ([\d_]+)"),
      [r"password, which stands before the last tab, has more than ([\d,]+) bytes", r"the password has more than ([\d,]+) bytes",
       r"passwords of (?:more than|at most) ([\d,]+) bytes", r"UTF-8 of at most ([\d,]+) bytes", r"a password at most ([\d,]+)",
       r"PWCHECK_PASSWORD_MAX ([\d,]+)", r"PASSWORD_TOO_LONG = 4, (?:/\*)? ?more than ([\d,]+) bytes"], 9),

@@ -23,8 +23,8 @@ SCHEMES = {
     "pbkdf2": r"pbkdf2|Pbkdf2|PBKDF2",
     "argon2": r"argon2|Argon2",
 }
-CRATES = {"md5-crypt": {"md5_crypt"}, "sha-crypt": {"sha_crypt"}, "bcrypt": {"bcrypt_plain"}, "yescrypt": {"yescrypt_plain"},
-          "scrypt": {"scrypt_plain"}, "pbkdf2": {"pbkdf2_plain"}, "argon2": {"argon2_plain", "blake2b"}}
+CRATES = {"md5-crypt": {"md5_plain", "md5_crypt"}, "sha-crypt": {"sha_crypt"}, "bcrypt": {"bcrypt_plain"}, "yescrypt": {"yescrypt_plain"},
+          "scrypt": {"scrypt_plain"}, "pbkdf2": {"pbkdf2_key", "pbkdf2_plain"}, "argon2": {"argon2_plain", "blake2b"}}
 FEW = 5
 
 

@@ -1,5 +1,5 @@
 -- The first causes, and that the definition never gives want of memory.
-use Rattle.std.proofs.Common.{◌≡◌, ◌≢◌, ℕ, ◌<◌, ◌≤◌, Bool, true, false, List, length, refl, sym, ap, arith, Option, Some, None}
+use Rattle.std.proofs.Common.{◌≡◌, ◌≢◌, ℕ, ◌<◌, ◌≤◌, Bool, true, false, List, length, refl, sym, arith, Option, Some, None}
 use Rattle.std.proofs.Common.{Result, Ok, Err}
 use Rattle.std.specs.Prelude.{nat_lt, if◌then◌else◌}
 use Rattle.std.proofs.lemmas.Bool.Decides.{nat_tests}
@@ -8,10 +8,11 @@ use Rattle.stored_check.proofs.Causes.{fits, never_memory}
 use Rattle.stored_check.specs.Verdict.{verdict}
 use Rattle.stored_check.specs.declared.error.StoredError.{StoredError}
 use Rattle.stored_check.specs.declared.error.StoredError.TheVariants.{OutOfMemory, PasswordTooLong}
-use Rattle.md5_crypt.specs.Verdict.{legacy_verdict}
-use Rattle.md5_crypt.specs.declared.error.LegacyError.{LegacyError}
-use Rattle.md5_crypt.specs.declared.error.LegacyError.TheVariants as of_md5
-use Rattle.md5_crypt.proofs.Causes.{never_lacks}
+use Rattle.md5_plain.specs.Verdict.{magic_of, md5_verdict}
+use Rattle.md5_plain.specs.declared.error.Md5Fault.{Md5Fault}
+use Rattle.md5_plain.specs.declared.magic.Magic.{Magic}
+use Rattle.mcf.specs.Grammar.{Parts, mcf}
+use Rattle.mcf.specs.declared.error.Error as mcf_error
 use Rattle.bcrypt_plain.specs.Check.{bcrypt_answer}
 use Rattle.bcrypt_plain.specs.declared.error.BcryptError.{BcryptError}
 use Rattle.bcrypt_plain.specs.declared.error.BcryptError.TheVariants as of_bcrypt
@@ -22,12 +23,13 @@ use Rattle.yescrypt_plain.specs.declared.error.CheckError.{CheckError}
 use Rattle.yescrypt_plain.specs.declared.error.CheckError.TheVariants as of_crypt
 use Rattle.yescrypt_plain.specs.declared.error.TextFault.{TextFault}
 use Rattle.any_check.specs.Cost.{is_costly, verdict_within}
-use Rattle.any_check.specs.Table.{any_verdict, of_bcrypt_check, of_legacy, of_scrypt_check, of_stored, of_yescrypt_check, row, scheme_answer, text_scheme}
+use Rattle.any_check.specs.Table.{any_verdict, md5_answer, md5_by, of_bcrypt_check, of_md5, of_scrypt_check, of_stored, of_yescrypt_check, row, scheme_answer, text_scheme}
 use Rattle.any_check.specs.declared.cost.CostLimits.{CostLimits}
 use Rattle.any_check.specs.declared.error.AnyError.{AnyError}
 use Rattle.any_check.specs.declared.error.AnyError.TheVariants.{NoScheme, Stored}
-use Rattle.any_check.specs.declared.scheme.AnyScheme.{AnyScheme}
-use Rattle.any_check.specs.declared.scheme.AnyScheme.TheVariants.{Bcrypt, Md5Crypt, Record, Scrypt, ShaCrypt, Yescrypt}
+use Rattle.scheme_list.specs.declared.schemes.Scheme.{Scheme}
+use Rattle.scheme_list.specs.declared.schemes.Scheme.TheVariants.{Argon2d, Argon2i, Argon2id, Bcrypt, Md5Crypt, Pbkdf2Sha256}
+use Rattle.scheme_list.specs.declared.schemes.Scheme.TheVariants.{Pbkdf2Sha512, Scrypt, ScryptCrypt, Sha256Crypt, Sha512Crypt, Yescrypt}
 
 abbrev Other : Result Bool AnyError → Type 0
 Other r = r ≢ Err (Stored OutOfMemory)
@@ -36,10 +38,17 @@ of_other : (r : Result Bool StoredError) → r ≢ Err OutOfMemory → Other (of
 of_other (Ok b) other = λ h. cc
 of_other (Err e) other = λ h. other cc
 
-of_old : (r : Result Bool LegacyError) → r ≢ Err (of_md5.Stored OutOfMemory) → Other (of_legacy r)
-of_old (Ok b) other = λ h. cc
-of_old (Err (of_md5.Md5 e)) other = λ h. cc
-of_old (Err (of_md5.Stored e)) other = λ h. other cc
+of_fields : (r : Result Bool Md5Fault) → Other (of_md5 r)
+of_fields (Ok b) = λ h. cc
+of_fields (Err e) = λ h. cc
+
+by_magic : (password : List ℕ) (o : Option Magic) (p : Parts) → Other (md5_by o password p)
+by_magic password None p = λ h. cc
+by_magic password (Some magic) p = of_fields (md5_verdict magic password p.fields)
+
+of_md5_text : (password : List ℕ) (r : Result Parts mcf_error.Error) → Other (md5_answer password r)
+of_md5_text password (Err e) = λ h. cc
+of_md5_text password (Ok p) = by_magic password (magic_of p.id) p
 
 of_check : (r : Result (Unit {0}) BcryptError) → Other (of_bcrypt_check r)
 of_check (Ok done) = λ h. cc
@@ -95,15 +104,24 @@ by_test false x y hx hy = hy
 
 module _ (accepted : PasswordHash → List ℕ → ℕ → Bool) (tag : List ℕ → PasswordHash → List ℕ → ℕ → List ℕ)
     (password stored : List ℕ) where
-  by_row : (s : AnyScheme) → Other (row accepted tag s password stored)
-  by_row Md5Crypt = of_old (legacy_verdict accepted tag password stored) (never_lacks accepted tag password stored)
-  by_row (ShaCrypt family) = of_other (verdict accepted tag password stored) (never_memory accepted tag password stored)
+  by_stored : Other (of_stored (verdict accepted tag password stored))
+  by_stored = of_other (verdict accepted tag password stored) (never_memory accepted tag password stored)
+
+  by_row : (s : Scheme) → Other (row accepted tag s password stored)
+  by_row Md5Crypt = of_md5_text password (mcf stored)
+  by_row Sha256Crypt = by_stored
+  by_row Sha512Crypt = by_stored
   by_row Bcrypt = of_check (bcrypt_answer password stored)
   by_row Yescrypt = of_yescrypt (yescrypt_answer password stored) (yescrypt_told password stored)
-  by_row Scrypt = of_scrypt (scrypt_answer password stored) (scrypt_told password stored)
-  by_row Record = of_other (verdict accepted tag password stored) (never_memory accepted tag password stored)
+  by_row ScryptCrypt = of_scrypt (scrypt_answer password stored) (scrypt_told password stored)
+  by_row Scrypt = by_stored
+  by_row Pbkdf2Sha256 = by_stored
+  by_row Pbkdf2Sha512 = by_stored
+  by_row Argon2d = by_stored
+  by_row Argon2i = by_stored
+  by_row Argon2id = by_stored
 
-  by_scheme : (o : Option AnyScheme) → Other (scheme_answer accepted tag o password stored)
+  by_scheme : (o : Option Scheme) → Other (scheme_answer accepted tag o password stored)
   by_scheme None = λ h. cc
   by_scheme (Some s) = by_row s
 

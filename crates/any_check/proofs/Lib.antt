@@ -1,7 +1,8 @@
-mod Rows
+pub mod Families
+pub mod Rows
 pub mod Causes
 mod Taken
-mod Known
+pub mod Known
 mod Bound
 mod Costly
 mod RecordNames

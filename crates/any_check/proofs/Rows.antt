@@ -1,90 +1,51 @@
--- The answer of each row, one lemma a scheme.
+-- The answer of each row, one lemma a check.
 use Rattle.std.proofs.Common.{◌≡◌, ℕ, ◌<◌, ◌≤◌, Bool, true, false, List, length, refl, sym, ap, ◌∙◌, arith, Option, Some, None}
-use Rattle.std.proofs.Common.{Result, Ok, Err, inl, inr}
-use Rattle.std.specs.Prelude.{◌&&◌, ◌||◌, is_none, is_ok, nat_lt, if◌then◌else◌, codes}
+use Rattle.std.proofs.Common.{Result, Err, inl, inr}
+use Rattle.std.specs.Prelude.{◌&&◌, is_ok, nat_lt}
 use Rattle.std.specs.Option.{option_map}
 use Rattle.std.proofs.lemmas.Bool.{false≢true}
 use Rattle.std.proofs.lemmas.Bool.Decides.{nat_tests}
 use Rattle.mcf.specs.Grammar.{fault, mcf, parts, Parts}
 use Rattle.mcf.specs.declared.error.Error as mcf_error
 use Rattle.phc.specs.declared.password_hash.PasswordHash.{PasswordHash}
+use Rattle.md5_plain.specs.Verdict.{magic_of}
+use Rattle.md5_plain.specs.declared.magic.Magic.{Magic}
+use Rattle.scheme_list.specs.declared.schemes.Scheme.{Scheme}
+use Rattle.scheme_list.specs.declared.schemes.Scheme.TheVariants.{Argon2d, Argon2i, Argon2id, Bcrypt, Md5Crypt, Pbkdf2Sha256}
+use Rattle.scheme_list.specs.declared.schemes.Scheme.TheVariants.{Pbkdf2Sha512, Scrypt, ScryptCrypt, Sha256Crypt, Sha512Crypt, Yescrypt}
 use Rattle.sha_crypt.specs.Records.{family_scheme}
 use Rattle.sha_crypt.specs.declared.errors.Family.{Family}
 use Rattle.pieces.specs.Faults.{value_or_fault}
 use Rattle.stored_check.proofs.Causes.{fits}
-use Rattle.stored_check.specs.Verdict.{IsVerdict, may_lack_memory, named_family, parts_need, same_text, scheme_of, text_needs, verdict}
+use Rattle.stored_check.specs.Verdict.{IsVerdict, may_lack_memory, mcf_name, named_family, parts_need, text_needs, verdict}
 use Rattle.stored_check.specs.declared.error.StoredError.{StoredError}
-use Rattle.stored_check.specs.declared.error.StoredError.TheVariants.{PasswordTooLong}
-use Rattle.md5_crypt.specs.Verdict.{IsLegacyVerdict, is_other, legacy_may_lack, legacy_verdict}
-use Rattle.md5_crypt.specs.declared.error.LegacyError.{LegacyError}
-use Rattle.md5_crypt.specs.declared.magic.Magic.{Magic}
-use Rattle.md5_crypt.specs.declared.magic.Magic.TheVariants as of_magic
+use Rattle.md5_plain.specs.declared.magic.Magic.{Magic}
+use Rattle.md5_plain.specs.declared.magic.Magic.TheVariants as of_magic
+use Rattle.stored_check.specs.declared.error.StoredError.TheVariants.{Mcf, PasswordTooLong}
 use Rattle.bcrypt_plain.specs.Check.{bcrypt_answer}
 use Rattle.bcrypt_plain.specs.declared.error.BcryptError.{BcryptError}
 use Rattle.yescrypt_plain.specs.Check.{IsAnswer, scrypt_answer, yescrypt_answer}
 use Rattle.yescrypt_plain.specs.declared.error.CheckError.{CheckError}
-use Rattle.any_check.specs.Table.{IsAnyVerdict, any_may_lack, any_verdict, by_family, identifier, is_bcrypt, is_md5, is_record}
-use Rattle.any_check.specs.Table.{of_bcrypt_check, of_legacy, of_scrypt_check, of_stored, of_yescrypt_check, row_may_lack, scheme_answer}
-use Rattle.any_check.specs.Table.{scheme_named, text_scheme}
+use Rattle.any_check.specs.Table.{IsAnyVerdict, any_may_lack, any_verdict, identifier, is_record, md5_answer, md5_by, of_bcrypt_check}
+use Rattle.any_check.specs.Table.{of_scrypt_check, of_stored, of_yescrypt_check, row, row_may_lack, sha_scheme, text_scheme}
 use Rattle.any_check.specs.declared.error.AnyError.{AnyError}
 use Rattle.any_check.specs.declared.error.AnyError.TheVariants.{NoScheme, Stored}
-use Rattle.any_check.specs.declared.scheme.AnyScheme.{AnyScheme}
-use Rattle.any_check.specs.declared.scheme.AnyScheme.TheVariants.{Bcrypt, Md5Crypt, Record, Scrypt, ShaCrypt, Yescrypt}
+use Rattle.any_check.proofs.Families.{family_if_sha, record_stored, sha_stored}
 
--- ---- what the scheme says of the identifier
+-- ---- md5-crypt
 
-abbrev pub other_by : Bool → Bool → Bool → Bool → Bool → Option AnyScheme
-other_by record? md5 bcrypt y seven =
-    if record? then Some Record else if md5 then Some Md5Crypt else if bcrypt then Some Bcrypt
-    else if y then Some Yescrypt else if seven then Some Scrypt else None
+module _ (password stored : List ℕ) where
+  pub md5_bad : (e : mcf_error.Error) → fault stored ≡ Some e
+      → md5_answer password (mcf stored) ≡ Err (Stored (Mcf (mcf_name e)))
+  unfolding mcf
+  md5_bad e bad = rw bad refl
 
-not_sha : (a b c y seven : Bool) (family : Family) → other_by a b c y seven ≡ Some (ShaCrypt family) → ⊥
-not_sha true b c y seven family h = cc
-not_sha false true c y seven family h = cc
-not_sha false false true y seven family h = cc
-not_sha false false false true seven family h = cc
-not_sha false false false false true family h = cc
-not_sha false false false false false family h = cc
+  pub md5_read : (o : Option Magic) → fault stored ≡ None → magic_of (parts stored).id ≡ o
+      → md5_answer password (mcf stored) ≡ md5_by o password (parts stored)
+  unfolding mcf
+  md5_read o valid is = rw valid (ap (λ (m : Option Magic). md5_by m password (parts stored)) is)
 
--- the family of an identifier that is SHA-crypt's
-pub family_if_sha : (id : List ℕ) (o : Option Family) (family : Family) → by_family id o ≡ Some (ShaCrypt family)
-    → o ≡ Some family
-family_if_sha id None family h = absurd
-    (not_sha (is_record id) (is_md5 id) (is_bcrypt id) (same_text id (codes "y")) (same_text id (codes "7")) family h)
-family_if_sha id (Some f) family h = cc
-
--- an identifier of another scheme has no family
-pub no_family : (id : List ℕ) (o : Option Family) (s : AnyScheme) → by_family id o ≡ Some s
-    → ((family : Family) → s ≡ ShaCrypt family → ⊥) → o ≡ None
-no_family id None s h other = refl
-no_family id (Some f) s h other = absurd (other f cc)
-
-md5_by : (a b c y seven : Bool) → other_by a b c y seven ≡ Some Md5Crypt → b ≡ true
-md5_by true b c y seven h = absurd cc
-md5_by false true c y seven h = refl
-md5_by false false true y seven h = absurd cc
-md5_by false false false true seven h = absurd cc
-md5_by false false false false true h = absurd cc
-md5_by false false false false false h = absurd cc
-
-md5_if : (id : List ℕ) (o : Option Family) → by_family id o ≡ Some Md5Crypt → is_md5 id ≡ true
-md5_if id None h =
-    md5_by (is_record id) (is_md5 id) (is_bcrypt id) (same_text id (codes "y")) (same_text id (codes "7")) h
-md5_if id (Some f) h = absurd cc
-
-magic_if : (one apr1 : Bool) → one || apr1 ≡ true
-    → is_none (if one then Some of_magic.Md5 else (if apr1 then Some of_magic.Apr1 else None)) ≡ false
-magic_if true apr1 h = refl
-magic_if false true h = refl
-magic_if false false h = absurd (false≢true h)
-
--- ---- memory is wanting for no text of md5-crypt and SHA-crypt
-
-md5_other : (stored : List ℕ) (o : Option mcf_error.Error) → is_md5 (identifier stored) ≡ true
-    → is_other (value_or_fault (parts stored) o) ≡ false
-md5_other stored (Some e) h = refl
-md5_other stored None h =
-    magic_if (same_text (identifier stored) (codes "1")) (same_text (identifier stored) (codes "apr1")) h
+-- ---- memory is wanting for no text of SHA-crypt
 
 no_need : (o : Option Family) (family : Family) (p : Parts) (needs_memory : PasswordHash → Bool) → o ≡ Some family
     → parts_need needs_memory (option_map family_scheme o) p ≡ false
@@ -102,16 +63,82 @@ and_false : (b : Bool) → b && false ≡ false
 and_false true = refl
 and_false false = refl
 
--- ---- the scheme of a text
-
-pub named : (stored : List ℕ) (o : Option AnyScheme) → text_scheme stored ≡ o → scheme_named (identifier stored) ≡ o
-unfolding text_scheme
-named stored o h = h
-
 -- ---- the rows
 
 module _ (accepted : PasswordHash → List ℕ → ℕ → Bool) (tag : List ℕ → PasswordHash → List ℕ → ℕ → List ℕ)
     (needs_memory : PasswordHash → Bool) (password stored : List ℕ) where
+  -- an answer of a scheme's row
+  abbrev pub OfRow : Scheme → Result Bool AnyError → Type 0
+  OfRow scheme r = IsAnyVerdict (row accepted tag scheme password stored)
+      (row_may_lack accepted needs_memory tag (Some scheme) password stored) r
+
+  sha_never : (family : Family) → text_scheme stored ≡ Some (sha_scheme family)
+      → may_lack_memory accepted needs_memory tag password stored ≡ false
+  unfolding may_lack_memory mcf
+  sha_never family is =
+      rw (sha_needs stored (fault stored) family needs_memory (family_if_sha stored family is))
+      (and_false (is_ok (verdict accepted tag password stored)))
+
+  -- `1`, `apr1`
+  pub md5_row : (r : Result Bool AnyError) → r ≡ md5_answer password (mcf stored) → OfRow Md5Crypt r
+  md5_row r h = inl h
+
+  -- `5`, `6`
+  pub sha_row : (family : Family) → text_scheme stored ≡ Some (sha_scheme family) → (r : Result Bool StoredError)
+      → IsVerdict (verdict accepted tag password stored)
+      (may_lack_memory accepted needs_memory tag password stored) r → OfRow (sha_scheme family) (of_stored r)
+  sha_row family is r h = elim h [
+    | inl same ↦ inl (ap of_stored same ∙ sym (sha_stored accepted tag password stored family))
+    | inr lack ↦ absurd (false≢true (sym (sha_never family is) ∙ lack.1))
+  ]
+
+  -- `2a`, `2b`, `2y`
+  pub bcrypt_row : (r : Result (Unit {0}) BcryptError) → r ≡ bcrypt_answer password stored → OfRow Bcrypt (of_bcrypt_check r)
+  bcrypt_row r h = inl (ap of_bcrypt_check h)
+
+  -- `y`
+  pub yescrypt_row : (r : Result (Unit {0}) CheckError) → IsAnswer (yescrypt_answer password stored) r
+      → OfRow Yescrypt (of_yescrypt_check r)
+  yescrypt_row r h = elim h [
+    | inl same ↦ inl (ap of_yescrypt_check same)
+    | inr lack ↦ inr (ap of_yescrypt_check lack.0, lack.1)
+  ]
+
+  -- `7`
+  pub scrypt_row : (r : Result (Unit {0}) CheckError) → IsAnswer (scrypt_answer password stored) r
+      → OfRow ScryptCrypt (of_scrypt_check r)
+  scrypt_row r h = elim h [
+    | inl same ↦ inl (ap of_scrypt_check same)
+    | inr lack ↦ inr (ap of_scrypt_check lack.0, lack.1)
+  ]
+
+  record_lack : (scheme : Scheme) → is_record (Some scheme) ≡ true
+      → row_may_lack accepted needs_memory tag (Some scheme) password stored
+      ≡ may_lack_memory accepted needs_memory tag password stored
+  record_lack Md5Crypt h = absurd (false≢true h)
+  record_lack Sha256Crypt h = absurd (false≢true h)
+  record_lack Sha512Crypt h = absurd (false≢true h)
+  record_lack Bcrypt h = absurd (false≢true h)
+  record_lack Yescrypt h = absurd (false≢true h)
+  record_lack ScryptCrypt h = absurd (false≢true h)
+  record_lack Scrypt h = refl
+  record_lack Pbkdf2Sha256 h = refl
+  record_lack Pbkdf2Sha512 h = refl
+  record_lack Argon2d h = refl
+  record_lack Argon2i h = refl
+  record_lack Argon2id h = refl
+
+  -- records
+  pub record_row : (scheme : Scheme) → is_record (Some scheme) ≡ true → (r : Result Bool StoredError)
+      → IsVerdict (verdict accepted tag password stored)
+      (may_lack_memory accepted needs_memory tag password stored) r → OfRow scheme (of_stored r)
+  record_row scheme of r h = elim h [
+    | inl same ↦ inl (ap of_stored same ∙ sym (record_stored accepted tag password stored (Some scheme) of))
+    | inr lack ↦ inr (ap of_stored lack.0, record_lack scheme of ∙ lack.1)
+  ]
+
+  -- ---- by the scheme of the text
+
   abbrev pub Whole : Result Bool AnyError → Type 0
   Whole r = IsAnyVerdict (any_verdict accepted tag password stored)
       (any_may_lack accepted needs_memory tag password stored) r
@@ -120,80 +147,11 @@ module _ (accepted : PasswordHash → List ℕ → ℕ → Bool) (tag : List ℕ
   unfolding any_verdict
   too_long h = let test : nat_lt 4096 (length password) ≡ true = grind (arith, nat_tests) in inl (rw test refl)
 
-  module _ (short : length password ≤ 4096) where
-    verdict_is : (o : Option AnyScheme) → text_scheme stored ≡ o
-        → any_verdict accepted tag password stored ≡ scheme_answer accepted tag o password stored
-    unfolding any_verdict
-    verdict_is o is = rw (fits password short, is) refl
+  pub no_row : length password ≤ 4096 → text_scheme stored ≡ None → Whole (Err NoScheme)
+  unfolding any_verdict
+  no_row short is = inl (rw (fits password short, is) refl)
 
-    lack_is : (o : Option AnyScheme) → text_scheme stored ≡ o
-        → any_may_lack accepted needs_memory tag password stored
-        ≡ row_may_lack accepted needs_memory tag o password stored
-    unfolding any_may_lack
-    lack_is o is = rw is refl
-
-    md5_never : text_scheme stored ≡ Some Md5Crypt → legacy_may_lack accepted needs_memory tag password stored ≡ false
-    unfolding legacy_may_lack mcf
-    md5_never is =
-        rw (md5_other stored (fault stored)
-        (md5_if (identifier stored) (named_family (identifier stored)) (named stored (Some Md5Crypt) is))) refl
-
-    sha_never : (family : Family) → text_scheme stored ≡ Some (ShaCrypt family)
-        → may_lack_memory accepted needs_memory tag password stored ≡ false
-    unfolding may_lack_memory mcf
-    sha_never family is =
-        rw (sha_needs stored (fault stored) family needs_memory
-        (family_if_sha (identifier stored) (named_family (identifier stored)) family
-        (named stored (Some (ShaCrypt family)) is))) (and_false (is_ok (verdict accepted tag password stored)))
-
-    -- no scheme
-    pub no_row : text_scheme stored ≡ None → Whole (Err NoScheme)
-    no_row is = inl (sym (verdict_is None is))
-
-    -- `1`, `apr1`
-    pub md5_row : text_scheme stored ≡ Some Md5Crypt → (r : Result Bool LegacyError)
-        → IsLegacyVerdict (legacy_verdict accepted tag password stored)
-        (legacy_may_lack accepted needs_memory tag password stored) r → Whole (of_legacy r)
-    md5_row is r h = elim h [
-      | inl same ↦ inl (ap of_legacy same ∙ sym (verdict_is (Some Md5Crypt) is))
-      | inr lack ↦ absurd (false≢true (sym (md5_never is) ∙ lack.1))
-    ]
-
-    -- `5`, `6`
-    pub sha_row : (family : Family) → text_scheme stored ≡ Some (ShaCrypt family) → (r : Result Bool StoredError)
-        → IsVerdict (verdict accepted tag password stored)
-        (may_lack_memory accepted needs_memory tag password stored) r → Whole (of_stored r)
-    sha_row family is r h = elim h [
-      | inl same ↦ inl (ap of_stored same ∙ sym (verdict_is (Some (ShaCrypt family)) is))
-      | inr lack ↦ absurd (false≢true (sym (sha_never family is) ∙ lack.1))
-    ]
-
-    -- `2a`, `2b`, `2y`
-    pub bcrypt_row : text_scheme stored ≡ Some Bcrypt → (r : Result (Unit {0}) BcryptError)
-        → r ≡ bcrypt_answer password stored → Whole (of_bcrypt_check r)
-    bcrypt_row is r h = inl (ap of_bcrypt_check h ∙ sym (verdict_is (Some Bcrypt) is))
-
-    -- `y`
-    pub yescrypt_row : text_scheme stored ≡ Some Yescrypt → (r : Result (Unit {0}) CheckError)
-        → IsAnswer (yescrypt_answer password stored) r → Whole (of_yescrypt_check r)
-    yescrypt_row is r h = elim h [
-      | inl same ↦ inl (ap of_yescrypt_check same ∙ sym (verdict_is (Some Yescrypt) is))
-      | inr lack ↦ inr (ap of_yescrypt_check lack.0, lack_is (Some Yescrypt) is ∙ lack.1)
-    ]
-
-    -- `7`
-    pub scrypt_row : text_scheme stored ≡ Some Scrypt → (r : Result (Unit {0}) CheckError)
-        → IsAnswer (scrypt_answer password stored) r → Whole (of_scrypt_check r)
-    scrypt_row is r h = elim h [
-      | inl same ↦ inl (ap of_scrypt_check same ∙ sym (verdict_is (Some Scrypt) is))
-      | inr lack ↦ inr (ap of_scrypt_check lack.0, lack_is (Some Scrypt) is ∙ lack.1)
-    ]
-
-    -- records
-    pub record_row : text_scheme stored ≡ Some Record → (r : Result Bool StoredError)
-        → IsVerdict (verdict accepted tag password stored)
-        (may_lack_memory accepted needs_memory tag password stored) r → Whole (of_stored r)
-    record_row is r h = elim h [
-      | inl same ↦ inl (ap of_stored same ∙ sym (verdict_is (Some Record) is))
-      | inr lack ↦ inr (ap of_stored lack.0, lack_is (Some Record) is ∙ lack.1)
-    ]
+  pub whole : length password ≤ 4096 → (scheme : Scheme) → text_scheme stored ≡ Some scheme → (r : Result Bool AnyError)
+      → OfRow scheme r → Whole r
+  unfolding any_verdict any_may_lack
+  whole short scheme is r h = rw (fits password short, is) h

@@ -1,7 +1,8 @@
 -- Laws over the definitions.
 use Rattle.std.specs.Prelude.{◌≡◌, ◌≢◌, ◌<◌, ◌≤◌, ℕ, Bool, false, true, List, length, None, Ok, Err, is_ok}
 use Rattle.phc.specs.declared.password_hash.PasswordHash.{PasswordHash}
-use Rattle.stored_check.specs.Limits.{password_max}
+use Rattle.scheme_list.specs.Schemes.{scheme_named}
+use Rattle.phc_kdf.specs.Limits.{password_max}
 use Rattle.stored_check.specs.Verdict.{verdict}
 use Rattle.stored_check.specs.declared.error.StoredError.TheVariants.{OutOfMemory, PasswordTooLong}
 use Rattle.bcrypt_plain.specs.Check.{has_zero}
@@ -19,10 +20,10 @@ Accepted = PasswordHash → List ℕ → ℕ → Bool
 abbrev pub Tag : Type 0
 Tag = List ℕ → PasswordHash → List ℕ → ℕ → List ℕ
 
--- it takes no record but those of the table
+-- it takes no record but those whose scheme the table has
 abbrev pub TakesRecords : Accepted → Type 0
 TakesRecords accepted =
-    (r : PasswordHash) (salt : List ℕ) (n : ℕ) → accepted r salt n ≡ true → is_record r.algorithm ≡ true
+    (r : PasswordHash) (salt : List ℕ) (n : ℕ) → accepted r salt n ≡ true → is_record (scheme_named r.algorithm) ≡ true
 
 -- where the definition of `check_stored` gives a verdict, this one gives the same
 abbrev pub OfCheckStored : Type 0

@@ -1,7 +1,7 @@
 pub mod Table
+pub mod Kinds
 pub mod Cost
 pub mod Words
 pub mod Records
 pub mod Laws
-pub mod Lines
-pub mod LineRules
+pub mod Given

@@ -1,10 +1,13 @@
 -- The records that have a verdict here, and the meanings of their derivations as one.
-use Rattle.std.specs.Prelude.{ℕ, Bool, true, false, List, codes}
+use Rattle.std.specs.Prelude.{◌≡◌, ℕ, true, false, List, codes, length}
 use Rattle.phc.specs.declared.password_hash.PasswordHash.{PasswordHash}
-use Rattle.pbkdf2_plain.specs.Either.{Accepted, Needs, Tag, either_accepted, either_needs, either_tag}
-use Rattle.pbkdf2_plain.specs.Profile.{pbkdf2_accepts, pbkdf2_key}
-use Rattle.pbkdf2_plain.specs.declared.profile.Pbkdf2Hash.TheVariants.{Sha256, Sha512}
+use Rattle.phc_kdf.specs.Either.{Accepted, Needs, Tag, either_accepted, either_needs, either_tag, length-either_tag}
+use Rattle.pbkdf2_key.specs.Lengths.{length-pbkdf2_key}
+use Rattle.pbkdf2_key.specs.Profile.{pbkdf2_accepts, pbkdf2_key}
+use Rattle.pbkdf2_key.specs.declared.profile.Pbkdf2Hash.TheVariants.{Sha256, Sha512}
+use Rattle.scrypt_plain.specs.KeyLength.{length-scrypt_key}
 use Rattle.scrypt_plain.specs.Profile as scrypt
+use Rattle.argon2_plain.specs.KeyLength.{length-argon2_key}
 use Rattle.argon2_plain.specs.Profile.{argon2_accepts, argon2_key}
 
 -- which records PBKDF2 with SHA-512 or Argon2 takes, by the identifier
@@ -44,3 +47,13 @@ needs_memory =
     either_needs (codes "scrypt") (λ parsed. true)
     (either_needs (codes "pbkdf2-sha256") (λ parsed. false)
     (either_needs (codes "pbkdf2-sha512") (λ parsed. false) (λ parsed. true)))
+
+-- a key has the length that is asked for: a proof, which a derivation of these records names
+pub length-tag : (password : List ℕ) (parsed : PasswordHash) (salt : List ℕ) (n : ℕ)
+    → length (tag password parsed salt n) ≡ n
+length-tag =
+    length-either_tag (codes "scrypt") scrypt.key pbkdf2_or_argon2_tag length-scrypt_key
+    (length-either_tag (codes "pbkdf2-sha256") (λ password parsed salt n. pbkdf2_key Sha256 password parsed salt n)
+    sha512_or_argon2_tag (length-pbkdf2_key Sha256)
+    (length-either_tag (codes "pbkdf2-sha512") (λ password parsed salt n. pbkdf2_key Sha512 password parsed salt n)
+    (λ password parsed salt n. argon2_key password parsed salt n) (length-pbkdf2_key Sha512) length-argon2_key))

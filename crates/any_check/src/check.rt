@@ -1,16 +1,19 @@
 //! The verdict.
 
-ghost use Rattle.std.specs.Prelude.{◌≡◌};
-ghost use Rattle.any_check.specs.Table.{IsAnyVerdict, any_may_lack, any_verdict, of_bcrypt_check, of_legacy, of_scrypt_check, of_stored, of_yescrypt_check};
+ghost use Rattle.std.specs.Prelude.{◌≡◌, ◌≤◌, Some, length};
+ghost use Rattle.mcf.specs.Grammar.{mcf};
+ghost use Rattle.phc_kdf.specs.Limits.{password_max};
+ghost use Rattle.any_check.specs.Table.{IsAnyVerdict, any_may_lack, any_verdict, md5_answer, of_bcrypt_check, of_md5, of_scrypt_check, of_stored, of_yescrypt_check, row, row_may_lack, text_scheme};
 ghost use Rattle.any_check.specs.Cost.{verdict_within, within_may_lack};
 
 use crate::cost::is_costly;
-use crate::{AnyError, AnyScheme, CostLimits, scheme_of_text};
+use crate::{AnyError, CostLimits, Scheme, scheme_of_text};
 use base64ct::Counts;
 use bcrypt_plain::{BcryptError, bcrypt_check};
-use md5_crypt::{LegacyError, check_legacy};
+use mcf::PasswordHashRef;
+use md5_plain::{Md5Fault, magic_of, md5_verdict};
 use std::alloc::Global;
-use stored_check::{PASSWORD_MAX, PhcKdf, StoredError, check_stored};
+use stored_check::{PASSWORD_MAX, PhcKdf, StoredError, check_stored, mcf_name};
 use yescrypt_plain::{CheckError, CryptKept, scrypt_check_kept, yescrypt_check_kept};
 
 // An answer of `check_stored`.
@@ -23,14 +26,27 @@ fn of_stored(answer: Result<bool, StoredError>) -> Result<bool, AnyError>
     }
 }
 
-// An answer of `check_legacy`.
-fn of_legacy(answer: Result<bool, LegacyError>) -> Result<bool, AnyError>
-    ensures { result ≡ of_legacy answer }
+// An answer of `md5_verdict`.
+fn of_md5(answer: Result<bool, Md5Fault>) -> Result<bool, AnyError>
+    ensures { result ≡ of_md5 answer }
 {
     match answer {
         Ok(matches) => Ok(matches),
-        Err(LegacyError::Md5(e)) => Err(AnyError::Md5(e)),
-        Err(LegacyError::Stored(e)) => Err(AnyError::Stored(e)),
+        Err(e) => Err(AnyError::Md5(e)),
+    }
+}
+
+// The answer for a text of md5-crypt.
+fn md5_checked(password: &str, stored: &str) -> Result<bool, AnyError>
+    requires short { length password.now ≤ password_max }
+    ensures answer { result ≡ md5_answer password.now (mcf stored.now) }
+{
+    match PasswordHashRef::new(stored) {
+        Err(e) => Err(AnyError::Stored(StoredError::Mcf(mcf_name(e)))),
+        Ok(text) => match magic_of(text.id()) {
+            Some(magic) => of_md5(md5_verdict(magic, password.as_bytes(), text.fields())),
+            None => Err(AnyError::NoScheme),
+        },
     }
 }
 
@@ -72,10 +88,49 @@ fn of_scrypt_check(answer: Result<(), CheckError>) -> Result<bool, AnyError>
     }
 }
 
+// The answer of the check of a scheme.
+fn checked<K: PhcKdf>(
+    alloc: Global,
+    kdf: &K,
+    kept: &CryptKept,
+    scheme: Scheme,
+    password: &str,
+    stored: &str,
+) -> Result<bool, AnyError>
+    requires short { length password.now ≤ password_max }
+    requires scheme { text_scheme stored.now ≡ Some scheme }
+    ensures { IsAnyVerdict
+        (row (K.accepted kdf.now) (K.tag kdf.now) scheme password.now stored.now)
+        (row_may_lack (K.accepted kdf.now) (K.needs_memory kdf.now) (K.tag kdf.now) (Some scheme) password.now stored.now)
+        result }
+{
+    match scheme {
+        Scheme::Md5Crypt => md5_checked(password, stored),
+        Scheme::Bcrypt => of_bcrypt_check(bcrypt_check(password, stored)),
+        Scheme::Yescrypt => {
+            let mut counts = Counts::new();
+            of_yescrypt_check(yescrypt_check_kept(alloc, kept, password, stored, &mut counts))
+        }
+        Scheme::ScryptCrypt => {
+            let mut counts = Counts::new();
+            of_scrypt_check(scrypt_check_kept(alloc, kept, password, stored, &mut counts))
+        }
+        Scheme::Sha256Crypt | Scheme::Sha512Crypt => of_stored(check_stored(
+            alloc, kdf, password, stored,
+        )),
+        Scheme::Scrypt
+        | Scheme::Pbkdf2Sha256
+        | Scheme::Pbkdf2Sha512
+        | Scheme::Argon2d
+        | Scheme::Argon2i
+        | Scheme::Argon2id => of_stored(check_stored(alloc, kdf, password, stored)),
+    }
+}
+
 /// Checks a password against a stored text of any scheme, and answers whether it matches.
 ///
-/// What stands between the first two `$` of the text names the scheme ([`AnyScheme`](crate::AnyScheme)), and the answer is
-/// that of the scheme's own check: `check_legacy` for md5-crypt, `bcrypt_check` for bcrypt, `yescrypt_check` and
+/// What stands between the first two `$` of the text names the scheme ([`Scheme`]), and the answer is
+/// that of the scheme's own check: `md5_verdict` for md5-crypt, `bcrypt_check` for bcrypt, `yescrypt_check` and
 /// `scrypt_check` for `y` and `7`, in the tables that `kept` keeps, `check_stored` for SHA-crypt and for records, whose keys
 /// `kdf` derives. Only a record's key and these tables take memory.
 ///
@@ -101,18 +156,7 @@ pub fn check_any<K: PhcKdf>(
     }
     match scheme_of_text(stored) {
         None => Err(AnyError::NoScheme),
-        Some(AnyScheme::Md5Crypt) => of_legacy(check_legacy(alloc, kdf, password, stored)),
-        Some(AnyScheme::ShaCrypt(_)) => of_stored(check_stored(alloc, kdf, password, stored)),
-        Some(AnyScheme::Bcrypt) => of_bcrypt_check(bcrypt_check(password, stored)),
-        Some(AnyScheme::Yescrypt) => {
-            let mut counts = Counts::new();
-            of_yescrypt_check(yescrypt_check_kept(alloc, kept, password, stored, &mut counts))
-        }
-        Some(AnyScheme::Scrypt) => {
-            let mut counts = Counts::new();
-            of_scrypt_check(scrypt_check_kept(alloc, kept, password, stored, &mut counts))
-        }
-        Some(AnyScheme::Record) => of_stored(check_stored(alloc, kdf, password, stored)),
+        Some(scheme) => checked(alloc, kdf, kept, scheme, password, stored),
     }
 }
 

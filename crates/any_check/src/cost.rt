@@ -1,24 +1,11 @@
-//! What a stored text asks for, beside a bound.
+//! A bound on what a stored text asks for.
 
-ghost use Rattle.std.specs.Prelude.{◌≡◌, ◌&&◌, codes, is_ok};
-ghost use Rattle.mcf.specs.Grammar.{mcf};
-ghost use Rattle.phc.specs.Record.{phc_text};
-ghost use Rattle.phc.specs.declared.password_hash.PasswordHash.{PasswordHash};
-ghost use Rattle.scrypt_plain.specs.Profile.{number};
-ghost use Rattle.sha_crypt.specs.Records.{record_of};
-ghost use Rattle.bcrypt_plain.specs.Text.{text_cost};
-ghost use Rattle.yescrypt_plain.specs.Text.{scrypt_costs, yescrypt_costs};
-ghost use Rattle.any_check.specs.Cost.{argon2_record_costs, bcrypt_costs, is_above, is_costly, phc_costs, record_costs, row_costs, salted_costs};
-ghost use Rattle.any_check.specs.Cost.{scrypt_record_costs, scrypt_text_costs, sha_costs, yescrypt_text_costs};
+ghost use Rattle.std.specs.Prelude.{◌≡◌};
+ghost use Rattle.any_check.specs.Cost.{is_above, is_costly, kind_costs, limit_of};
 
-use crate::scheme::is_pbkdf2;
-use crate::{AnyScheme, scheme_of_text};
-use bcrypt_plain::text_cost;
-use mcf::PasswordHashRef;
-use phc::PasswordHash;
-use sha_crypt::{Family, ShaRecord};
+use crate::kinds::{TextCosts, TextKind, one, text_kind, three};
+use scheme_list::Scheme;
 use stored_check::PhcKdf;
-use yescrypt_plain::{scrypt_costs, yescrypt_costs};
 
 /// The most that a valid text may ask for, scheme by scheme. md5-crypt has no cost: it is 1,000 rounds for each text.
 #[derive(Clone, Copy, Debug, PartialEq, Eq)]
@@ -49,142 +36,49 @@ pub struct CostLimits {
     pub argon2_lanes: u32,
 }
 
-// Whether a record names a number above this one.
-fn is_above(most: u32, parsed: &PasswordHash, name: &str) -> bool
-    ensures { result ≡ is_above most (number parsed.now name.now) }
-{
-    match parsed.params.get_decimal_named(name) {
-        Some(n) => most < n,
-        None => false,
-    }
-}
-
-fn scrypt_record_costs(limits: &CostLimits, parsed: &PasswordHash) -> bool
-    ensures { result ≡ scrypt_record_costs limits.now parsed.now }
-{
-    is_above(limits.scrypt_ln, parsed, "ln")
-        || is_above(limits.scrypt_r, parsed, "r")
-        || is_above(limits.scrypt_p, parsed, "p")
-}
-
-fn argon2_record_costs(limits: &CostLimits, parsed: &PasswordHash) -> bool
-    ensures { result ≡ argon2_record_costs limits.now parsed.now }
-{
-    is_above(limits.argon2_memory, parsed, "m")
-        || is_above(limits.argon2_passes, parsed, "t")
-        || is_above(limits.argon2_lanes, parsed, "p")
-}
-
-// Whether the cost of a record is above the bound of its identifier.
-fn record_costs(limits: &CostLimits, parsed: &PasswordHash) -> bool
-    ensures { result ≡ record_costs limits.now parsed.now }
-{
-    let id = parsed.algorithm.as_str();
-    if id == "scrypt" {
-        return scrypt_record_costs(limits, parsed);
-    }
-    if is_pbkdf2(id) {
-        return is_above(limits.pbkdf2_rounds, parsed, "i");
-    }
-    argon2_record_costs(limits, parsed)
-}
-
-// The same of a record that is taken.
-fn salted_costs<K: PhcKdf>(kdf: &K, limits: &CostLimits, parsed: &PasswordHash) -> bool
-    ensures { result ≡ salted_costs (K.accepted kdf.now) limits.now parsed.now parsed.now.salt parsed.now.hash }
-{
-    let Some(salt) = &parsed.salt else {
-        return false;
-    };
-    let Some(hash) = &parsed.hash else {
-        return false;
-    };
-    kdf.accepts(parsed, salt.as_bytes(), hash.len()) && record_costs(limits, parsed)
-}
-
-// The same of a PHC text.
-fn phc_costs<K: PhcKdf>(kdf: &K, limits: &CostLimits, stored: &str) -> bool
-    ensures { result ≡ phc_costs (K.accepted kdf.now) limits.now (phc_text stored.now) }
-{
-    match PasswordHash::new(stored) {
-        Ok(parsed) => salted_costs(kdf, limits, &parsed),
-        Err(_) => false,
-    }
-}
-
-// The same of a text of SHA-crypt.
-fn sha_costs(limits: &CostLimits, family: Family, stored: &str) -> bool
-    ensures { result ≡ sha_costs limits.now (record_of family stored.now) }
-{
-    match ShaRecord::new(stored, family) {
-        Ok(record) => limits.sha_rounds < record.rounds(),
-        Err(_) => false,
-    }
-}
-
-// The same of a text of bcrypt.
-fn bcrypt_costs(limits: &CostLimits, stored: &str) -> bool
-    ensures { result ≡ bcrypt_costs limits.now (text_cost stored.now) }
-{
-    match text_cost(stored) {
-        Ok(cost) => limits.bcrypt_cost < cost,
-        Err(_) => false,
-    }
-}
-
-// The same of a text of yescrypt.
-fn yescrypt_text_costs(limits: &CostLimits, stored: &str) -> bool
-    ensures { result ≡ yescrypt_text_costs limits.now (yescrypt_costs stored.now) }
-{
-    match yescrypt_costs(stored) {
-        Ok(costs) => {
-            limits.yescrypt_ln < costs.ln
-                || limits.yescrypt_r < costs.r
-                || limits.yescrypt_t < costs.t
-        }
-        Err(_) => false,
-    }
-}
-
-// The same of a text `$7$`.
-fn scrypt_text_costs(limits: &CostLimits, stored: &str) -> bool
-    ensures { result ≡ scrypt_text_costs limits.now (scrypt_costs stored.now) }
-{
-    match scrypt_costs(stored) {
-        Ok(costs) => {
-            limits.scrypt_ln < costs.ln || limits.scrypt_r < costs.r || limits.scrypt_p < costs.p
-        }
-        Err(_) => false,
-    }
-}
-
-// Whether a text is in the modular crypt format.
-fn is_mcf(stored: &str) -> bool
-    ensures { result ≡ is_ok (mcf stored.now) }
-{
-    match PasswordHashRef::new(stored) {
-        Ok(_) => true,
-        Err(_) => false,
-    }
-}
-
-// The same by the scheme.
-fn row_costs<K: PhcKdf>(
-    kdf: &K,
-    limits: &CostLimits,
-    scheme: Option<AnyScheme>,
-    stored: &str,
-) -> bool
-    ensures { result ≡ row_costs (K.accepted kdf.now) limits.now scheme stored.now }
+// The most that a text of a scheme may ask for.
+fn limit_of(limits: &CostLimits, scheme: Scheme) -> TextCosts
+    ensures { result ≡ limit_of limits.now scheme }
 {
     match scheme {
-        None => false,
-        Some(AnyScheme::Md5Crypt) => false,
-        Some(AnyScheme::ShaCrypt(family)) => is_mcf(stored) && sha_costs(limits, family, stored),
-        Some(AnyScheme::Bcrypt) => bcrypt_costs(limits, stored),
-        Some(AnyScheme::Yescrypt) => yescrypt_text_costs(limits, stored),
-        Some(AnyScheme::Scrypt) => scrypt_text_costs(limits, stored),
-        Some(AnyScheme::Record) => is_mcf(stored) && phc_costs(kdf, limits, stored),
+        Scheme::Md5Crypt => one(scheme, 0),
+        Scheme::Sha256Crypt | Scheme::Sha512Crypt => one(scheme, limits.sha_rounds as u64),
+        Scheme::Bcrypt => one(scheme, limits.bcrypt_cost as u64),
+        Scheme::Yescrypt => three(
+            scheme,
+            limits.yescrypt_ln as u64,
+            limits.yescrypt_r as u64,
+            limits.yescrypt_t as u64,
+        ),
+        Scheme::ScryptCrypt | Scheme::Scrypt => three(
+            scheme,
+            limits.scrypt_ln as u64,
+            limits.scrypt_r as u64,
+            limits.scrypt_p as u64,
+        ),
+        Scheme::Pbkdf2Sha256 | Scheme::Pbkdf2Sha512 => one(scheme, limits.pbkdf2_rounds as u64),
+        Scheme::Argon2d | Scheme::Argon2i | Scheme::Argon2id => three(
+            scheme,
+            limits.argon2_memory as u64,
+            limits.argon2_passes as u64,
+            limits.argon2_lanes as u64,
+        ),
+    }
+}
+
+// Whether one of the numbers is above the limit.
+fn is_above(limit: &TextCosts, costs: &TextCosts) -> bool
+    ensures { result ≡ is_above limit.now costs.now }
+{
+    limit.first < costs.first || limit.second < costs.second || limit.third < costs.third
+}
+
+fn kind_costs(limits: &CostLimits, kind: TextKind) -> bool
+    ensures { result ≡ kind_costs limits.now kind }
+{
+    match kind {
+        TextKind::NoScheme | TextKind::Invalid => false,
+        TextKind::Costs(costs) => is_above(&limit_of(limits, costs.scheme), &costs),
     }
 }
 
@@ -193,5 +87,5 @@ fn row_costs<K: PhcKdf>(
 pub(crate) fn is_costly<K: PhcKdf>(kdf: &K, limits: &CostLimits, stored: &str) -> bool
     ensures { result ≡ is_costly (K.accepted kdf.now) limits.now stored.now }
 {
-    row_costs(kdf, limits, scheme_of_text(stored), stored)
+    kind_costs(limits, text_kind(kdf, stored))
 }

@@ -1,7 +1,7 @@
 //! Why a stored text gets no verdict.
 
 use bcrypt_plain::BcryptFault;
-use md5_crypt::Md5Fault;
+use md5_plain::Md5Fault;
 use stored_check::StoredError;
 use yescrypt_plain::TextFault;
 

@@ -1,13 +1,10 @@
 //! Texts that outside programs made: openssl, glibc's and libxcrypt's crypt, Python's hashlib and the program argon2.
 
 use any_check::{
-    AnyError, AnyScheme, CostLimits, any_word, check_any, check_any_within, record_kdf, run_any,
-    scheme_of_text,
+    AnyError, CostLimits, Scheme, any_word, check_any, check_any_within, record_kdf, scheme_of_text,
 };
 use bcrypt_plain::BcryptFault;
-use line_io::{MemorySink, MemorySource};
-use md5_crypt::Md5Fault;
-use sha_crypt::Family;
+use md5_plain::Md5Fault;
 use stored_check::StoredError;
 use yescrypt_plain::{CryptKept, TextFault};
 
@@ -342,17 +339,17 @@ fn first_causes(rt: HostRuntime) {
 #[test]
 fn schemes(rt: HostRuntime) {
     for (stored, scheme) in [
-        ("$1$x", AnyScheme::Md5Crypt),
-        ("$apr1", AnyScheme::Md5Crypt),
-        ("$5$x", AnyScheme::ShaCrypt(Family::Sha256)),
-        ("$6$", AnyScheme::ShaCrypt(Family::Sha512)),
-        ("$2a$", AnyScheme::Bcrypt),
-        ("$2$", AnyScheme::Bcrypt),
-        ("$y$j9T", AnyScheme::Yescrypt),
-        ("$7$", AnyScheme::Scrypt),
-        ("$scrypt$x", AnyScheme::Record),
-        ("$argon2i", AnyScheme::Record),
-        ("$pbkdf2-sha512$x", AnyScheme::Record),
+        ("$1$x", Scheme::Md5Crypt),
+        ("$apr1", Scheme::Md5Crypt),
+        ("$5$x", Scheme::Sha256Crypt),
+        ("$6$", Scheme::Sha512Crypt),
+        ("$2a$", Scheme::Bcrypt),
+        ("$2$", Scheme::Bcrypt),
+        ("$y$j9T", Scheme::Yescrypt),
+        ("$7$", Scheme::ScryptCrypt),
+        ("$scrypt$x", Scheme::Scrypt),
+        ("$argon2i", Scheme::Argon2i),
+        ("$pbkdf2-sha512$x", Scheme::Pbkdf2Sha512),
     ] {
         assert!(rt; scheme_of_text(stored) == Some(scheme), "{stored}");
     }
@@ -373,73 +370,6 @@ fn no_scheme(rt: HostRuntime) {
     ] {
         assert!(rt; scheme_of_text(stored) == None, "{stored}");
     }
-}
-
-const LINES: &[u8] = b"secret\t$1$abcdefgh$cHJi5PXp/ki/ktXzqlk6I1\n\
-    Secret\t$2b$04$abcdefghijklmnopqrstuu2r9OfJnfCsdneAXAGHnS4UpFFP8WIrW\n\
-    a\tb\t*\nno tab\n\xff\t*\nsec\0ret\t$2y$05$abcdefghijklmnopqrstuuOQiyCxlgf/oeuTqixKmWdcYUh4Hjl0a\n\
-    secret\t$argon2d$v=19$m=128,t=1,p=1$c2FsdHNhbHRzYWx0$cnmEAHaXnZyNK8al32lcZA";
-
-#[test]
-fn lines(rt: HostRuntime) {
-    let limits = CostLimits {
-        argon2_memory: 64,
-        ..least()
-    };
-    for (limits, step, words) in [
-        (
-            None,
-            7,
-            b"match\nmismatch\nno-scheme\nbadline\nbadline\nzero-byte\nmatch\n".as_slice(),
-        ),
-        (
-            Some(limits),
-            100,
-            b"match\nmismatch\nno-scheme\nbadline\nbadline\nzero-byte\ntoo-costly\n",
-        ),
-    ] {
-        let mut room = [0; 100];
-        let mut source = MemorySource::new(LINES, 50, &[]);
-        let mut sink = MemorySink::new(&mut room, step, &[]);
-        let status = run_any(rt.alloc(), limits, &mut source, &mut sink, 1000);
-        assert!(rt; status == 1, "{step}: {status}");
-        assert!(rt; sink.bytes() == words, "{step}");
-    }
-}
-
-// The most bytes of a read and the read that fails, the same of a write, the bound, the output and the status.
-type Devices = (usize, &'static [u64], usize, &'static [u64], u64);
-
-const STATUSES: [(Devices, &[u8], u8); 4] = [
-    ((64, &[], 64, &[], 64), b"match\n", 0),
-    ((20, &[1], 64, &[], 64), b"", 3),
-    ((64, &[], 4, &[1], 64), b"matc", 4),
-    ((64, &[], 64, &[], 20), b"", 6),
-];
-
-#[test]
-fn statuses(rt: HostRuntime) {
-    let line = b"secret\t$1$abcdefgh$cHJi5PXp/ki/ktXzqlk6I1\n".as_slice();
-    for ((read, bad_reads, write, bad_writes, max), output, status) in STATUSES {
-        assert!(rt; read >= 1 && write >= 1 && max <= 64);
-        let mut room = [0; 16];
-        let mut source = MemorySource::new(line, read, bad_reads);
-        let mut sink = MemorySink::new(&mut room, write, bad_writes);
-        let got = run_any(rt.alloc(), None, &mut source, &mut sink, max);
-        assert!(rt; got == status, "{status}: {got}");
-        assert!(rt; sink.bytes() == output, "{status}");
-    }
-}
-
-#[test]
-fn long_lines(rt: HostRuntime) {
-    let mut input = [b'a'; 8194];
-    input[8193] = b'\n';
-    let mut room = [0; 16];
-    let mut source = MemorySource::new(&input, 8194, &[]);
-    let mut sink = MemorySink::new(&mut room, 64, &[]);
-    assert!(rt; run_any(rt.alloc(), None, &mut source, &mut sink, 10_000) == 1);
-    assert!(rt; sink.bytes() == b"toolong\n".as_slice());
 }
 
 // Valid texts of which each digest takes a tenth of a second and more: of each variant and type, and where its texts have several
@@ -480,41 +410,5 @@ fn nothing_is_hashed(rt: HostRuntime) {
             let answer = check_any_within(rt.alloc(), &kdf, &kept, &least(), "secret", stored);
             assert!(rt; answer == Err(AnyError::TooCostly), "{stored}");
         }
-    }
-}
-
-// An input, the writes that fail, the output and the status. A line with a verdict is written at once: the second write comes
-// behind it. Other words wait.
-const WRITES: [(&[u8], &[u64], &[u8], u8); 6] = [
-    (TWO_VERDICTS, &[], b"match\nmismatch\n", 1),
-    (TWO_VERDICTS, &[1], b"match\n", 4),
-    (
-        b"x\nsecret\t$1$abcdefgh$cHJi5PXp/ki/ktXzqlk6I1\nx\n",
-        &[1],
-        b"badline\nmatch\n",
-        4,
-    ),
-    (
-        b"Secret\t$1$abcdefgh$cHJi5PXp/ki/ktXzqlk6I1\nx\n",
-        &[1],
-        b"mismatch\n",
-        4,
-    ),
-    (b"x\na\t*\n", &[1], b"badline\nno-scheme\n", 1),
-    (b"x\na\t*\n", &[0], b"", 4),
-];
-
-const TWO_VERDICTS: &[u8] = b"secret\t$1$abcdefgh$cHJi5PXp/ki/ktXzqlk6I1\n\
-    Secret\t$1$abcdefgh$cHJi5PXp/ki/ktXzqlk6I1\n";
-
-#[test]
-fn written_behind_a_verdict(rt: HostRuntime) {
-    for (input, failing, output, status) in WRITES {
-        let mut room = [0; 32];
-        let mut source = MemorySource::new(input, 1_000, &[]);
-        let mut sink = MemorySink::new(&mut room, 1_000, failing);
-        let got = run_any(rt.alloc(), None, &mut source, &mut sink, 1_000);
-        assert!(rt; got == status, "{output:?}: {got}");
-        assert!(rt; sink.bytes() == output, "{output:?}");
     }
 }

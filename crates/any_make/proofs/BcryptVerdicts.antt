@@ -24,7 +24,7 @@ use Rattle.bcrypt_plain.proofs.Fields.{encoding_len}
 use Rattle.bcrypt_plain.proofs.MadeTexts.{hash_below, hash_long, is_not}
 use Rattle.any_check.specs.Records.{accepted, tag}
 use Rattle.any_check.specs.Table.{any_verdict, of_bcrypt_check, text_scheme}
-use Rattle.any_check.specs.declared.scheme.AnyScheme.TheVariants as scheme
+use Rattle.scheme_list.specs.declared.schemes.Scheme.TheVariants as scheme
 use Rattle.any_make.specs.Made.{hash_text}
 use Rattle.any_make.specs.declared.scheme.MakeCost.TheVariants as cost
 use Rattle.any_make.proofs.Judged.{IsJudged, TakesBytes, by_row, judged}

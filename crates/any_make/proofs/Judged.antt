@@ -4,9 +4,10 @@ use Rattle.std.specs.Prelude.{◌⊎◌, nat_lt, Some, Result, Ok}
 use Rattle.std.proofs.lemmas.Bool.Decides.{nat_tests}
 use Rattle.bcrypt_plain.specs.Check.{has_zero}
 use Rattle.any_check.specs.Records.{accepted, tag}
-use Rattle.any_check.specs.Table.{any_verdict, row, text_scheme}
+use Rattle.any_check.specs.Table.{any_verdict, is_record, row, stored_row, text_scheme}
 use Rattle.any_check.specs.declared.error.AnyError.{AnyError}
-use Rattle.any_check.specs.declared.scheme.AnyScheme.{AnyScheme}
+use Rattle.any_check.proofs.Families.{record_stored}
+use Rattle.scheme_list.specs.declared.schemes.Scheme.{Scheme}
 use Rattle.any_make.specs.Costs.{scheme_of, takes_zero}
 use Rattle.any_make.specs.Made.{hash_text}
 use Rattle.any_make.specs.declared.scheme.MakeCost.{MakeCost}
@@ -27,9 +28,17 @@ pub record IsJudged (c : MakeCost) (password salt : List ℕ) : Type 0 where
   pub same : (asked : List ℕ) → matches asked ≡ true → hash_text c asked salt ≡ hash_text c password salt
 
 -- the verdict by the scheme of a text
-pub by_row : (asked text : List ℕ) (scheme : AnyScheme) → length asked ≤ 4096 → text_scheme text ≡ Some scheme
+pub by_row : (asked text : List ℕ) (scheme : Scheme) → length asked ≤ 4096 → text_scheme text ≡ Some scheme
     → any_verdict accepted tag asked text ≡ row accepted tag scheme asked text
 unfolding any_verdict
 by_row asked text scheme short is =
     let fits : nat_lt 4096 (length asked) ≡ false = grind (arith, nat_tests, short) in
     rw (fits, is) refl
+
+-- the verdict on a record
+pub by_record : (asked text : List ℕ) → length asked ≤ 4096 → is_record (text_scheme text) ≡ true
+    → any_verdict accepted tag asked text ≡ stored_row accepted tag asked text
+unfolding any_verdict
+by_record asked text short is =
+    let fits : nat_lt 4096 (length asked) ≡ false = grind (arith, nat_tests, short) in
+    rw fits (record_stored accepted tag asked text (text_scheme text) is)

@@ -10,10 +10,10 @@ use Rattle.blake2b.specs.Blake2b.{blake2b}
 use Rattle.blake2b.specs.Words.{bytes}
 use Rattle.argon2_plain.specs.Argon2.{tag_from, variable_hash}
 use Rattle.argon2_plain.specs.Lengths.{length-tag_from}
-use Rattle.pbkdf2_plain.specs.Lengths.{length-pbkdf2_sha256}
-use Rattle.pbkdf2_plain.specs.Pbkdf2.{output_block, output_blocks, pbkdf2, u}
-use Rattle.scrypt_plain.specs.Bytes.{xor_bytes}
-use Rattle.scrypt_plain.specs.Hmac.{hmac}
+use Rattle.pbkdf2_key.specs.Lengths.{length-pbkdf2_sha256}
+use Rattle.pbkdf2_key.specs.Pbkdf2.{output_block, output_blocks, pbkdf2, u}
+use Rattle.word_lists.specs.Lists.{xor_bytes}
+use Rattle.hmac_plain.specs.Hmac.{hmac, hmac_sha256}
 use Rattle.scrypt_plain.proofs.KeyBytes.{scrypt_bytes}
 use Rattle.yescrypt_plain.specs.declared.params.ScryptParams.{ScryptParams}
 use Rattle.yescrypt_plain.proofs.KeyBytes as of_crypt
@@ -65,7 +65,7 @@ digest_below h (suc n) =
     below_append 256 (digest_bytes h n) (to_be_bytes w32 (slice_index h n)) (digest_below h n)
     (high_first 4 (slice_index h n))
 
-code_below : (key text : List ℕ) → EachBelow 256 (hmac key text)
+code_below : (key text : List ℕ) → EachBelow 256 (hmac_sha256 key text)
 unfolding hmac sha256
 code_below key text = digest_below _ 8
 
@@ -81,27 +81,27 @@ zeros_below : (n : ℕ) → EachBelow 256 (replicate n 0)
 zeros_below zero = none_below
 zeros_below (suc n) = elim [ zero ↦ omega arith | suc i ↦ zeros_below n i ]
 
-more_below : (p s : List ℕ) (i j : ℕ) → EachBelow 256 (u hmac p s i (suc j))
+more_below : (p s : List ℕ) (i j : ℕ) → EachBelow 256 (u hmac_sha256 p s i (suc j))
 unfolding u
-more_below p s i j = code_below p (u hmac p s i j)
+more_below p s i j = code_below p (u hmac_sha256 p s i j)
 
-block_below : (p s : List ℕ) (i c : ℕ) → EachBelow 256 (output_block hmac 32 p s i c)
+block_below : (p s : List ℕ) (i c : ℕ) → EachBelow 256 (output_block hmac_sha256 32 p s i c)
 unfolding output_block
 block_below p s i zero = zeros_below 32
 block_below p s i (suc c) =
-    xor_below (output_block hmac 32 p s i c) (u hmac p s i (suc c)) (block_below p s i c) (more_below p s i c)
+    xor_below (output_block hmac_sha256 32 p s i c) (u hmac_sha256 p s i (suc c)) (block_below p s i c) (more_below p s i c)
 
-blocks_below : (p s : List ℕ) (c n : ℕ) → EachBelow 256 (output_blocks hmac 32 p s c n)
+blocks_below : (p s : List ℕ) (c n : ℕ) → EachBelow 256 (output_blocks hmac_sha256 32 p s c n)
 unfolding output_blocks
 blocks_below p s c zero = none_below
 blocks_below p s c (suc n) =
-    below_append 256 (output_blocks hmac 32 p s c n) (output_block hmac 32 p s (n + 1) c) (blocks_below p s c n)
+    below_append 256 (output_blocks hmac_sha256 32 p s c n) (output_block hmac_sha256 32 p s (n + 1) c) (blocks_below p s c n)
     (block_below p s (n + 1) c)
 
 pub pbkdf2_below : (rounds : ℕ) (password salt : List ℕ) → EachBelow 256 (pbkdf2_key rounds password salt)
 unfolding pbkdf2
 pbkdf2_below rounds password salt =
-    below-take 256 32 (output_blocks hmac 32 password salt rounds 1) (omega arith) (blocks_below password salt rounds 1)
+    below-take 256 32 (output_blocks hmac_sha256 32 password salt rounds 1) (omega arith) (blocks_below password salt rounds 1)
 
 pub pbkdf2_long : (rounds : ℕ) (password salt : List ℕ) → length (pbkdf2_key rounds password salt) ≡ 32
 pbkdf2_long rounds password salt = length-pbkdf2_sha256 password salt rounds 32

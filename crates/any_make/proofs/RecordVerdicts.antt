@@ -15,9 +15,8 @@ use Rattle.pieces.proofs.FaultLaws.{value_found}
 use Rattle.stored_check.specs.Verdict.{key_answer, parts_answer, phc_answer, same_text, scheme_of, verdict}
 use Rattle.stored_check.proofs.MadeTexts.{of_parts}
 use Rattle.any_check.specs.Records.{accepted, tag}
-use Rattle.any_check.specs.Table.{any_verdict, of_stored, text_scheme}
-use Rattle.any_check.specs.declared.scheme.AnyScheme.TheVariants.{Record}
-use Rattle.any_make.proofs.Judged.{by_row, judged}
+use Rattle.any_check.specs.Table.{any_verdict, is_record, of_stored, text_scheme}
+use Rattle.any_make.proofs.Judged.{by_record, judged}
 
 -- a text that both grammars read
 read_phc : (text : List ℕ) (p : Parts) → mcf text ≡ Ok p → phc_text text ≡ phc p.id p.fields
@@ -41,7 +40,7 @@ pub record IsPrinted (r : PasswordHash) (p : Parts) : Type 0 where
   pub name : is_identifier p.id ≡ true
   pub other : scheme_of p.id ≡ None
   pub fields : first_field_fault p.fields ≡ None
-  pub scheme : text_scheme (record_text r) ≡ Some Record
+  pub scheme : is_record (text_scheme (record_text r)) ≡ true
 
 module _ (r : PasswordHash) (p : Parts) (is : IsPrinted r p) where
   read : mcf (record_text r) ≡ Ok p
@@ -62,7 +61,7 @@ module _ (r : PasswordHash) (p : Parts) (is : IsPrinted r p) where
       → length hash ≡ 32 → accepted r salt 32 ≡ true → tag asked r salt 32 ≡ key
       → any_verdict accepted tag asked (record_text r) ≡ judged (same_text (encoding hash) (encoding key))
   on_record asked salt hash key fits salt_is hash_is size takes tags =
-      by_row asked (record_text r) Record fits is.scheme
+      by_record asked (record_text r) fits is.scheme
       ∙ ap of_stored (of_record asked fits)
       ∙ ap (λ (s : Option (List ℕ)). of_stored (key_answer accepted tag asked r s r.hash)) salt_is
       ∙ ap (λ (h : Option (List ℕ)). of_stored (key_answer accepted tag asked r (Some salt) h)) hash_is

@@ -13,15 +13,14 @@ use Rattle.argon2_plain.specs.Profile as argon2
 use Rattle.phc.specs.Encoded.{encoding}
 use Rattle.phc.specs.Params.{Pairs, pairs_text}
 use Rattle.phc.specs.Record.{record_text}
-use Rattle.pbkdf2_plain.specs.Profile as pbkdf2
+use Rattle.pbkdf2_key.specs.Profile as pbkdf2
 use Rattle.pieces.specs.Pieces.{pieces_at}
 use Rattle.scrypt_plain.specs.Bounds as scrypt_bounds
 use Rattle.scrypt_plain.specs.Profile as scrypt
 use Rattle.stored_check.specs.Verdict.{same_text}
 use Rattle.yescrypt_plain.specs.declared.params.ScryptParams.{ScryptParams}
 use Rattle.any_check.specs.Records.{accepted, tag}
-use Rattle.any_check.specs.Table.{text_scheme}
-use Rattle.any_check.specs.declared.scheme.AnyScheme.TheVariants as scheme
+use Rattle.any_check.specs.Table.{is_record, text_scheme}
 use Rattle.any_make.specs.Made.{hash_text}
 use Rattle.any_make.specs.Records.{argon2_key, argon2_params, argon2_record, pbkdf2_key, pbkdf2_record, scrypt_key, scrypt_record}
 use Rattle.any_make.specs.declared.scheme.Argon2Cost.{Argon2Cost}
@@ -78,7 +77,7 @@ module _ (c : ScryptParams) (bounds : scrypt_bounds.in_bounds c.ln c.r c.p ≡ t
       regrouped (codes "$scrypt") (36 ∷ pairs_text (three (codes "ln") (codes "r") (codes "p") c.ln c.r c.p))
       (36 ∷ encoding salt) (36 ∷ encoding key)
 
-  scrypt_scheme : (salt key : List ℕ) → text_scheme (record_text (scrypt_record c salt key)) ≡ Some scheme.Record
+  scrypt_scheme : (salt key : List ℕ) → is_record (text_scheme (record_text (scrypt_record c salt key))) ≡ true
   unfolding text_scheme pieces_at record_text
   scrypt_scheme salt key = refl
 
@@ -186,7 +185,7 @@ module _ (c : Argon2Cost) (bounds : argon2_bounds.in_bounds c.passes c.memory c.
       regrouped (codes "$argon2id$v=19") (36 ∷ pairs_text (three (codes "m") (codes "t") (codes "p") c.memory c.passes c.lanes))
       (36 ∷ encoding salt) (36 ∷ encoding key)
 
-  argon2_scheme : (salt key : List ℕ) → text_scheme (record_text (argon2_record c salt key)) ≡ Some scheme.Record
+  argon2_scheme : (salt key : List ℕ) → is_record (text_scheme (record_text (argon2_record c salt key))) ≡ true
   unfolding text_scheme pieces_at record_text
   argon2_scheme salt key = refl
 
@@ -267,7 +266,7 @@ module _ (rounds : ℕ) (least : 1 ≤ rounds) (most : rounds ≤ 10000000) wher
   pbkdf2_joined salt key =
       regrouped (codes "$pbkdf2-sha256") (36 ∷ pairs_text pbkdf2_pairs) (36 ∷ encoding salt) (36 ∷ encoding key)
 
-  pbkdf2_scheme : (salt key : List ℕ) → text_scheme (record_text (pbkdf2_record rounds salt key)) ≡ Some scheme.Record
+  pbkdf2_scheme : (salt key : List ℕ) → is_record (text_scheme (record_text (pbkdf2_record rounds salt key))) ≡ true
   unfolding text_scheme pieces_at record_text
   pbkdf2_scheme salt key = refl
 

@@ -24,8 +24,8 @@ use Rattle.stored_check.proofs.Normals.{rounds_field}
 use Rattle.stored_check.proofs.Records.{printed_is}
 use Rattle.yescrypt_plain.proofs.Fields.{field_len, field_passes}
 use Rattle.any_check.specs.Records.{accepted, tag}
-use Rattle.any_check.specs.Table.{any_verdict, of_stored, text_scheme}
-use Rattle.any_check.specs.declared.scheme.AnyScheme.TheVariants as scheme
+use Rattle.any_check.specs.Table.{any_verdict, of_stored, sha_scheme, text_scheme}
+use Rattle.any_check.proofs.Families.{sha_stored}
 use Rattle.any_make.specs.Made.{hash_text, salt_characters}
 use Rattle.any_make.specs.declared.scheme.MakeCost.TheVariants as cost
 use Rattle.any_make.proofs.Judged.{IsJudged, by_row, judged}
@@ -58,7 +58,7 @@ is_family : (family : Family) → stored.scheme_of (family_id family) ≡ Some (
 is_family Sha256 = refl
 is_family Sha512 = refl
 
-text_is : (family : Family) (f : ShaFields) → text_scheme (record_text family f) ≡ Some (scheme.ShaCrypt family)
+text_is : (family : Family) (f : ShaFields) → text_scheme (record_text family f) ≡ Some (sha_scheme family)
 unfolding text_scheme pieces_at record_text
 text_is Sha256 f = refl
 text_is Sha512 f = refl
@@ -97,7 +97,8 @@ module _ (family : Family) (password characters : List ℕ) (n : ℕ) (least : 1
   on_text asked fits =
       let fields : scheme_fields s (field_pieces f) ≡ Ok f =
       made_read s (is_scheme family) password characters n least most good in
-      by_row asked (made_text family password characters n) (scheme.ShaCrypt family) fits (text_is family f)
+      by_row asked (made_text family password characters n) (sha_scheme family) fits (text_is family f)
+      ∙ sha_stored accepted tag asked (made_text family password characters n) family
       ∙ ap of_stored
       (of_parts accepted tag asked (made_text family password characters n) p fits read
       ∙ ap (λ o. parts_answer accepted tag asked o p) (is_family family) ∙ ap (sha_answer s asked) fields)

@@ -21,7 +21,7 @@ use Rattle.yescrypt_plain.proofs.ParamFields.{text_of_params}
 use Rattle.yescrypt_plain.proofs.TextPieces.{field_lacks, lacks_dollar, params_lack, pieces_read}
 use Rattle.any_check.specs.Records.{accepted, tag}
 use Rattle.any_check.specs.Table.{any_verdict, of_yescrypt_check, text_scheme}
-use Rattle.any_check.specs.declared.scheme.AnyScheme.TheVariants as scheme
+use Rattle.scheme_list.specs.declared.schemes.Scheme.TheVariants as scheme
 use Rattle.any_make.specs.Made.{hash_text}
 use Rattle.any_make.specs.declared.scheme.MakeCost.TheVariants as cost
 use Rattle.any_make.proofs.Judged.{IsJudged, by_row, judged}

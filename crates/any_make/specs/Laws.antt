@@ -2,7 +2,7 @@
 use Rattle.std.specs.Prelude.{◌≡◌, ◌↔◌, ◌⊎◌, ◌≤◌, ℕ, Bool, true, false, List, Ok, length}
 use Rattle.base64ct.specs.Encoding.{EachBelow}
 use Rattle.bcrypt_plain.specs.Check.{has_zero}
-use Rattle.stored_check.specs.Limits.{password_max}
+use Rattle.phc_kdf.specs.Limits.{password_max}
 use Rattle.any_check.specs.Records.{accepted, tag}
 use Rattle.any_check.specs.Table.{any_verdict}
 use Rattle.any_make.specs.Costs.{is_taken, recommended, scheme_of, takes_zero}

@@ -5,7 +5,7 @@ use Rattle.argon2_plain.specs.Argon2.{argon2}
 use Rattle.argon2_plain.specs.declared.params.Params.{Params}
 use Rattle.argon2_plain.specs.declared.variant.Variant.TheVariants.{Id}
 use Rattle.phc.specs.declared.password_hash.PasswordHash.{PasswordHash}
-use Rattle.pbkdf2_plain.specs.Pbkdf2.{pbkdf2_sha256}
+use Rattle.pbkdf2_key.specs.Pbkdf2.{pbkdf2_sha256}
 use Rattle.scrypt_plain.specs.Scrypt.{scrypt}
 use Rattle.yescrypt_plain.specs.declared.params.ScryptParams.{ScryptParams}
 use Rattle.any_make.specs.declared.scheme.Argon2Cost.{Argon2Cost}

@@ -6,14 +6,14 @@ ghost use Rattle.argon2_plain.specs.Bounds as argon2_bounds;
 ghost use Rattle.phc.specs.Encoded.{encoding};
 ghost use Rattle.phc.specs.Record.{record_text};
 ghost use Rattle.scrypt_plain.specs.Bounds as scrypt_bounds;
-ghost use Rattle.stored_check.specs.Limits.{password_max};
+ghost use Rattle.phc_kdf.specs.Limits.{password_max};
 ghost use Rattle.any_make.specs.Records.{argon2_key, argon2_record, pbkdf2_key, pbkdf2_record, scrypt_key, scrypt_record};
 
 use crate::Argon2Cost;
 use crate::texts::TEXT_MAX;
 use argon2_plain::argon2;
 use base64ct::{Base64Unpadded, Encoding};
-use pbkdf2_plain::pbkdf2_sha256;
+use pbkdf2_key::pbkdf2_sha256;
 use pieces::short_bytes::ShortBytes;
 use scrypt_plain::scrypt;
 use std::alloc::{AllocError, Global};

@@ -4,7 +4,7 @@ ghost use Rattle.std.specs.Prelude.{◌≡◌, ◌≤◌, ◌+◌, ◌++◌, ◌
 ghost use Rattle.sha_crypt.specs.Limits.{pw_size_sha512, rounds_default, rounds_max, rounds_min, salt_max_len};
 ghost use Rattle.sha_crypt.specs.Records.{rounds_part};
 ghost use Rattle.sha_crypt.specs.Simple.{made_text, sha256_text, sha512_text};
-ghost use Rattle.stored_check.specs.Limits.{password_max};
+ghost use Rattle.phc_kdf.specs.Limits.{password_max};
 ghost use Rattle.any_make.specs.Made.{salt_characters};
 
 use crate::texts::TEXT_MAX;

@@ -18,7 +18,7 @@ use Rattle.argon2_plain.specs.Filling.{address_block, is_independent, reference_
 use Rattle.argon2_plain.specs.Permutation.{g, permuted_columns, permuted_rows, transposed}
 use Rattle.argon2_plain.specs.declared.fill.Plan.{Plan}
 use Rattle.argon2_plain.specs.declared.fill.Place.{Place}
-use Rattle.argon2_plain.proofs.Pieces.{length-piece, piece_put_other, piece_put_same, take-more}
+use Rattle.word_lists.proofs.Pieces.{length-piece, piece_put_other, piece_put_same, take-more}
 use Rattle.argon2_plain.proofs.Columns.{length-turned}
 use Rattle.argon2_plain.proofs.Places.{own_window, slice_product, within}
 

@@ -1,12 +1,10 @@
 -- The PHC records for which Argon2 derives a key (a profile of this crate's own), and that key.
 use Rattle.std.specs.Prelude.{ℕ, Bool, false, cond, ◌&&◌, List, [], nat_eq, nat_le, ◌==◌, length}
 use Rattle.std.specs.Prelude.{replicate, Option, Some, None, codes}
-use Rattle.std.specs.Option.{option_and_then}
 use Rattle.std.specs.Cmp.Lexicographic.{pointwise}
-use Rattle.phc.specs.Grammar.{decimal_value}
 use Rattle.phc.specs.Limits.{output_max, output_min}
-use Rattle.phc.specs.Params.{get}
 use Rattle.phc.specs.declared.password_hash.PasswordHash.{PasswordHash}
+use Rattle.phc_kdf.specs.Numbers.{number}
 use Rattle.argon2_plain.specs.Bounds.{are_in_bounds}
 use Rattle.argon2_plain.specs.Argon2.{argon2}
 use Rattle.argon2_plain.specs.declared.variant.Variant.{Variant}
@@ -24,10 +22,6 @@ variant_of name =
 abbrev pub is_version : Option ℕ → Bool
 is_version None = false
 is_version (Some v) = v == 19
-
--- the decimal with this name
-abbrev pub number : PasswordHash → List ℕ → Option ℕ
-number parsed name = option_and_then decimal_value (get parsed.params name)
 
 -- these params, where each part is there
 abbrev pub params_from : Option Variant → Option ℕ → Option ℕ → Option ℕ → Option Params

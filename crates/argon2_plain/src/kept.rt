@@ -10,9 +10,9 @@ ghost use Rattle.argon2_plain.specs.Argon2.{argon2};
 use crate::profile::taken_params;
 use crate::{Argon2Plain, FIRST_WORD, Params, argon2, argon2_in};
 use phc::PasswordHash;
+use phc_kdf::PhcKdf;
 use std::alloc::{AllocError, Global};
 use std::cell::RefCell;
-use stored_check::PhcKdf;
 
 /// Argon2 behind [`PhcKdf`], as [`Argon2Plain`], with the table of one record kept for the next.
 ///

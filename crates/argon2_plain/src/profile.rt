@@ -7,8 +7,8 @@ ghost use Rattle.argon2_plain.specs.KeyLength.{length-argon2_key};
 
 use crate::{Params, Variant, argon2};
 use phc::{ParamsString, PasswordHash};
+use phc_kdf::PhcKdf;
 use std::alloc::{AllocError, Global};
-use stored_check::PhcKdf;
 
 /// Argon2 behind [`PhcKdf`].
 ///

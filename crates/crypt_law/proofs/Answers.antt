@@ -1,9 +1,8 @@
 -- What an answer of a row says of the answer of the scheme.
 use Rattle.std.proofs.Common.{◌≡◌, Bool, Result, Ok, Err}
 use Rattle.stored_check.specs.declared.error.StoredError.{StoredError}
-use Rattle.md5_crypt.specs.declared.error.LegacyError.{LegacyError}
-use Rattle.md5_crypt.specs.declared.error.LegacyError.TheVariants as of_md5
-use Rattle.any_check.specs.Table.{of_legacy, of_stored}
+use Rattle.md5_plain.specs.declared.error.Md5Fault.{Md5Fault}
+use Rattle.any_check.specs.Table.{of_md5, of_stored}
 use Rattle.any_check.specs.declared.error.AnyError.{AnyError}
 
 abbrev pub as_any : Bool → Result Bool AnyError
@@ -12,14 +11,13 @@ as_any b = Ok b
 abbrev pub as_stored : Bool → Result Bool StoredError
 as_stored b = Ok b
 
-abbrev pub as_legacy : Bool → Result Bool LegacyError
-as_legacy b = Ok b
+abbrev pub as_md5 : Bool → Result Bool Md5Fault
+as_md5 b = Ok b
 
 pub stored_ok : (r : Result Bool StoredError) (b : Bool) → of_stored r ≡ as_any b → r ≡ as_stored b
 stored_ok (Ok x) b h = cc
 stored_ok (Err e) b h = cc
 
-pub legacy_ok : (r : Result Bool LegacyError) (b : Bool) → of_legacy r ≡ as_any b → r ≡ as_legacy b
-legacy_ok (Ok x) b h = cc
-legacy_ok (Err (of_md5.Md5 e)) b h = cc
-legacy_ok (Err (of_md5.Stored e)) b h = cc
+pub md5_ok : (r : Result Bool Md5Fault) (b : Bool) → of_md5 r ≡ as_any b → r ≡ as_md5 b
+md5_ok (Ok x) b h = cc
+md5_ok (Err e) b h = cc

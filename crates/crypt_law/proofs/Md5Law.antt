@@ -15,17 +15,17 @@ use Rattle.pieces.specs.Lists.{is_empty}
 use Rattle.pieces.specs.Pieces.{EachLacks, pieces_at}
 use Rattle.pieces.proofs.Cuts.{join_pieces, pieces_lack}
 use Rattle.pieces.proofs.ListLaws.{nil_of_empty}
-use Rattle.md5_crypt.specs.Digest.{md5_crypt_digest}
-use Rattle.md5_crypt.specs.Field.{md5_field}
-use Rattle.md5_crypt.specs.Verdict.{Md5Fields, checked_fields, legacy_text_answer, legacy_verdict, md5_answer, md5_fields, split_fields}
-use Rattle.md5_crypt.specs.declared.error.Md5Fault.{Md5Fault}
-use Rattle.md5_crypt.specs.declared.magic.Magic.TheVariants.{Md5}
+use Rattle.md5_plain.specs.Digest.{md5_crypt_digest}
+use Rattle.md5_plain.specs.Field.{md5_field}
+use Rattle.md5_plain.specs.Verdict.{Md5Fields, checked_fields, fields_verdict, md5_fields, md5_verdict, split_fields}
+use Rattle.md5_plain.specs.declared.error.Md5Fault.{Md5Fault}
+use Rattle.md5_plain.specs.declared.magic.Magic.TheVariants.{Md5}
 use Rattle.sha_crypt.specs.HashField.{is_hash_field}
-use Rattle.any_check.specs.Table.{any_verdict, text_scheme}
-use Rattle.any_check.specs.declared.scheme.AnyScheme.TheVariants.{Md5Crypt}
+use Rattle.any_check.specs.Table.{any_verdict, md5_answer, of_md5, text_scheme}
+use Rattle.scheme_list.specs.declared.schemes.Scheme.TheVariants.{Md5Crypt}
 use Rattle.crypt_text.specs.Settings.{method_of, md5_salt}
 use Rattle.crypt_text.specs.Texts.{crypt_text, md5_text, method_text}
-use Rattle.crypt_law.proofs.Answers.{as_any, as_legacy, legacy_ok}
+use Rattle.crypt_law.proofs.Answers.{as_any, as_md5, md5_ok}
 use Rattle.crypt_law.proofs.Clean.{mcf_of_fault, valid_clean}
 use Rattle.crypt_law.proofs.Cuts.{before_cut}
 use Rattle.crypt_law.proofs.Prefixes.{crypt_is, ok_text, row_is}
@@ -107,47 +107,41 @@ pub record HasFields (phrase rest : List ℕ) (b : Bool) : Type 0 where
   pub told : pointwise nat_eq (md5_field (md5_crypt_digest phrase fields.salt Md5)) fields.hash ≡ b
   pub valid : fault (whole rest) ≡ None
 
-bool_same : (a b : Bool) → as_legacy a ≡ as_legacy b → a ≡ b
+bool_same : (a b : Bool) → as_md5 a ≡ as_md5 b → a ≡ b
 bool_same a b h = cc
 
+by_fields : (phrase rest : List ℕ) (r : Result Md5Fields Md5Fault) (b : Bool)
+    → md5_fields (pieces_at 36 rest) ≡ r → fault (whole rest) ≡ None
+    → fields_verdict Md5 phrase r ≡ as_md5 b → HasFields phrase rest b
+by_fields phrase rest (Err e) b is valid h = cc
+by_fields phrase rest (Ok f) b is valid h =
+    record { fields = f; are = is; told = bool_same _ b h; valid = valid }
+
+fields_are : (phrase rest : List ℕ) (b : Bool) → fault (whole rest) ≡ None
+    → md5_verdict Md5 phrase (pieces_at 36 rest) ≡ as_md5 b → HasFields phrase rest b
+unfolding md5_verdict
+fields_are phrase rest b valid h = by_fields phrase rest (md5_fields (pieces_at 36 rest)) b refl valid h
+
+parts_is : (phrase rest : List ℕ)
+    → md5_answer phrase (Ok (parts (whole rest))) ≡ of_md5 (md5_verdict Md5 phrase (pieces_at 36 rest))
+unfolding pieces_at
+parts_is phrase rest = refl
+
+by_fault : (phrase rest : List ℕ) (o : Option mcf_error.Error) (b : Bool) → fault (whole rest) ≡ o
+    → md5_answer phrase (mcf (whole rest)) ≡ as_any b → HasFields phrase rest b
+by_fault phrase rest (Some e) b is h =
+    let none = sym (ap (md5_answer phrase) (mcf_of_fault (whole rest) e is)) ∙ h in cc
+by_fault phrase rest None b is h =
+    fields_are phrase rest b is
+    (md5_ok (md5_verdict Md5 phrase (pieces_at 36 rest)) b
+    (sym (ap (md5_answer phrase) (mcf_of_valid (whole rest) is) ∙ parts_is phrase rest) ∙ h))
+
 module _ (accepted : PasswordHash → List ℕ → ℕ → Bool) (tag : List ℕ → PasswordHash → List ℕ → ℕ → List ℕ) where
-  by_fields : (phrase rest : List ℕ) (r : Result Md5Fields Md5Fault) (b : Bool)
-      → md5_fields (pieces_at 36 rest) ≡ r → fault (whole rest) ≡ None
-      → md5_answer Md5 phrase r ≡ as_legacy b → HasFields phrase rest b
-  by_fields phrase rest (Err e) b is valid h = cc
-  by_fields phrase rest (Ok f) b is valid h =
-      record { fields = f; are = is; told = bool_same _ b h; valid = valid }
-
-  parts_is : (phrase rest : List ℕ)
-      → legacy_text_answer accepted tag phrase (whole rest) (Ok (parts (whole rest)))
-      ≡ md5_answer Md5 phrase (md5_fields (pieces_at 36 rest))
-  unfolding pieces_at
-  parts_is phrase rest = refl
-
-  by_fault : (phrase rest : List ℕ) (o : Option mcf_error.Error) (b : Bool) → fault (whole rest) ≡ o
-      → legacy_text_answer accepted tag phrase (whole rest) (mcf (whole rest)) ≡ as_legacy b → HasFields phrase rest b
-  by_fault phrase rest (Some e) b is h =
-      let none =
-      sym (ap (legacy_text_answer accepted tag phrase (whole rest)) (mcf_of_fault (whole rest) e is)) ∙ h in cc
-  by_fault phrase rest None b is h =
-      by_fields phrase rest (md5_fields (pieces_at 36 rest)) b refl is
-      (sym (ap (legacy_text_answer accepted tag phrase (whole rest)) (mcf_of_valid (whole rest) is) ∙ parts_is phrase rest)
-      ∙ h)
-
-  answer_is : (phrase text : List ℕ) → length phrase ≤ 511
-      → legacy_verdict accepted tag phrase text ≡ legacy_text_answer accepted tag phrase text (mcf text)
-  unfolding legacy_verdict
-  answer_is phrase text short =
-      let fits : nat_lt 4096 (length phrase) ≡ false = grind (arith, nat_tests, short) in
-      rw fits refl
-
   fields_of : (phrase rest : List ℕ) (b : Bool) → length phrase ≤ 511
       → any_verdict accepted tag phrase (whole rest) ≡ as_any b → HasFields phrase rest b
   fields_of phrase rest b short h =
-      let legacy : legacy_verdict accepted tag phrase (whole rest) ≡ as_legacy b =
-      legacy_ok (legacy_verdict accepted tag phrase (whole rest)) b
-      (sym (row_is accepted tag phrase (whole rest) Md5Crypt short (scheme_is rest)) ∙ h) in
-      by_fault phrase rest (fault (whole rest)) b refl (sym (answer_is phrase (whole rest) short) ∙ legacy)
+      by_fault phrase rest (fault (whole rest)) b refl
+      (sym (row_is accepted tag phrase (whole rest) Md5Crypt short (scheme_is rest)) ∙ h)
 
   -- ---- the text
 

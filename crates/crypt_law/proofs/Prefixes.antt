@@ -7,7 +7,7 @@ use Rattle.std.proofs.lemmas.List.{take-append-drop}
 use Rattle.base64ct.proofs.DecodingLaws.{same_true}
 use Rattle.phc.specs.declared.password_hash.PasswordHash.{PasswordHash}
 use Rattle.any_check.specs.Table.{any_verdict, row, text_scheme}
-use Rattle.any_check.specs.declared.scheme.AnyScheme.{AnyScheme}
+use Rattle.scheme_list.specs.declared.schemes.Scheme.{Scheme}
 use Rattle.crypt_text.specs.Settings.{begins, has_refused, method_of}
 use Rattle.crypt_text.specs.Texts.{Answer, crypt_text, method_text}
 
@@ -39,7 +39,7 @@ crypt_taken phrase text t short h =
     taken_by phrase text t (has_refused text) refl fits h
 
 module _ (accepted : PasswordHash → List ℕ → ℕ → Bool) (tag : List ℕ → PasswordHash → List ℕ → ℕ → List ℕ) where
-  pub row_is : (phrase text : List ℕ) (scheme : AnyScheme) → length phrase ≤ 511 → text_scheme text ≡ Some scheme
+  pub row_is : (phrase text : List ℕ) (scheme : Scheme) → length phrase ≤ 511 → text_scheme text ≡ Some scheme
       → any_verdict accepted tag phrase text ≡ row accepted tag scheme phrase text
   unfolding any_verdict
   row_is phrase text scheme short is =

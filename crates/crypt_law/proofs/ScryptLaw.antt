@@ -32,7 +32,7 @@ use Rattle.yescrypt_plain.proofs.ScryptParamFields.{scrypt_params_read, scrypt_s
 use Rattle.yescrypt_plain.proofs.ScryptTexts.{text_is}
 use Rattle.yescrypt_plain.proofs.TextPieces.{field_lacks}
 use Rattle.any_check.specs.Table.{any_verdict, of_scrypt_check, text_scheme}
-use Rattle.any_check.specs.declared.scheme.AnyScheme.TheVariants.{Scrypt}
+use Rattle.scheme_list.specs.declared.schemes.Scheme.TheVariants.{ScryptCrypt}
 use Rattle.crypt_text.specs.Settings.{ScryptSetting, are_salt_bytes, is_dollar, method_of, scrypt_setting}
 use Rattle.crypt_text.specs.Texts as crypt
 use Rattle.crypt_text.specs.Texts.{crypt_text, if_setting, method_text}
@@ -46,7 +46,7 @@ use Rattle.crypt_law.proofs.Prefixes.{crypt_is, ok_text, row_is}
 abbrev pub whole : List ℕ → List ℕ
 whole rest = 36 ∷ (55 ∷ (36 ∷ rest))
 
-scheme_is : (rest : List ℕ) → text_scheme (whole rest) ≡ Some Scrypt
+scheme_is : (rest : List ℕ) → text_scheme (whole rest) ≡ Some ScryptCrypt
 unfolding text_scheme pieces_at
 scheme_is rest = refl
 
@@ -194,7 +194,7 @@ module _ (accepted : PasswordHash → List ℕ → ℕ → Bool) (tag : List ℕ
   scrypt_law phrase rest matches short fits h =
       let text : List ℕ = whole rest in
       let answer = told_of phrase text matches short
-      (sym (row_is accepted tag phrase text Scrypt short (scheme_is rest)) ∙ h) in
+      (sym (row_is accepted tag phrase text ScryptCrypt short (scheme_is rest)) ∙ h) in
       let m = answer.means in
       let found = text_is text m answer.read in
       let hash_small = hash_below text m answer.read in

@@ -22,8 +22,8 @@ use Rattle.sha_crypt.specs.declared.errors.Family.{Family}
 use Rattle.sha_crypt.specs.declared.errors.Family.TheVariants.{Sha256, Sha512}
 use Rattle.sha_crypt.proofs.Spellings.{prints_back}
 use Rattle.stored_check.specs.Verdict.{sha_answer, text_answer, verdict}
-use Rattle.any_check.specs.Table.{any_verdict, text_scheme}
-use Rattle.any_check.specs.declared.scheme.AnyScheme.TheVariants.{ShaCrypt}
+use Rattle.any_check.specs.Table.{any_verdict, sha_scheme, text_scheme}
+use Rattle.any_check.proofs.Families.{sha_stored}
 use Rattle.crypt_text.specs.Settings.{method_of, sha_setting}
 use Rattle.crypt_text.specs.Texts.{crypt_text, if_setting, method_text, sha_text}
 use Rattle.crypt_law.proofs.Answers.{as_any, as_stored, stored_ok}
@@ -36,7 +36,7 @@ abbrev pub whole : Family → List ℕ → List ℕ
 whole Sha256 rest = 36 ∷ (53 ∷ (36 ∷ rest))
 whole Sha512 rest = 36 ∷ (54 ∷ (36 ∷ rest))
 
-pub scheme_is : (family : Family) (rest : List ℕ) → text_scheme (whole family rest) ≡ Some (ShaCrypt family)
+pub scheme_is : (family : Family) (rest : List ℕ) → text_scheme (whole family rest) ≡ Some (sha_scheme family)
 unfolding text_scheme pieces_at
 scheme_is Sha256 rest = refl
 scheme_is Sha512 rest = refl
@@ -111,7 +111,8 @@ module _ (accepted : PasswordHash → List ℕ → ℕ → Bool) (tag : List ℕ
   fields_of family phrase rest b short h =
       let stored : verdict accepted tag phrase (whole family rest) ≡ as_stored b =
       stored_ok (verdict accepted tag phrase (whole family rest)) b
-      (sym (row_is accepted tag phrase (whole family rest) (ShaCrypt family) short (scheme_is family rest)) ∙ h) in
+      (sym (sha_stored accepted tag phrase (whole family rest) family)
+      ∙ sym (row_is accepted tag phrase (whole family rest) (sha_scheme family) short (scheme_is family rest)) ∙ h) in
       by_fault family phrase rest (fault (whole family rest)) b refl
       (sym (answer_is phrase (whole family rest) short) ∙ stored)
 

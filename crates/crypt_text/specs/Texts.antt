@@ -4,9 +4,9 @@ use Rattle.std.specs.Prelude.{◌≡◌, ◌⊎◌, ℕ, ◌^◌, ◌&&◌, Bool
 use Rattle.std.specs.Prelude.{Option, Some, None, Result, Ok, Err, is_ok, if◌then◌else◌, codes}
 use Rattle.bcrypt_plain.specs.Bcrypt.{bcrypt}
 use Rattle.bcrypt_plain.specs.Made.{text_of}
-use Rattle.md5_crypt.specs.Digest.{md5_crypt_digest}
-use Rattle.md5_crypt.specs.Field.{md5_field}
-use Rattle.md5_crypt.specs.declared.magic.Magic.TheVariants.{Md5}
+use Rattle.md5_plain.specs.Digest.{md5_crypt_digest}
+use Rattle.md5_plain.specs.Field.{md5_field}
+use Rattle.md5_plain.specs.declared.magic.Magic.TheVariants.{Md5}
 use Rattle.scrypt_plain.specs.Scrypt.{scrypt}
 use Rattle.sha_crypt.specs.Digest.{sha_crypt_digest}
 use Rattle.sha_crypt.specs.Families.{Scheme}

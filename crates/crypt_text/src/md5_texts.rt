@@ -7,7 +7,7 @@ ghost use Rattle.crypt_text.specs.Texts.{md5_text};
 
 use crate::TEXT_MAX;
 use crate::bytes::{before_dollar, front};
-use md5_crypt::{Magic, encode_md5, md5_crypt};
+use md5_plain::{Magic, encode_md5, md5_crypt};
 use pieces::short_bytes::ShortBytes;
 
 // The salt: its first 8 bytes.

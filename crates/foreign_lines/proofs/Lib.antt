@@ -1,3 +1,2 @@
 mod Handing
-mod Joins
 mod Verdicts

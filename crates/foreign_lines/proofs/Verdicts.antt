@@ -1,7 +1,7 @@
 -- The verdict on a text of PBKDF2 that a converter makes.
 use Rattle.std.proofs.Common.{◌≡◌, ℕ, ◌^◌, ◌<◌, ◌≤◌, true, false, List, [], ◌∷◌, ◌++◌, length, refl, sym, ap, ◌∙◌}
 use Rattle.std.proofs.Common.{append-nil, append_assoc, arith, Ok}
-use Rattle.std.specs.Prelude.{codes, nat_le, nat_lt, Option, Some, None}
+use Rattle.std.specs.Prelude.{codes, nat_le, nat_lt, Some, None}
 use Rattle.std.specs.Char.{is_ascii_digit}
 use Rattle.std.specs.Fmt.{decimal}
 use Rattle.std.proofs.lemmas.Bool.Decides.{nat_tests}
@@ -17,13 +17,13 @@ use Rattle.phc.specs.Grammar.{decimal_value, is_value_byte}
 use Rattle.phc.specs.Record.{phc, phc_of_pieces, phc_text, record_text}
 use Rattle.phc.proofs.Characters.{all_weaker, decimal_digits, encoding_value}
 use Rattle.phc.proofs.EncodedBytes.{encoded_length}
-use Rattle.pbkdf2_plain.specs.Profile.{pbkdf2_accepts, pbkdf2_key, pbkdf2_with}
+use Rattle.pbkdf2_key.specs.Profile.{pbkdf2_accepts, pbkdf2_key, pbkdf2_with}
 use Rattle.stored_check.specs.Verdict.{parts_answer, phc_answer, same_text, scheme_of, verdict}
 use Rattle.stored_check.proofs.MadeTexts.{of_parts}
 use Rattle.any_check.specs.Records.{accepted, tag}
-use Rattle.any_check.specs.Table.{any_verdict, of_stored, scheme_answer, scheme_named, text_scheme}
-use Rattle.any_check.specs.declared.scheme.AnyScheme.{AnyScheme}
-use Rattle.any_check.specs.declared.scheme.AnyScheme.TheVariants.{Record}
+use Rattle.any_check.specs.Table.{any_verdict, is_record, of_stored, text_scheme}
+use Rattle.any_check.proofs.Families.{record_stored}
+use Rattle.scheme_list.specs.Schemes.{scheme_named}
 use Rattle.foreign_text.specs.Laws.{AreHeld}
 use Rattle.foreign_text.specs.Pbkdf2.{identifier, pbkdf2_record, pbkdf2_text}
 use Rattle.foreign_text.specs.declared.pbkdf2.Pbkdf2Hash.{Pbkdf2Hash}
@@ -91,7 +91,7 @@ no_family : (hash : Pbkdf2Hash) → scheme_of (identifier hash) ≡ None
 no_family Sha256 = refl
 no_family Sha512 = refl
 
-named_record : (hash : Pbkdf2Hash) → scheme_named (identifier hash) ≡ Some Record
+named_record : (hash : Pbkdf2Hash) → is_record (scheme_named (identifier hash)) ≡ true
 named_record Sha256 = refl
 named_record Sha512 = refl
 
@@ -132,9 +132,9 @@ module _ (rounds : ℕ) (salt key : List ℕ) (held : AreHeld rounds salt key) w
         ap mcf (sym (printed hash rounds salt key))
         ∙ mcf-parts_text (made_parts hash rounds salt key) (id_good hash) good
 
-    is_record : phc (identifier hash) ((105 ∷ 61 ∷ decimal rounds) ∷ encoding salt ∷ encoding key ∷ [])
+    record_read : phc (identifier hash) ((105 ∷ 61 ∷ decimal rounds) ∷ encoding salt ∷ encoding key ∷ [])
         ≡ Ok (pbkdf2_record hash rounds salt key)
-    is_record =
+    record_read =
         sym (read_phc (pbkdf2_text hash rounds salt key) (made_parts hash rounds salt key) made_read)
         ∙ read_again hash rounds salt key held
 
@@ -145,7 +145,7 @@ module _ (rounds : ℕ) (salt key : List ℕ) (held : AreHeld rounds salt key) w
         let made : Parts = made_parts hash rounds salt key in
         of_parts accepted tag password (pbkdf2_text hash rounds salt key) made fits made_read
         ∙ ap (λ s. parts_answer accepted tag password s made) (no_family hash)
-        ∙ ap (phc_answer accepted tag password) is_record
+        ∙ ap (phc_answer accepted tag password) record_read
         ∙ rw (accepts hash least most)
         (ap (λ (t : List ℕ). Ok (same_text (encoding key) (encoding t))) (tags hash password))
 
@@ -156,10 +156,10 @@ module _ (rounds : ℕ) (salt key : List ℕ) (held : AreHeld rounds salt key) w
     of_key_of password least most fits =
         let test : nat_lt 4096 (length password) ≡ false = grind (arith, nat_tests, fits) in
         let text : List ℕ = pbkdf2_text hash rounds salt key in
-        let scheme : text_scheme text ≡ Some Record =
-        named text (made_parts hash rounds salt key) made_read ∙ named_record hash in
+        let scheme : is_record (text_scheme text) ≡ true =
+        ap is_record (named text (made_parts hash rounds salt key) made_read) ∙ named_record hash in
         rw test
-        (ap (λ (s : Option AnyScheme). scheme_answer accepted tag s password text) scheme
+        (record_stored accepted tag password text (text_scheme text) scheme
         ∙ ap of_stored (stored_verdict password least most fits))
 
 pub of_key : (hash : Pbkdf2Hash) (rounds : ℕ) (salt key : List ℕ) → AreHeld rounds salt key → (password : List ℕ)

@@ -1,10 +1,10 @@
 -- A law over the definitions: what a converted text of PBKDF2 answers.
 use Rattle.std.specs.Prelude.{◌≡◌, ℕ, ◌≤◌, List, length, Ok}
 use Rattle.phc.specs.Encoded.{encoding}
-use Rattle.pbkdf2_plain.specs.Profile.{pbkdf2_with}
-use Rattle.pbkdf2_plain.specs.declared.profile.Pbkdf2Hash as derived
-use Rattle.pbkdf2_plain.specs.declared.profile.Pbkdf2Hash.TheVariants as with
-use Rattle.stored_check.specs.Limits.{password_max}
+use Rattle.pbkdf2_key.specs.Profile.{pbkdf2_with}
+use Rattle.pbkdf2_key.specs.declared.profile.Pbkdf2Hash as derived
+use Rattle.pbkdf2_key.specs.declared.profile.Pbkdf2Hash.TheVariants as with
+use Rattle.phc_kdf.specs.Limits.{password_max}
 use Rattle.stored_check.specs.Verdict.{same_text}
 use Rattle.any_check.specs.Records.{accepted, tag}
 use Rattle.any_check.specs.Table.{any_verdict}

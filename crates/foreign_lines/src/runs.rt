@@ -1,10 +1,7 @@
 //! Runs over one file.
 
 ghost use Rattle.std.specs.Prelude.{◌≡◌, ◌≢◌, ◌≤◌, ◌^◌};
-ghost use Rattle.line_io.specs.Devices.{WhereTold};
-ghost use Rattle.line_program.specs.Outcome.{Outcome};
-ghost use Rattle.line_state.specs.Outcome.{EndedOutcome};
-ghost use Rattle.pieces.specs.FaultCounts.{HasRisen};
+ghost use Rattle.line_program.specs.Outcome.{EndedOutcome, Outcome, RunTold};
 ghost use Rattle.shadow_survey.specs.Rows.{ending_text};
 ghost use Rattle.shadow_survey.specs.Rules.{survey_rules};
 ghost use Rattle.foreign_lines.specs.Rules.{foreign_state};
@@ -12,19 +9,18 @@ ghost use Rattle.foreign_lines.specs.Runs.{foreign_rules, foreign_user_rules};
 
 use crate::lines::ForeignLines;
 use crate::parts::LineForm;
-use any_check::{AnyLines, CostLimits};
+use any_check::CostLimits;
 use foreign_text::Foreign;
 use line_io::{Sink, Source};
-use line_program::run_lines;
-use line_state::run_ended;
-use shadow_check::UserLines;
+use line_program::{run_ended, run_lines};
+use shadow_check::{AnyLines, UserLines};
 use shadow_survey::SurveyLines;
 use std::alloc::Global;
 
 /// Answers each line of a source of at most `max` bytes with its word, and gives the status.
 ///
 /// A line is a password, a tab and a stored text in a foreign spelling. Where the text isn't converted, the word of the
-/// cause (`ForeignFault::word`) is written; else the answer is that of `any_check::run_any` to the line with the stored
+/// cause (`ForeignFault::word`) is written; else the answer is that of `shadow_check::run_any` to the line with the stored
 /// text. Statuses and memory are those of `run_any`.
 pub fn run_foreign<S: Source, K: Sink>(
     alloc: Global,
@@ -35,10 +31,7 @@ pub fn run_foreign<S: Source, K: Sink>(
     max: u64,
 ) -> u8
     requires bound { max ≤ 2 ^ 40 }
-    ensures statuses { (result ≤ 6) × (result ≢ 2) }
-    ensures read_fault { result ≡ 3 → HasRisen (S.faults source.old) (S.faults source.new) }
-    ensures write_fault { result ≡ 4 → HasRisen (K.faults sink.old) (K.faults sink.new) }
-    ensures outcome { WhereTold (S.left source.old) (S.left source.new) (K.written sink.old) (K.written sink.new)
+    ensures told { RunTold S.left S.faults source.old source.new K.written K.faults sink.old sink.new result
         (λ held taken added. Outcome (foreign_rules foreign limits) result max held taken added) }
 {
     let mut lines = ForeignLines {
@@ -60,10 +53,7 @@ pub fn run_foreign_users<S: Source, K: Sink>(
     max: u64,
 ) -> u8
     requires bound { max ≤ 2 ^ 40 }
-    ensures statuses { (result ≤ 6) × (result ≢ 2) }
-    ensures read_fault { result ≡ 3 → HasRisen (S.faults source.old) (S.faults source.new) }
-    ensures write_fault { result ≡ 4 → HasRisen (K.faults sink.old) (K.faults sink.new) }
-    ensures outcome { WhereTold (S.left source.old) (S.left source.new) (K.written sink.old) (K.written sink.new)
+    ensures told { RunTold S.left S.faults source.old source.new K.written K.faults sink.old sink.new result
         (λ held taken added. Outcome (foreign_user_rules foreign limits) result max held taken added) }
 {
     let mut lines = ForeignLines {
@@ -86,10 +76,7 @@ pub fn run_foreign_survey<S: Source, K: Sink>(
     max: u64,
 ) -> u8
     requires bound { max ≤ 2 ^ 40 }
-    ensures statuses { (result ≤ 6) × (result ≢ 2) }
-    ensures read_fault { result ≡ 3 → HasRisen (S.faults source.old) (S.faults source.new) }
-    ensures write_fault { result ≡ 4 → HasRisen (K.faults sink.old) (K.faults sink.new) }
-    ensures outcome { WhereTold (S.left source.old) (S.left source.new) (K.written sink.old) (K.written sink.new)
+    ensures told { RunTold S.left S.faults source.old source.new K.written K.faults sink.old sink.new result
         (λ held taken added. EndedOutcome
         (foreign_state (λ s. s.foreign) (λ s. s.form) (λ s. s.inner) (λ s i. record s { inner = i }) survey_rules)
         (λ s. ending_text s.inner.format s.inner.counts) lines.old result max held taken added) }

@@ -2,12 +2,11 @@
 
 use any_check::CostLimits;
 use foreign_lines::{
-    ForeignLines, LineForm, run_foreign, run_foreign_join, run_foreign_join_fewer,
-    run_foreign_survey, run_foreign_users,
+    ForeignJoin, ForeignLines, LineForm, run_foreign, run_foreign_survey, run_foreign_users,
 };
 use foreign_text::Foreign;
 use line_io::{MemorySink, MemorySource};
-use shadow_check::JoinEnd;
+use shadow_check::{JoinEnd, run_join, run_join_fewer};
 use shadow_survey::{Format, LeastCosts, SurveyLines};
 use std::hash::RandomState;
 use std::test::Fail;
@@ -137,11 +136,15 @@ fn users_beside_passwords(rt: HostRuntime) -> Result<(), Fail> {
     let mut passwords = MemorySource::new(PASSWORDS, 9, &[]);
     let mut texts = MemorySource::new(TEXTS, 9, &[]);
     let mut sink = MemorySink::new(&mut room, 256, &[]);
-    let end = run_foreign_join(
+    let joining = ForeignJoin {
+        alloc: rt.alloc(),
+        foreign: Foreign::Ldap,
+        limits: None,
+    };
+    let end = run_join(
         rt.alloc(),
         RandomState::new(&rt)?,
-        Foreign::Ldap,
-        None,
+        &joining,
         &mut passwords,
         &mut texts,
         &mut sink,
@@ -159,11 +162,15 @@ fn users_read_first(rt: HostRuntime) -> Result<(), Fail> {
     let mut passwords = MemorySource::new(PASSWORDS, 9, &[]);
     let mut texts = MemorySource::new(TEXTS, 9, &[]);
     let mut sink = MemorySink::new(&mut room, 256, &[]);
-    let end = run_foreign_join_fewer(
+    let joining = ForeignJoin {
+        alloc: rt.alloc(),
+        foreign: Foreign::Ldap,
+        limits: None,
+    };
+    let end = run_join_fewer(
         rt.alloc(),
         RandomState::new(&rt)?,
-        Foreign::Ldap,
-        None,
+        &joining,
         &mut users,
         &mut passwords,
         &mut texts,

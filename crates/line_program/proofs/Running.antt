@@ -1,7 +1,7 @@
 -- What a run over lines has answered.
 use Rattle.std.proofs.Common.{◌≡◌, ℕ, ◌<◌, ◌≤◌, ◌+◌, ◌-◌, Bool, true, false, List, [], ◌∷◌, ◌++◌, length, take, Option}
 use Rattle.std.proofs.Common.{Some}
-use Rattle.std.proofs.Common.{Err, refl, sym, ap, ◌∙◌, append_assoc}
+use Rattle.std.proofs.Common.{Result, Ok, Err, refl, sym, ap, ◌∙◌, append_assoc, arith}
 use Rattle.std.specs.Prelude.{◌&&◌, if◌then◌else◌, slice_get}
 use Rattle.std.specs.Io.KnownBytes.{Appends, Consumes}
 use Rattle.line_io.specs.Buffer.{pending, taken}
@@ -15,6 +15,7 @@ use Rattle.line_io.proofs.Runs.{LinesGiven, OneMore, run_start, run_first, run_e
 use Rattle.line_io.proofs.Runs.{call_bounded, run_bounded}
 use Rattle.line_program.specs.Next.{NextReply, TakesLine}
 use Rattle.line_program.specs.Outcome.{Outcome, StoppedForMemory, output}
+use Rattle.line_program.specs.Outcome.{StateOutcome}
 use Rattle.line_io.specs.Output.{Puts, has_failed, waiting}
 use Rattle.line_program.specs.Rules.{StateRules, after_lines, all_good, from_state, replies}
 use Rattle.line_io.specs.declared.output.OutputBuffer.{OutputBuffer}
@@ -60,8 +61,14 @@ at_line : (ls more : List (List ℕ)) (l : List ℕ) → (take (length ls) (ls +
 at_line [] more l = (refl, refl)
 at_line (x ∷ ls) more l = let p = at_line ls more l in (ap (λ xs. x ∷ xs) p.0, p.1)
 
-module _ {St : Type 0} (r : StateRules St) (s : St) (left left_mid left_now written written_now : Option (List ℕ))
-    (before now : LineBuffer) (max : ℕ) (done : List (List ℕ)) where
+-- where the input wasn't read to its end nothing is said of the state
+other_row : {St : Type 0} (r : StateRules St) (s s_now : St) (status max : ℕ) (held given added : List ℕ) → 1 < status
+    → Outcome (from_state r s) status max held given added → StateOutcome r s s_now status max held given added
+other_row r s s_now status max held given added high o = (o, λ h. absurd (omega arith))
+
+module _ {St : Type 0} (r : StateRules St) (s s_now : St)
+    (left left_mid left_now written written_now : Option (List ℕ)) (before now : LineBuffer) (max : ℕ)
+    (done : List (List ℕ)) where
   -- what was added is the beginning of the output
   beginning : (held part : List ℕ) → (g : LinesGiven left left_mid before max done) → left ≡ Some held
       → IsPrefix part (replies r s done) → IsPrefix part (output (from_state r s) held)
@@ -71,68 +78,70 @@ module _ {St : Type 0} (r : StateRules St) (s : St) (left left_mid left_now writ
       rw more.1 (replies-prefix r s done more.0 part p)
 
   -- the end of the input
-  pub outcome_end : (status : ℕ) (all : Bool) → LinesGiven left left_mid before max done
+  pub outcome_end : (status : ℕ) (all : Bool) → s_now ≡ after_lines r s done → LinesGiven left left_mid before max done
       → IsCall lines_of.TheVariants.End left_mid left_now before now
       → Appends written written_now (replies r s done) → all ≡ all_good r s done → status ≤ 1
       → status ≡ (if all then 0 else 1)
       → WhereTold left left_now written written_now
-      (λ held taken added. Outcome (from_state r s) status max held taken added)
-  outcome_end status all g c added good low is =
+      (λ held taken added. StateOutcome r s s_now status max held taken added)
+  outcome_end status all state g c added good low is =
       told left left_now written written_now (g.bytes ++ c.takes.bytes) (replies r s done)
-      (λ held taken added. Outcome (from_state r s) status max held taken added)
+      (λ held taken added. StateOutcome r s s_now status max held taken added)
       (consumes_more left left_mid left_now g.bytes c.takes.bytes g.consumed c.takes.consumed) added
       (λ held rest d e k.
-      let end = run_end left left_mid left_now before now max done g c held rest e k in
-      row_done (from_state r s) status max held (g.bytes ++ c.takes.bytes) (replies r s done) low end.0 end.1
-      (ap (replies r s) (sym end.2))
-      (is ∙ ap (λ (b : Bool). if b then 0 else 1) (good ∙ ap (all_good r s) (sym end.2))))
+      let end = run_end left left_mid left_now before now max done g c held rest e k in (
+        row_done (from_state r s) status max held (g.bytes ++ c.takes.bytes) (replies r s done) low end.0 end.1
+            (ap (replies r s) (sym end.2))
+            (is ∙ ap (λ (b : Bool). if b then 0 else 1) (good ∙ ap (all_good r s) (sym end.2))),
+        λ h. state ∙ ap (after_lines r s) (sym end.2),
+      ))
 
   -- a read failed
   pub outcome_failed : LinesGiven left left_mid before max done
       → IsCall lines_of.TheVariants.Failed left_mid left_now before now
       → Appends written written_now (replies r s done)
       → WhereTold left left_now written written_now
-      (λ held taken added. Outcome (from_state r s) 3 max held taken added)
+      (λ held taken added. StateOutcome r s s_now 3 max held taken added)
   outcome_failed g c added =
       told left left_now written written_now (g.bytes ++ c.takes.bytes) (replies r s done)
-      (λ held taken added. Outcome (from_state r s) 3 max held taken added)
+      (λ held taken added. StateOutcome r s s_now 3 max held taken added)
       (consumes_more left left_mid left_now g.bytes c.takes.bytes g.consumed c.takes.consumed) added
       (λ held rest d e k.
-      row_read_fault (from_state r s) max held (g.bytes ++ c.takes.bytes) (replies r s done)
+      other_row r s s_now 3 max held _ _ (omega arith) (row_read_fault (from_state r s) max held (g.bytes ++ c.takes.bytes) (replies r s done)
       (call_bounded lines_of.TheVariants.Failed left left_mid left_now before now max done g c)
       (ap (replies r s) (sym (run_failed left left_mid left_now before now max done g c)))
-      (beginning held (replies r s done) g d (prefix_same (replies r s done))))
+      (beginning held (replies r s done) g d (prefix_same (replies r s done)))))
 
   -- more than max bytes
   pub outcome_budget : LinesGiven left left_mid before max done
       → IsCall lines_of.TheVariants.Budget left_mid left_now before now
       → Appends written written_now (replies r s done)
       → WhereTold left left_now written written_now
-      (λ held taken added. Outcome (from_state r s) 6 max held taken added)
+      (λ held taken added. StateOutcome r s s_now 6 max held taken added)
   outcome_budget g c added =
       told left left_now written written_now (g.bytes ++ c.takes.bytes) (replies r s done)
-      (λ held taken added. Outcome (from_state r s) 6 max held taken added)
+      (λ held taken added. StateOutcome r s s_now 6 max held taken added)
       (consumes_more left left_mid left_now g.bytes c.takes.bytes g.consumed c.takes.consumed) added
       (λ held rest d e k.
       let is = run_budget left left_mid left_now before now max done g c held rest k in
-      row_budget (from_state r s) max held (g.bytes ++ c.takes.bytes) (replies r s done)
+      other_row r s s_now 6 max held _ _ (omega arith) (row_budget (from_state r s) max held (g.bytes ++ c.takes.bytes) (replies r s done)
       (call_bounded lines_of.TheVariants.Budget left left_mid left_now before now max done g c) is.0
       (ap (replies r s) (sym is.1))
-      (beginning held (replies r s done) g d (prefix_same (replies r s done))))
+      (beginning held (replies r s done) g d (prefix_same (replies r s done)))))
 
   -- a write failed, after `more` was taken
   pub outcome_cut : (more : List ℕ) → (g : LinesGiven left left_mid before max done) → Consumes left_mid left_now more
       → length (g.bytes ++ more) ≤ max + 1
       → AppendsPrefix written written_now (replies r s done)
       → WhereTold left left_now written written_now
-      (λ held taken added. Outcome (from_state r s) 4 max held taken added)
+      (λ held taken added. StateOutcome r s s_now 4 max held taken added)
   outcome_cut more g c bounded part =
       told left left_now written written_now (g.bytes ++ more) part.0
-      (λ held taken added. Outcome (from_state r s) 4 max held taken added)
+      (λ held taken added. StateOutcome r s s_now 4 max held taken added)
       (consumes_more left left_mid left_now g.bytes more g.consumed c) part.3
       (λ held rest d e k.
-      row_write_fault (from_state r s) max held (g.bytes ++ more) part.0 bounded
-      (beginning held part.0 g d (part.1, part.2)))
+      other_row r s s_now 4 max held _ _ (omega arith) (row_write_fault (from_state r s) max held (g.bytes ++ more) part.0 bounded
+      (beginning held part.0 g d (part.1, part.2))))
 
 -- where no more was taken
 none_bounded : (left left_now : Option (List ℕ)) (b : LineBuffer) (max : ℕ) (done : List (List ℕ)) →
@@ -153,22 +162,22 @@ stopped r s held done more l all lacks =
     (length done, l, ap (replies r s) (sym firsts), found, rw firsts lacks)
 
 -- memory was wanting for the line behind those that are done
-pub outcome_memory : {St : Type 0} (r : StateRules St) (s : St) (left left_now written written_now : Option (List ℕ))
+pub outcome_memory : {St : Type 0} (r : StateRules St) (s s_now : St) (left left_now written written_now : Option (List ℕ))
     (now : LineBuffer) (max : ℕ) (done : List (List ℕ)) (l : List ℕ)
     → (g : LinesGiven left left_now now max (done ++ l ∷ [])) → Appends written written_now (replies r s done)
     → r.may_lack_memory (after_lines r s done) l ≡ true
-    → WhereTold left left_now written written_now (λ held taken added. Outcome (from_state r s) 5 max held taken added)
-outcome_memory r s left left_now written written_now now max done l g added lacks =
+    → WhereTold left left_now written written_now (λ held taken added. StateOutcome r s s_now 5 max held taken added)
+outcome_memory r s s_now left left_now written written_now now max done l g added lacks =
     told left left_now written written_now g.bytes (replies r s done)
-    (λ held taken added. Outcome (from_state r s) 5 max held taken added)
+    (λ held taken added. StateOutcome r s s_now 5 max held taken added)
     g.consumed added
     (λ held rest d e k.
     let h = rw d at g in
     let more = given_first held left_now now max (done ++ l ∷ []) h h.consumed in
     let all = behind (lines held) done more.0 l more.1 in
-    row_memory (from_state r s) max held g.bytes (replies r s done)
+    other_row r s s_now 5 max held _ _ (omega arith) (row_memory (from_state r s) max held g.bytes (replies r s done)
     (run_bounded left left_now now max (done ++ l ∷ []) g) (stopped r s held done more.0 l all lacks)
-    (rw all (replies-prefix r s done (l ∷ more.0) (replies r s done) (prefix_same (replies r s done)))))
+    (rw all (replies-prefix r s done (l ∷ more.0) (replies r s done) (prefix_same (replies r s done))))))
 
 -- ---- the steps of a run
 
@@ -231,10 +240,10 @@ module _ {St : Type 0} (r : StateRules St) (s s_mid s_now : St)
       × Puts written_mid written_now faults_mid faults_now out out_now (r.reply s_mid l)
       × (s_now ≡ r.after s_mid l)) left_mid left_now before now
       → WhereTold left left_now written written_now
-      (λ held taken added. Outcome (from_state r s) 4 max held taken added)
+      (λ held taken added. StateOutcome r s s_now 4 max held taken added)
   run_cut good i line =
       let one = one_more i line in
-      outcome_cut r s left left_now left_now written written_now now now max (i.done ++ line.3 ∷ []) [] one.0
+      outcome_cut r s s_now left left_now left_now written written_now now now max (i.done ++ line.3 ∷ []) [] one.0
       (consumes_none left_now) (none_bounded left left_now now max (i.done ++ line.3 ∷ []) one.0)
       (put_part written written_now faults faults_now i.first out_now (replies r s (i.done ++ line.3 ∷ []))
       (put_more i line.3 line.6.1) i.first_empty)
@@ -264,23 +273,23 @@ module _ {St : Type 0} (r : StateRules St) (s s_mid s_now : St)
       → NextReply r s_mid s_now (Puts written_mid written_next faults_mid faults_next out out_next) (Err stop) left_mid
       left_now before now
       → WhereTold left left_now written written_now
-      (λ held taken added. Outcome (from_state r s) 4 max held taken added)
-  run_stop_cut End n = outcome_cut r s left left_mid left_now written written_now before now max i.done n.0.takes.bytes
+      (λ held taken added. StateOutcome r s s_now 4 max held taken added)
+  run_stop_cut End n = outcome_cut r s s_now left left_mid left_now written written_now before now max i.done n.0.takes.bytes
       i.given n.0.takes.consumed
       (call_bounded lines_of.TheVariants.End left left_mid left_now before now max i.done i.given n.0) (cut n.1)
   run_stop_cut ReadFault n =
-      outcome_cut r s left left_mid left_now written written_now before now max i.done n.0.takes.bytes i.given
+      outcome_cut r s s_now left left_mid left_now written written_now before now max i.done n.0.takes.bytes i.given
       n.0.takes.consumed
       (call_bounded lines_of.TheVariants.Failed left left_mid left_now before now max i.done i.given n.0) (cut n.1)
   run_stop_cut Budget n =
-      outcome_cut r s left left_mid left_now written written_now before now max i.done n.0.takes.bytes i.given
+      outcome_cut r s s_now left left_mid left_now written written_now before now max i.done n.0.takes.bytes i.given
       n.0.takes.consumed
       (call_bounded lines_of.TheVariants.Budget left left_mid left_now before now max i.done i.given n.0) (cut n.1)
   run_stop_cut WriteFault n =
-      outcome_cut r s left left_mid left_now written written_now before now max i.done [] i.given
+      outcome_cut r s s_now left left_mid left_now written written_now before now max i.done [] i.given
       (rw n.0 (consumes_none left_mid)) (none_bounded left left_mid before max i.done i.given) (cut n.2)
   run_stop_cut NoMemory n =
-      outcome_cut r s left left_mid left_now written written_now before now max i.done n.1.takes.bytes i.given
+      outcome_cut r s s_now left left_mid left_now written written_now before now max i.done n.1.takes.bytes i.given
       n.1.takes.consumed (call_bounded n.0 left left_mid left_now before now max i.done i.given n.1) (cut n.6.1)
 
   module _ (unfailed : has_failed out_now ≡ false) (none : waiting out_now ≡ []) where
@@ -294,30 +303,48 @@ module _ {St : Type 0} (r : StateRules St) (s s_mid s_now : St)
         left_now before now
         → status ≤ 1 → status ≡ (if all then 0 else 1)
         → WhereTold left left_now written written_now
-        (λ held taken added. Outcome (from_state r s) status max held taken added)
+        (λ held taken added. StateOutcome r s s_now status max held taken added)
     run_end_told status n low is =
-        outcome_end r s left left_mid left_now written written_now before now max i.done status all i.given n.0
-        (whole n.1) i.good low is
+        outcome_end r s s_now left left_mid left_now written written_now before now max i.done status all
+        (n.2 ∙ i.state) i.given n.0 (whole n.1) i.good low is
 
     pub run_failed_told : NextReply r s_mid s_now (Puts written_mid written_next faults_mid faults_next out out_next)
         (Err ReadFault) left_mid left_now before now
         → WhereTold left left_now written written_now
-        (λ held taken added. Outcome (from_state r s) 3 max held taken added)
-    run_failed_told n = outcome_failed r s left left_mid left_now written written_now before now max i.done i.given n.0
+        (λ held taken added. StateOutcome r s s_now 3 max held taken added)
+    run_failed_told n = outcome_failed r s s_now left left_mid left_now written written_now before now max i.done i.given n.0
         (whole n.1)
 
     pub run_budget_told : NextReply r s_mid s_now (Puts written_mid written_next faults_mid faults_next out out_next)
         (Err Budget) left_mid left_now before now
         → WhereTold left left_now written written_now
-        (λ held taken added. Outcome (from_state r s) 6 max held taken added)
-    run_budget_told n = outcome_budget r s left left_mid left_now written written_now before now max i.done i.given n.0
+        (λ held taken added. StateOutcome r s s_now 6 max held taken added)
+    run_budget_told n = outcome_budget r s s_now left left_mid left_now written written_now before now max i.done i.given n.0
         (whole n.1)
 
     pub run_memory_told : NextReply r s_mid s_now (Puts written_mid written_next faults_mid faults_next out out_next)
         (Err NoMemory) left_mid left_now before now
         → WhereTold left left_now written written_now
-        (λ held taken added. Outcome (from_state r s) 5 max held taken added)
+        (λ held taken added. StateOutcome r s s_now 5 max held taken added)
     run_memory_told n =
         let one = run_first n.0 left left_mid left_now before now max i.done n.3 i.given n.1 n.2 n.4 n.5 in
-        outcome_memory r s left left_now written written_now now max i.done n.3 one.0 (whole n.6.1)
+        outcome_memory r s s_now left left_now written written_now now max i.done n.3 one.0 (whole n.6.1)
         (ap (λ t. r.may_lack_memory t n.3) (sym i.state) ∙ n.6.0)
+
+-- ---- the sink's faults
+
+-- their count never falls at a reply
+pub reply_count : {St : Type 0} (r : StateRules St) (s s_now : St) (written written_now : Option (List ℕ))
+    (faults faults_now : ℕ) (out out_now : OutputBuffer) (result : Result Bool Stop) (left left_now : Option (List ℕ))
+    (before now : LineBuffer)
+    → NextReply r s s_now (Puts written written_now faults faults_now out out_now) result left left_now before now
+    → faults ≤ faults_now
+reply_count r s s_now written written_now faults faults_now out out_now (Ok good) left left_now before now n = n.6.1.count
+reply_count r s s_now written written_now faults faults_now out out_now (Err NoMemory) left left_now before now n =
+    n.6.1.count
+reply_count r s s_now written written_now faults faults_now out out_now (Err End) left left_now before now n = n.1.count
+reply_count r s s_now written written_now faults faults_now out out_now (Err ReadFault) left left_now before now n =
+    n.1.count
+reply_count r s s_now written written_now faults faults_now out out_now (Err Budget) left left_now before now n = n.1.count
+reply_count r s s_now written written_now faults faults_now out out_now (Err WriteFault) left left_now before now n =
+    n.2.count

@@ -2,4 +2,3 @@ pub mod Rules
 pub mod Outcome
 pub mod Next
 pub mod PlainOutput
-pub mod Toys

@@ -11,11 +11,12 @@ use Rattle.stored_check.specs.Verdict.{may_lack_memory, parts_need, scheme_of, t
 use Rattle.stored_check.specs.declared.error.StoredError.{StoredError}
 use Rattle.stored_check.specs.declared.error.StoredError.TheVariants.{PasswordTooLong}
 use Rattle.md5_crypt.specs.Run.{has_other_identifier, is_costly}
-use Rattle.md5_crypt.specs.Verdict.{is_other, legacy_may_lack, legacy_verdict, magic_of, legacy_parts_answer}
+use Rattle.md5_plain.specs.Verdict.{magic_of}
+use Rattle.md5_plain.specs.declared.magic.Magic.{Magic}
+use Rattle.md5_crypt.specs.Verdict.{is_other, legacy_may_lack, legacy_verdict, legacy_parts_answer}
 use Rattle.md5_crypt.specs.Verdict.{stored_answer}
 use Rattle.md5_crypt.specs.Verdict.{legacy_text_answer}
 use Rattle.md5_crypt.specs.declared.error.LegacyError.TheVariants.{Stored}
-use Rattle.md5_crypt.specs.declared.magic.Magic.{Magic}
 
 no_family : (o : Option Scheme) (p : Parts) → parts_need scrypt.needs_memory o p ≡ true → is_none o ≡ true
 no_family (Some scheme) p needs = absurd (false≢true needs)

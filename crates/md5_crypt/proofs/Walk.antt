@@ -1,44 +1,20 @@
 -- The verdict by its cases.
-use Rattle.std.proofs.Common.{◌≡◌, ℕ, ◌<◌, ◌≤◌, Bool, true, false, List, length, refl, sym, ap, ◌∙◌, arith, Result, Ok}
-use Rattle.std.proofs.Common.{Err, inl, inr}
-use Rattle.std.specs.Prelude.{nat_lt, nat_eq, Some, None}
-use Rattle.std.specs.Cmp.Lexicographic.{pointwise}
+use Rattle.std.proofs.Common.{◌≡◌, ℕ, ◌<◌, ◌≤◌, Bool, true, false, List, length, refl, sym, ap, ◌∙◌, arith, Result, Err}
+use Rattle.std.proofs.Common.{inl, inr}
+use Rattle.std.specs.Prelude.{nat_lt, Some, None}
 use Rattle.std.proofs.lemmas.Bool.{false≢true}
 use Rattle.std.proofs.lemmas.Bool.Decides.{nat_tests}
-use Rattle.base64ct.specs.Alphabets.{base64_sha_crypt}
-use Rattle.base64ct.specs.Decoding.{decoding}
-use Rattle.base64ct.specs.Encoding.{EachBelow}
 use Rattle.mcf.specs.Grammar.{mcf, fault, parts}
 use Rattle.mcf.specs.declared.error.Error as mcf_error
 use Rattle.phc.specs.declared.password_hash.PasswordHash.{PasswordHash}
-use Rattle.sha_crypt.specs.HashField.{field_bytes, in_order}
-use Rattle.sha_crypt.proofs.HashFields.{decoded_of, same_hash}
+use Rattle.md5_plain.specs.Verdict.{magic_of, md5_verdict}
+use Rattle.md5_plain.specs.declared.magic.Magic.{Magic}
 use Rattle.stored_check.proofs.Causes.{fits}
 use Rattle.stored_check.specs.Verdict.{may_lack_memory, mcf_name, verdict}
 use Rattle.stored_check.specs.declared.error.StoredError.TheVariants.{PasswordTooLong, Mcf}
-use Rattle.md5_crypt.specs.Digest.{md5_crypt_digest}
-use Rattle.md5_crypt.specs.Field.{map_md5, md5_field}
-use Rattle.md5_crypt.specs.Verdict.{IsLegacyVerdict, legacy_may_lack, legacy_verdict, magic_of, md5_answer, md5_fields}
-use Rattle.md5_crypt.specs.Verdict.{Md5Fields, stored_answer, checked_fields}
+use Rattle.md5_crypt.specs.Verdict.{IsLegacyVerdict, legacy_may_lack, legacy_verdict, md5_answer, stored_answer}
 use Rattle.md5_crypt.specs.declared.error.LegacyError.{LegacyError}
 use Rattle.md5_crypt.specs.declared.error.LegacyError.TheVariants.{Stored}
-use Rattle.md5_crypt.specs.declared.magic.Magic.{Magic}
-
--- the bytes of the digest and of the hash field are compared in place of their encodings
-pub answer_same : (magic : Magic) (password : List ℕ) (f : Md5Fields) (bytes digest wanted : List ℕ) (r : Bool)
-    → length f.salt ≤ 8 → field_bytes 16 f.hash ≡ Some bytes → digest ≡ md5_crypt_digest password f.salt magic
-    → wanted ≡ in_order map_md5 digest → EachBelow 256 wanted → r ≡ pointwise nat_eq wanted bytes
-    → Ok r ≡ md5_answer magic password (checked_fields (Ok f))
-answer_same magic password f bytes digest wanted r short found digest_is wanted_is small r_is =
-    let fits : nat_lt 8 (length f.salt) ≡ false = grind (arith, nat_tests, short) in
-    let same : pointwise nat_eq (in_order map_md5 digest) bytes ≡ pointwise nat_eq (md5_field digest) f.hash =
-    same_hash map_md5 digest bytes f.hash (rw wanted_is at small)
-    (decoded_of 16 bytes (decoding base64_sha_crypt f.hash) found) in
-    let test : r ≡ pointwise nat_eq (md5_field digest) f.hash =
-    r_is ∙ ap (λ (x : List ℕ). pointwise nat_eq x bytes) wanted_is ∙ same in
-    rw (fits, found, ← digest_is, ← test) refl
-
--- ---- the verdict by its cases
 
 module _ (accepted : PasswordHash → List ℕ → ℕ → Bool) (tag : List ℕ → PasswordHash → List ℕ → ℕ → List ℕ)
     (needs_memory : PasswordHash → Bool) (password stored : List ℕ) where
@@ -79,7 +55,7 @@ module _ (accepted : PasswordHash → List ℕ → ℕ → Bool) (tag : List ℕ
 
   pub md5_text : (magic : Magic) (r : Result Bool LegacyError) → length password ≤ 4096 → fault stored ≡ None
       → magic_of (parts stored).id ≡ Some magic
-      → r ≡ md5_answer magic password (md5_fields (parts stored).fields) → Whole r
+      → r ≡ md5_answer (md5_verdict magic password (parts stored).fields) → Whole r
   unfolding legacy_verdict mcf
   md5_text magic r short valid is h = inl (h ∙ rw (fits password short, valid, is) refl)
 

@@ -1,6 +1,3 @@
-pub mod Digest
-pub mod Field
 pub mod Verdict
 pub mod Laws
-pub mod Views
 pub mod Run

@@ -6,7 +6,8 @@ use Rattle.mcf.specs.Grammar.{mcf, Parts}
 use Rattle.mcf.specs.declared.error.Error as mcf_error
 use Rattle.scrypt_plain.specs.Profile as scrypt
 use Rattle.stored_check.specs.Verdict.{scheme_of}
-use Rattle.md5_crypt.specs.Verdict.{legacy_verdict, magic_of}
+use Rattle.md5_plain.specs.Verdict.{magic_of}
+use Rattle.md5_crypt.specs.Verdict.{legacy_verdict}
 use Rattle.md5_crypt.specs.declared.error.LegacyError.{LegacyError}
 
 -- the verdict on a password and a stored text, or the first cause that there is none

@@ -1,29 +1,8 @@
-//! Laws over the definitions.
+//! Laws over the definitions, those of `md5_plain` among them.
 
-ghost use Rattle.std.specs.Prelude.{◌≡◌, Some};
-ghost use Rattle.md5_crypt.specs.Laws.{FieldOfSomeDigest, FieldOnce, NoWantOfMemory};
+ghost use Rattle.md5_crypt.specs.Laws.{NoWantOfMemory};
 
-use crate::{decode_md5, encode_md5};
-
-/// The test for hash fields tells those of some digest.
-pub fn field_of_some_digest()
-    ensures told { FieldOfSomeDigest }
-{}
-
-/// Two digests with one hash field are equal.
-pub fn field_once()
-    ensures one { FieldOnce }
-{}
-
-/// A digest, encoded and decoded again, is itself.
-pub fn round_trip_md5(tag: &[u8; 16]) -> Option<[u8; 16]>
-    ensures digest { result ≡ Some tag.now }
-{
-    match decode_md5(&encode_md5(tag)) {
-        Some(again) => Some(again),
-        None => None,
-    }
-}
+pub use md5_plain::laws::{field_of_some_digest, field_once, round_trip_md5};
 
 /// Want of memory is no verdict and no cause: the definition never gives it.
 pub fn no_want_of_memory()

@@ -16,7 +16,8 @@ use Rattle.stored_check.specs.Verdict.{key_answer, may_lack_memory, parts_answer
 use Rattle.stored_check.specs.Verdict.{same_text, scheme_of, text_answer, text_needs, verdict}
 use Rattle.stored_check.specs.declared.error.StoredError.{StoredError}
 use Rattle.stored_check.specs.declared.error.StoredError.TheVariants.{PasswordTooLong}
-use Rattle.pbkdf2_plain.specs.Either.{Accepted, Needs, Tag, either_accepted, either_needs, either_tag, has_identifier}
+use Rattle.phc_kdf.specs.Either.{Accepted, Needs, Tag, either_accepted, either_needs, either_tag}
+use Rattle.pbkdf2_plain.specs.Laws.{has_identifier}
 
 module _ (first : List ℕ) (accepted_a accepted_b : Accepted) (tag_a tag_b : Tag) (password : List ℕ) where
   abbrev A : Accepted

@@ -7,9 +7,10 @@ use Rattle.mcf.specs.Grammar.{mcf}
 use Rattle.scrypt_plain.specs.Profile as scrypt
 use Rattle.stored_check.specs.Verdict.{verdict}
 use Rattle.stored_check.specs.declared.error.StoredError.{StoredError}
-use Rattle.pbkdf2_plain.specs.Either.{Accepted, Tag, either_accepted, either_tag, has_identifier}
-use Rattle.pbkdf2_plain.specs.Profile.{pbkdf2_accepts, pbkdf2_key}
-use Rattle.pbkdf2_plain.specs.declared.profile.Pbkdf2Hash.TheVariants.{Sha256}
+use Rattle.phc_kdf.specs.Either.{Accepted, Tag, either_accepted, either_tag}
+use Rattle.pbkdf2_key.specs.Profile.{pbkdf2_accepts, pbkdf2_key}
+use Rattle.pbkdf2_plain.specs.Laws.{has_identifier}
+use Rattle.pbkdf2_key.specs.declared.profile.Pbkdf2Hash.TheVariants.{Sha256}
 
 -- the records that are taken
 abbrev pub accepted : Accepted

@@ -1,37 +1,22 @@
-//! Laws over the definitions.
+//! Laws over the definitions, those of `pbkdf2_key` among them.
 
 ghost use Rattle.std.specs.Prelude.{◌≡◌, ℕ, List, if◌then◌else◌};
 ghost use Rattle.mcf.specs.Grammar.{mcf};
 ghost use Rattle.stored_check.specs.Verdict.{may_lack_memory, verdict};
-ghost use Rattle.pbkdf2_plain.specs.Either.{CostlyTexts, EitherMayLack, EitherVerdict, has_identifier};
-ghost use Rattle.pbkdf2_plain.specs.Laws.{CodeLength, HmacOfSha256, KeyLength, OneRound, ShorterKey};
+ghost use Rattle.pbkdf2_plain.specs.Laws.{CostlyTexts, EitherMayLack, EitherVerdict, HmacOfSha256, OneRound, has_identifier};
 
 use crate::EitherKdf;
-use stored_check::PhcKdf;
+pub use pbkdf2_key::laws::{code_length, key_length, shorter_key};
+use phc_kdf::PhcKdf;
 
 /// HMAC-SHA-256, as scrypt has it, is the same HMAC as that of SHA-512, with SHA-256 and its blocks of 64 bytes.
 pub fn hmac_of_sha256()
     ensures { HmacOfSha256 }
 {}
 
-/// A code of HMAC-SHA-512 has 64 bytes.
-pub fn code_length()
-    ensures { CodeLength }
-{}
-
 /// One round with SHA-256 is the derivation that scrypt makes.
 pub fn one_round()
     ensures { OneRound }
-{}
-
-/// A key has as many bytes as were asked for, with either hash function.
-pub fn key_length()
-    ensures { KeyLength }
-{}
-
-/// A shorter key is the beginning of a longer one, whatever the pseudorandom function.
-pub fn shorter_key()
-    ensures { ShorterKey }
 {}
 
 /// The verdict by two derivations is that by the first for the texts with its identifier, and that by the second for

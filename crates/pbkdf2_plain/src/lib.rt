@@ -1,51 +1,12 @@
-//! PBKDF2 (RFC 8018) with HMAC-SHA-256 or HMAC-SHA-512: a key from a password and a salt, at a cost in time; [`Pbkdf2Plain`], which
-//! derives the keys of PHC records by it; and [`EitherKdf`], two derivations as one.
+//! The lines of a password file, answered by scrypt and PBKDF2 as one derivation: [`run_either`]. Only scrypt's keys take
+//! memory.
 //!
-//! [`run_either`] answers the lines of a password file by scrypt and PBKDF2. Only scrypt's keys take memory.
+//! The scheme itself is `pbkdf2_key`'s, and [`EitherKdf`] is `phc_kdf`'s; both are given out again here.
 #![tactic(auto)]
 
-ghost use Rattle.std.specs.Prelude.{◌≡◌, ◌^◌, ◌<◌, ◌≤◌, length};
-ghost use Rattle.pbkdf2_plain.specs.Pbkdf2.{pbkdf2_sha256, pbkdf2_sha512};
-
-mod derive;
-mod either;
-mod hmac;
 pub mod laws;
-mod prf;
-mod profile;
 mod run;
 
-pub use either::EitherKdf;
-use hmac::HmacSha512;
-pub use profile::{Pbkdf2Hash, Pbkdf2Plain};
+pub use pbkdf2_key::{Pbkdf2Hash, Pbkdf2Plain, pbkdf2_sha256, pbkdf2_sha512};
+pub use phc_kdf::EitherKdf;
 pub use run::{run_either, run_either_limited};
-use scrypt_plain::hmac::HmacSha256;
-
-/// Writes the key of `out.len()` bytes (1 to 64) for a password and a salt, after so many rounds, into `out`.
-///
-/// PBKDF2 of RFC 8018, section 5.2, with HMAC-SHA-256. A round costs two compressions of SHA-256 for each 32 bytes of
-/// the key. Passwords and salts below 2^30 bytes keep each message that is hashed below 2^61 bytes.
-pub fn pbkdf2_sha256(password: &[u8], salt: &[u8], rounds: u32, out: &mut [u8])
-    requires rounds_least { 1 ≤ rounds }
-    requires rounds_most { rounds ≤ 10000000 }
-    requires password_length { length password.now < 2 ^ 30 }
-    requires salt_length { length salt.now < 2 ^ 30 }
-    requires key_length_least { 1 ≤ length out.old }
-    requires key_length_most { length out.old ≤ 64 }
-    ensures key { out.new ≡ pbkdf2_sha256 password.now salt.now rounds (length out.old) }
-{
-    derive::fill::<32, HmacSha256>(password, salt, rounds, out);
-}
-
-/// The same with HMAC-SHA-512. A round costs two compressions of SHA-512, whatever the length of the key.
-pub fn pbkdf2_sha512(password: &[u8], salt: &[u8], rounds: u32, out: &mut [u8])
-    requires rounds_least { 1 ≤ rounds }
-    requires rounds_most { rounds ≤ 10000000 }
-    requires password_length { length password.now < 2 ^ 30 }
-    requires salt_length { length salt.now < 2 ^ 30 }
-    requires key_length_least { 1 ≤ length out.old }
-    requires key_length_most { length out.old ≤ 64 }
-    ensures key { out.new ≡ pbkdf2_sha512 password.now salt.now rounds (length out.old) }
-{
-    derive::fill::<64, HmacSha512>(password, salt, rounds, out);
-}

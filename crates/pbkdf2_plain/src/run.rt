@@ -6,7 +6,7 @@ ghost use Rattle.pieces.specs.FaultCounts.{HasRisen};
 ghost use Rattle.line_program.specs.Outcome.{Outcome};
 ghost use Rattle.stored_check.specs.Verdict.{IsVerdict};
 ghost use Rattle.pbkdf2_plain.specs.Run.{either_rules, is_costly, verdict_of_either};
-ghost use Rattle.pbkdf2_plain.specs.declared.profile.Pbkdf2Hash.TheVariants.{Sha256};
+ghost use Rattle.pbkdf2_key.specs.declared.profile.Pbkdf2Hash.TheVariants.{Sha256};
 
 use crate::{EitherKdf, Pbkdf2Hash, Pbkdf2Plain};
 use line_io::{Sink, Source};

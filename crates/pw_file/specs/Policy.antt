@@ -5,7 +5,7 @@ use Rattle.std.specs.Str.{IsUtf8}
 use Rattle.line_io.specs.Lines.{NoFeed}
 use Rattle.phc.specs.Grammar.{salt_fault}
 use Rattle.pieces.specs.Characters.{is_tab}
-use Rattle.stored_check.specs.Limits.{password_max}
+use Rattle.phc_kdf.specs.Limits.{password_max}
 use Rattle.pw_file.specs.Limits.{name_max}
 use Rattle.pw_file.specs.Upgraded.{upgraded_text}
 

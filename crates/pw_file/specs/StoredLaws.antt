@@ -28,7 +28,7 @@ use Rattle.scrypt_plain.proofs.MadeRecord.{IsWritten, made_read, made_text, scry
 use Rattle.stored_check.specs.Verdict.{may_lack_memory, mcf_name, text_answer, text_needs, verdict}
 use Rattle.stored_check.specs.declared.error.StoredError.{StoredError}
 use Rattle.stored_check.specs.declared.error.StoredError.TheVariants as stored
-use Rattle.stored_check.proofs.MadeTexts.{IsMade}
+use Rattle.stored_check.proofs.MadeTexts.{IsMade, record_made}
 use Rattle.pw_file.specs.Policy.{IsLawful}
 use Rattle.pw_file.specs.StoredTexts.{may_lack, stored_texts, verdict_on}
 use Rattle.pw_file.specs.Upgraded.{upgraded_key, upgraded_text}
@@ -163,7 +163,8 @@ upgraded_matches : (password salt : List ℕ) → length password ≤ 4096 → s
 upgraded_matches password salt short good =
     let s = salt_bytes salt good in
     let made : IsMade accepted key password (fresh_of password s.bytes) =
-    scrypt_made (codes "14") (codes "8") (codes "1") 14 8 1 written password s.bytes s.small s.least s.most in
+    record_made accepted key (codes "scrypt") password (fresh_of password s.bytes) refl
+    (scrypt_made (codes "14") (codes "8") (codes "1") 14 8 1 written password s.bytes s.small s.least s.most) in
     ap (verdict_on password) (is_made password salt s.bytes s.text s.decoded) ∙ made.1 password short ∙ ap Ok made.2
 
 -- ---- verdicts

@@ -4,7 +4,7 @@ ghost use Rattle.std.specs.Prelude.{◌≡◌, ◌≤◌, length, string_bytes, 
 ghost use Rattle.phc.specs.Encoded.{encoding};
 ghost use Rattle.pw_file.specs.Limits.{text_max};
 ghost use Rattle.pw_file.specs.Upgraded.{upgraded_text};
-ghost use Rattle.stored_check.specs.Limits.{password_max};
+ghost use Rattle.phc_kdf.specs.Limits.{password_max};
 
 use base64ct::{Base64Unpadded, Encoding};
 use phc::SaltString;

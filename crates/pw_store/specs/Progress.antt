@@ -132,6 +132,18 @@ abbrev pub Served : {E T V : Type 0} → TextPolicy T V → Rows → Bool → (L
 Served p rows takes Comes asked all line (Ok good) = Comes (asked ++ line ∷ []) (all && good)
 Served p rows takes Comes asked all line (Err e) = Comes asked all × Lacks p rows takes line
 
+-- What the answer to a line does to a run, by the store, the changes that wait, the output and the sink before it and after
+-- it: wherever the run began and however far it had come, it has come one line further.
+abbrev pub Serves : {D P A B C E F G H K R T V : Type 0} → TextPolicy T V → (D → List ℕ) → (D → List ℕ → Type 0) → (D → ℕ)
+    → (D → ℕ → List ℕ → Type 0) → (D → ℕ) → Store D P A B C → Store D P A B C → Group E F G H → Group E F G H → OutputBuffer
+    → OutputBuffer → (K → Option (List ℕ)) → (K → ℕ) → K → K → List ℕ → Result Bool R → Type 0
+Serves {D} p seen may_leave moment left_since disk_faults s s_now g g_now out out_now written faults sink sink_now line result =
+    (from : Begun D) (asked : List (List ℕ)) (all : Bool)
+    → Progress p seen may_leave moment left_since disk_faults from asked (held_by s g) (oks (count_of g)) out (written sink)
+    (faults sink) all
+    → Served p (rows_of s_now) (takes_changes s_now) (λ asked all. Progress p seen may_leave moment left_since disk_faults from
+    asked (held_by s_now g_now) (oks (count_of g_now)) out_now (written sink_now) (faults sink_now) all) asked all line result
+
 -- Why no line is answered: there is none, or memory was wanting for the one that was taken off the buffer.
 abbrev pub Stopped : {T V : Type 0} → TextPolicy T V → Rows → Bool → Stop → Option (List ℕ) → Option (List ℕ) → LineBuffer → LineBuffer
     → Type 0

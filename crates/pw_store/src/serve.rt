@@ -6,7 +6,7 @@ ghost use Rattle.line_io.specs.Output.{has_failed};
 ghost use Rattle.line_log.specs.Log.{group_max};
 ghost use Rattle.pw_file.specs.Commands as of;
 ghost use Rattle.pw_file.specs.Lines.{Asks};
-ghost use Rattle.pw_store.specs.Progress.{Begun, IsReady, Progress, Served, count_of, held_by, oks};
+ghost use Rattle.pw_store.specs.Progress.{Begun, IsReady, Progress, Serves, count_of, held_by, oks};
 ghost use Rattle.pw_store.specs.Run.{asks_change};
 ghost use Rattle.pw_store.specs.Staged.{lines_of};
 ghost use Rattle.pw_store.specs.Stored.{IsSound, rows_of, size_of, takes_changes};
@@ -67,13 +67,8 @@ impl<D: Device, P: Policy> Store<D, P> {
         ensures ready { IsReady P.policy D.seen D.may_leave self.new group.new }
         ensures none { OnErr result (count_of group.new ≡ 0) }
         ensures served { (line : List ℕ) → Asks P.policy line (of.Set user.now text.now)
-            → (from : Begun D) (asked : List (List ℕ)) (all : Bool)
-            → Progress P.policy D.seen D.may_leave D.moment D.left_since D.faults from asked
-            (held_by self.old group.old) (oks (count_of group.old)) out.old (K.written sink.old) (K.faults sink.old) all
-            → Served P.policy (rows_of self.new) (takes_changes self.new) (λ asked all.
-            Progress P.policy D.seen D.may_leave D.moment D.left_since D.faults from asked
-            (held_by self.new group.new) (oks (count_of group.new)) out.new (K.written sink.new) (K.faults sink.new) all)
-            asked all line result }
+            → Serves P.policy D.seen D.may_leave D.moment D.left_since D.faults self.old self.new
+            group.old group.new out.old out.new K.written K.faults sink.old sink.new line result }
     {
         match self.stage(group, user, text) {
             Ok(()) => Ok(true),
@@ -98,13 +93,8 @@ impl<D: Device, P: Policy> Store<D, P> {
         ensures ready { IsReady P.policy D.seen D.may_leave self.new group.new }
         ensures none { OnErr result (count_of group.new ≡ 0) }
         ensures served { (line : List ℕ) → Asks P.policy line (of.Upgrade user.now salt.now password.now)
-            → (from : Begun D) (asked : List (List ℕ)) (all : Bool)
-            → Progress P.policy D.seen D.may_leave D.moment D.left_since D.faults from asked
-            (held_by self.old group.old) (oks (count_of group.old)) out.old (K.written sink.old) (K.faults sink.old) all
-            → Served P.policy (rows_of self.new) (takes_changes self.new) (λ asked all.
-            Progress P.policy D.seen D.may_leave D.moment D.left_since D.faults from asked
-            (held_by self.new group.new) (oks (count_of group.new)) out.new (K.written sink.new) (K.faults sink.new) all)
-            asked all line result }
+            → Serves P.policy D.seen D.may_leave D.moment D.left_since D.faults self.old self.new
+            group.old group.new out.old out.new K.written K.faults sink.old sink.new line result }
     {
         self.commit(group, out, sink);
         match self.upgrade(user, password, salt) {
@@ -129,13 +119,8 @@ impl<D: Device, P: Policy> Store<D, P> {
         requires ready { IsReady P.policy D.seen D.may_leave self.old group.old }
         ensures ready { IsReady P.policy D.seen D.may_leave self.new group.new }
         ensures none { OnErr result (count_of group.new ≡ 0) }
-        ensures served { (from : Begun D) (asked : List (List ℕ)) (all : Bool)
-            → Progress P.policy D.seen D.may_leave D.moment D.left_since D.faults from asked
-            (held_by self.old group.old) (oks (count_of group.old)) out.old (K.written sink.old) (K.faults sink.old) all
-            → Served P.policy (rows_of self.new) (takes_changes self.new) (λ asked all.
-            Progress P.policy D.seen D.may_leave D.moment D.left_since D.faults from asked
-            (held_by self.new group.new) (oks (count_of group.new)) out.new (K.written sink.new) (K.faults sink.new) all)
-            asked all line.now result }
+        ensures served { Serves P.policy D.seen D.may_leave D.moment D.left_since D.faults self.old self.new
+            group.old group.new out.old out.new K.written K.faults sink.old sink.new line.now result }
     {
         self.commit(group, out, sink);
         match answer_line(&mut self.table, line) {
@@ -179,13 +164,8 @@ impl<D: Device, P: Policy> Store<D, P> {
         requires room { length (lines_of group.old) + ROW_LINE_MAX ≤ group_max }
         ensures ready { IsReady P.policy D.seen D.may_leave self.new group.new }
         ensures none { OnErr result (count_of group.new ≡ 0) }
-        ensures served { (from : Begun D) (asked : List (List ℕ)) (all : Bool)
-            → Progress P.policy D.seen D.may_leave D.moment D.left_since D.faults from asked
-            (held_by self.old group.old) (oks (count_of group.old)) out.old (K.written sink.old) (K.faults sink.old) all
-            → Served P.policy (rows_of self.new) (takes_changes self.new) (λ asked all.
-            Progress P.policy D.seen D.may_leave D.moment D.left_since D.faults from asked
-            (held_by self.new group.new) (oks (count_of group.new)) out.new (K.written sink.new) (K.faults sink.new) all)
-            asked all line.now result }
+        ensures served { Serves P.policy D.seen D.may_leave D.moment D.left_since D.faults self.old self.new
+            group.old group.new out.old out.new K.written K.faults sink.old sink.new line.now result }
     {
         match Command::parse(line) {
             Some(Command::Set { user, text }) => self.serve_set(group, &user, text, out, sink),

@@ -33,8 +33,8 @@ use Rattle.yescrypt_plain.specs.Params.{in_bounds, time_text, yescrypt_params_te
 use Rattle.yescrypt_plain.specs.Yescrypt.{yescrypt}
 use Rattle.yescrypt_plain.specs.declared.params.YescryptParams.{YescryptParams}
 use Rattle.any_check.specs.Records.{accepted, needs_memory, tag}
-use Rattle.any_check.specs.Table.{any_verdict, of_stored, text_scheme}
-use Rattle.any_check.specs.declared.scheme.AnyScheme.TheVariants as scheme
+use Rattle.any_check.specs.Table.{any_verdict, is_record, of_stored, sha_scheme, text_scheme}
+use Rattle.any_check.proofs.Families.{sha_stored}
 use Rattle.any_check.specs.Cost.{verdict_within}
 use Rattle.any_check.proofs.Causes.{within}
 use Rattle.any_make.specs.Costs.{is_taken, password_length, scheme_of}
@@ -46,7 +46,7 @@ use Rattle.any_make.specs.declared.scheme.MakeScheme.TheVariants as make
 use Rattle.yescrypt_plain.specs.declared.params.ScryptParams.{ScryptParams}
 use Rattle.any_make.specs.declared.scheme.MakeCost.{MakeCost}
 use Rattle.any_make.specs.declared.scheme.MakeCost.TheVariants as cost
-use Rattle.any_make.proofs.Judged.{by_row}
+use Rattle.any_make.proofs.Judged.{by_record, by_row}
 use Rattle.any_make.proofs.Matches.{made_is, made_matches}
 use Rattle.pwcheck_c.specs.AnyAnswers.{any_answer, bounds_of, cause_answer}
 use Rattle.pwcheck_c.specs.Laws.{MadeMatches}
@@ -76,23 +76,23 @@ module _ (password text : List ℕ) (short : length password ≤ 4096) (is : ver
   read_ascii = by_fault (fault text) refl
 
 -- the same of a text of SHA-crypt or a record, by its verdict among all schemes
-family_scheme : (family : Family) (f : ShaFields) → text_scheme (sha.record_text family f) ≡ Some (scheme.ShaCrypt family)
+family_scheme : (family : Family) (f : ShaFields) → text_scheme (sha.record_text family f) ≡ Some (sha_scheme family)
 unfolding text_scheme pieces_at sha.record_text
 family_scheme Sha256 f = refl
 family_scheme Sha512 f = refl
 
-of_family : (family : Family) (password text : List ℕ) → length password ≤ 4096 → text_scheme text ≡ Some (scheme.ShaCrypt family)
+of_family : (family : Family) (password text : List ℕ) → length password ≤ 4096 → text_scheme text ≡ Some (sha_scheme family)
     → any_verdict accepted tag password text ≡ Ok true → IsAscii text
 of_family family password text short named is =
     read_ascii password text short
     (stored_ok (verdict accepted tag password text)
-    (sym (by_row password text (scheme.ShaCrypt family) short named) ∙ is))
+    (sym (sha_stored accepted tag password text family) ∙ sym (by_row password text (sha_scheme family) short named) ∙ is))
 
-of_record : (password text : List ℕ) → length password ≤ 4096 → text_scheme text ≡ Some scheme.Record
+of_record : (password text : List ℕ) → length password ≤ 4096 → is_record (text_scheme text) ≡ true
     → any_verdict accepted tag password text ≡ Ok true → IsAscii text
 of_record password text short named is =
     read_ascii password text short
-    (stored_ok (verdict accepted tag password text) (sym (by_row password text scheme.Record short named) ∙ is))
+    (stored_ok (verdict accepted tag password text) (sym (by_record password text short named) ∙ is))
 
 -- ---- bcrypt
 
@@ -221,15 +221,15 @@ yescrypt_ascii c password salt good =
 
 -- ---- each scheme
 
-scrypt_scheme : (c : ScryptParams) (salt key : List ℕ) → text_scheme (record_text (scrypt_record c salt key)) ≡ Some scheme.Record
+scrypt_scheme : (c : ScryptParams) (salt key : List ℕ) → is_record (text_scheme (record_text (scrypt_record c salt key))) ≡ true
 unfolding text_scheme pieces_at record_text
 scrypt_scheme c salt key = refl
 
-argon2_scheme : (c : Argon2Cost) (salt key : List ℕ) → text_scheme (record_text (argon2_record c salt key)) ≡ Some scheme.Record
+argon2_scheme : (c : Argon2Cost) (salt key : List ℕ) → is_record (text_scheme (record_text (argon2_record c salt key))) ≡ true
 unfolding text_scheme pieces_at record_text
 argon2_scheme c salt key = refl
 
-pbkdf2_scheme : (n : ℕ) (salt key : List ℕ) → text_scheme (record_text (pbkdf2_record n salt key)) ≡ Some scheme.Record
+pbkdf2_scheme : (n : ℕ) (salt key : List ℕ) → is_record (text_scheme (record_text (pbkdf2_record n salt key))) ≡ true
 unfolding text_scheme pieces_at record_text
 pbkdf2_scheme n salt key = refl
 

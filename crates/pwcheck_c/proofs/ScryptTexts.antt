@@ -24,6 +24,7 @@ use Rattle.scrypt_plain.specs.Bounds.{in_bounds}
 use Rattle.scrypt_plain.specs.Profile.{accepted, key}
 use Rattle.scrypt_plain.specs.Scrypt.{scrypt}
 use Rattle.scrypt_plain.proofs.MadeRecord.{IsWritten, made_params, made_record, scrypt_made}
+use Rattle.stored_check.proofs.MadeTexts.{record_made}
 use Rattle.stored_check.specs.Verdict.{verdict}
 use Rattle.pwcheck_c.specs.Texts.{scrypt_text}
 
@@ -137,8 +138,9 @@ pub scrypt_verdict : (password salt : List ℕ) (ln r p : ℕ) → in_bounds ln 
 unfolding scrypt_text
 scrypt_verdict password salt ln r p bounds below size short =
     let small = small_bounds ln r p bounds in
-    let made = scrypt_made (decimal ln) (decimal r) (decimal p) ln r p (written ln r p small bounds) password salt below
-    (omega (arith, size)) (omega (arith, size)) in
+    let made = record_made accepted key (codes "scrypt") password (scrypt_text password salt ln r p) refl
+    (scrypt_made (decimal ln) (decimal r) (decimal p) ln r p (written ln r p small bounds) password salt below
+    (omega (arith, size)) (omega (arith, size))) in
     made.1 password short ∙ ap (λ (b : Bool). Ok b) made.2
 
 -- ---- there is room for the encoding of few bytes

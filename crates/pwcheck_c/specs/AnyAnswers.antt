@@ -5,7 +5,7 @@ use Rattle.bcrypt_plain.specs.declared.error.BcryptFault.{BcryptFault}
 use Rattle.bcrypt_plain.specs.declared.error.BcryptFault.TheVariants as of_bcrypt
 use Rattle.yescrypt_plain.specs.declared.error.TextFault.{TextFault}
 use Rattle.yescrypt_plain.specs.declared.error.TextFault.TheVariants as of_text
-use Rattle.any_check.specs.Lines.{given_may_lack, given_verdict}
+use Rattle.any_check.specs.Given.{given_may_lack, given_verdict}
 use Rattle.any_check.specs.Words.{any_word}
 use Rattle.any_check.specs.declared.cost.CostLimits.{CostLimits}
 use Rattle.any_check.specs.declared.error.AnyError.{AnyError}

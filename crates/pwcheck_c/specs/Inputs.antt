@@ -5,7 +5,7 @@ use Rattle.std.specs.List.{list_all}
 use Rattle.std.specs.Str.{is_utf8}
 use Rattle.scrypt_plain.specs.Bounds.{in_bounds}
 use Rattle.sha_crypt.specs.Limits.{rounds_max, rounds_min, salt_max_len}
-use Rattle.stored_check.specs.Limits.{password_max}
+use Rattle.phc_kdf.specs.Limits.{password_max}
 
 -- ---- keys
 

@@ -6,7 +6,7 @@ ghost use Rattle.pwcheck_c.specs.AnyAnswers.{IsAnyAnswer, IsTextAnswer, bcrypt_c
 
 use crate::answer::Answer;
 use crate::check::text_of;
-use any_check::{AnyError, AnyLines, CostLimits};
+use any_check::{AnyCheck, AnyError, CostLimits};
 use bcrypt_plain::BcryptFault;
 use std::alloc::Global;
 use stored_check::StoredError;
@@ -108,8 +108,8 @@ fn cause_answer(answer: Result<bool, AnyError>) -> Answer
 fn text_answer(alloc: Global, password: &str, stored: &str, limits: &Limits) -> Answer
     ensures answer { IsTextAnswer limits.now password.now stored.now result }
 {
-    let lines = AnyLines::new(alloc, Some(bounds_of(limits)));
-    match lines.known_verdict(password, stored) {
+    let check = AnyCheck::new(alloc, Some(bounds_of(limits)));
+    match check.known_verdict(password, stored) {
         Some(answer) => cause_answer(answer),
         None => Answer::Checked(Err(StoredError::OutOfMemory)),
     }

@@ -8,7 +8,7 @@ ghost use Rattle.pwcheck_c.specs.Inputs.{scrypt_text_takes};
 ghost use Rattle.pwcheck_c.specs.Texts.{scrypt_text};
 ghost use Rattle.pwcheck_c.specs.Statuses.{status_no_memory, status_out_of_range};
 ghost use Rattle.pwcheck_c.specs.Written.{IsPut};
-ghost use Rattle.stored_check.specs.Limits.{password_max};
+ghost use Rattle.phc_kdf.specs.Limits.{password_max};
 
 use crate::check::text_of;
 use crate::put::put;

@@ -7,7 +7,7 @@ ghost use Rattle.sha_crypt.specs.Simple.{sha256_text, sha512_text};
 ghost use Rattle.pwcheck_c.specs.Inputs.{is_password, is_salt, is_salt_character, text_takes};
 ghost use Rattle.pwcheck_c.specs.Written.{IsPut};
 ghost use Rattle.std.specs.Str.{is_utf8};
-ghost use Rattle.stored_check.specs.Limits.{password_max};
+ghost use Rattle.phc_kdf.specs.Limits.{password_max};
 ghost use Rattle.sha_crypt.specs.Limits.{pw_size_sha512, rounds_default, salt_max_len};
 ghost use Rattle.pwcheck_c.specs.Statuses.{status_out_of_range};
 

@@ -38,8 +38,9 @@ written = record { pairs = refl; short = omega arith; field = refl; numbers = re
 scrypt_made : (password salt : List ℕ) → EachBelow 256 salt → length salt ≡ 16
     → IsMade password (scrypt_text password salt)
 scrypt_made password salt below len =
-    made_record.scrypt_made (codes "4") (codes "8") (codes "1") 4 8 1 written password salt below (omega (arith, len))
-    (omega (arith, len))
+    made_texts.record_made accepted key (codes "scrypt") password (scrypt_text password salt) refl
+    (made_record.scrypt_made (codes "4") (codes "8") (codes "1") 4 8 1 written password salt below (omega (arith, len))
+    (omega (arith, len)))
 
 -- ---- the generators
 

@@ -8,7 +8,7 @@ ghost use Rattle.rand_chacha.specs.ChaCha.{of_seed};
 ghost use Rattle.rand_core.specs.Stream.{Stream, fill_bytes};
 ghost use Rattle.sha_crypt.specs.Simple.{characters, sha256_text, sha512_text};
 ghost use Rattle.pwcheck_run.specs.Bench.{line_seed, line_verdict, made_text, matches, mismatches, others, says_match, says_mismatch, scrypt_record, scrypt_text, summary, summary_text};
-ghost use Rattle.stored_check.specs.Limits.{password_max};
+ghost use Rattle.phc_kdf.specs.Limits.{password_max};
 
 use line_io::{Failed, Sink, write_all};
 use line_program::status::{ALL_GOOD, NO_MEMORY, WRITE_FAULT};

@@ -24,6 +24,7 @@ mod streams;
 mod verdict_word;
 mod words;
 
+pub use normalize::normalize_lines;
 pub use program::{run, run_limited};
 pub use verdict_word::word;
 pub use words::Words;

@@ -12,7 +12,7 @@ use line_program::run_lines;
 
 /// Writes the normal text of each line of a source of at most `max` bytes, and gives the status. Memory is never
 /// wanting.
-pub(crate) fn normalize_lines<S: Source, K: Sink>(source: &mut S, sink: &mut K, max: u64) -> u8
+pub fn normalize_lines<S: Source, K: Sink>(source: &mut S, sink: &mut K, max: u64) -> u8
     requires { max ≤ 2 ^ 40 }
     ensures statuses { (result ≤ 6) × (result ≢ 2) × (result ≢ 5) }
     ensures read_fault { result ≡ 3 → HasRisen (S.faults source.old) (S.faults source.new) }

@@ -2,7 +2,7 @@
 
 use crate::make_cli::{make, normalize, unwrap, wrap};
 use crate::options::{file, flag, form, plus, wanted, with_from, with_telling};
-use crate::table_form::table;
+use crate::tables::table;
 use clap::{Arg, Command, value_parser};
 use std::alloc::{AllocError, Global};
 

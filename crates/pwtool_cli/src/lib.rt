@@ -4,20 +4,20 @@
 mod cli;
 mod make_cli;
 mod options;
-mod table_form;
+mod tables;
 
 use clap::ArgMatches;
 use clap::error::ErrorKind;
 pub use cli::command;
 use line_program::status::{ALL_GOOD, NO_MEMORY, NO_WORDS, WRITE_FAULT};
 use pwtool_forms::fault::{say, say_refused};
-use pwtool_forms::form::{run_check, run_survey};
-use pwtool_forms::make::run_make_form;
-use pwtool_forms::pair::run_join;
-use pwtool_forms::small_forms::{run_normalize, run_stream_form};
+use pwtool_forms::form::{check_form, survey_form};
+use pwtool_forms::make::make_form;
+use pwtool_forms::pair::join_form;
+use pwtool_forms::small_forms::{normalize_form, stream_form};
 use pwtool_forms::status::BAD_WORDS;
 use std::{env, io};
-pub use table_form::run_table;
+pub use tables::table_form;
 
 // The words of the command line, or the status.
 fn words(rt: &HostRuntime) -> Result<Vec<String>, u8> {
@@ -76,14 +76,14 @@ fn run_form(rt: &HostRuntime, matches: &ArgMatches<'_>) -> u8 {
         return BAD_WORDS;
     };
     match form_named(name) {
-        Form::Check => run_check(rt, matches),
-        Form::Join => run_join(rt, matches),
-        Form::Survey => run_survey(rt, matches),
-        Form::Make => run_make_form(rt, matches),
-        Form::Table => run_table(rt, matches),
-        Form::Normalize => run_normalize(rt, matches),
-        Form::Wrap => run_stream_form(rt, "wrap", matches),
-        Form::Unwrap => run_stream_form(rt, "unwrap", matches),
+        Form::Check => check_form(rt, matches),
+        Form::Join => join_form(rt, matches),
+        Form::Survey => survey_form(rt, matches),
+        Form::Make => make_form(rt, matches),
+        Form::Table => table_form(rt, matches),
+        Form::Normalize => normalize_form(rt, matches),
+        Form::Wrap => stream_form(rt, "wrap", matches),
+        Form::Unwrap => stream_form(rt, "unwrap", matches),
     }
 }
 

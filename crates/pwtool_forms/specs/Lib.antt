@@ -1,3 +1,1 @@
 pub mod Make
-pub mod Normalize
-pub mod NormalState

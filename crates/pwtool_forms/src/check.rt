@@ -1,15 +1,13 @@
 //! The form `check` without its command line: what the theorem is about.
 
 ghost use Rattle.std.specs.Prelude.{◌≡◌, ◌≢◌, ◌≤◌, ◌^◌};
-ghost use Rattle.line_io.specs.Devices.{WhereTold};
-ghost use Rattle.pieces.specs.FaultCounts.{HasRisen};
-ghost use Rattle.line_program.specs.Outcome.{Outcome};
-ghost use Rattle.any_check.specs.Lines.{any_line_rules};
+ghost use Rattle.line_program.specs.Outcome.{Outcome, RunTold};
+ghost use Rattle.shadow_check.specs.Lines.{any_line_rules};
 ghost use Rattle.shadow_check.specs.Users.{user_line_rules};
 
-use any_check::{CostLimits, run_any};
+use any_check::CostLimits;
 use line_io::{INPUT_MAX, Sink, Source};
-use shadow_check::run_users;
+use shadow_check::{run_any, run_users};
 use std::alloc::Global;
 
 /// Answers each line of a source of at most 2^40 bytes with its word, and gives the status.
@@ -22,10 +20,7 @@ pub fn check_lines<S: Source, K: Sink>(
     source: &mut S,
     sink: &mut K,
 ) -> u8
-    ensures statuses { (result ≤ 6) × (result ≢ 2) }
-    ensures read_fault { result ≡ 3 → HasRisen (S.faults source.old) (S.faults source.new) }
-    ensures write_fault { result ≡ 4 → HasRisen (K.faults sink.old) (K.faults sink.new) }
-    ensures outcome { WhereTold (S.left source.old) (S.left source.new) (K.written sink.old) (K.written sink.new)
+    ensures told { RunTold S.left S.faults source.old source.new K.written K.faults sink.old sink.new result
         (λ held taken added. Outcome (any_line_rules limits) result (2 ^ 40) held taken added) }
 {
     run_any(alloc, limits, source, sink, INPUT_MAX)
@@ -39,10 +34,7 @@ pub fn check_users<S: Source, K: Sink>(
     source: &mut S,
     sink: &mut K,
 ) -> u8
-    ensures statuses { (result ≤ 6) × (result ≢ 2) }
-    ensures read_fault { result ≡ 3 → HasRisen (S.faults source.old) (S.faults source.new) }
-    ensures write_fault { result ≡ 4 → HasRisen (K.faults sink.old) (K.faults sink.new) }
-    ensures outcome { WhereTold (S.left source.old) (S.left source.new) (K.written sink.old) (K.written sink.new)
+    ensures told { RunTold S.left S.faults source.old source.new K.written K.faults sink.old sink.new result
         (λ held taken added. Outcome (user_line_rules limits) result (2 ^ 40) held taken added) }
 {
     run_users(alloc, limits, source, sink, INPUT_MAX)

@@ -2,24 +2,22 @@
 
 ghost use Rattle.std.specs.Prelude.{◌≡◌, ◌≢◌, ◌≤◌, ◌^◌, IfSome, Ok, Err};
 ghost use Rattle.line_io.specs.Devices.{WhereTold};
-ghost use Rattle.line_program.specs.Outcome.{Outcome};
-ghost use Rattle.line_state.specs.Outcome.{EndedOutcome};
+ghost use Rattle.line_program.specs.Outcome.{EndedOutcome, Outcome, RunTold};
 ghost use Rattle.pieces.specs.FaultCounts.{HasRisen};
 ghost use Rattle.shadow_survey.specs.Rows.{ending_text};
 ghost use Rattle.shadow_survey.specs.Rules.{survey_rules};
-ghost use Rattle.shadow_check.specs.FewerOutcome.{fewer_status};
-ghost use Rattle.shadow_check.specs.JoinOutcome.{status_of};
+ghost use Rattle.shadow_check.specs.FewerOutcome.{FewerOutcome, fewer_status};
+ghost use Rattle.shadow_check.specs.JoinOutcome.{JoinOutcome, status_of};
 ghost use Rattle.foreign_lines.specs.Rules.{foreign_state};
-ghost use Rattle.foreign_lines.specs.Runs.{ForeignFewer, ForeignJoin, foreign_rules, foreign_user_rules};
+ghost use Rattle.foreign_lines.specs.Runs.{foreign_joined_rules, foreign_rules, foreign_user_rules};
 
 use any_check::CostLimits;
 use foreign_lines::{
-    ForeignLines, run_foreign, run_foreign_join, run_foreign_join_fewer, run_foreign_survey,
-    run_foreign_users,
+    ForeignJoin, ForeignLines, run_foreign, run_foreign_survey, run_foreign_users,
 };
 use foreign_text::Foreign;
 use line_io::{INPUT_MAX, Sink, Source};
-use shadow_check::JoinEnd;
+use shadow_check::{JoinEnd, run_join, run_join_fewer};
 use shadow_survey::SurveyLines;
 use std::alloc::Global;
 use std::hash::RandomState;
@@ -35,10 +33,7 @@ pub fn check_foreign<S: Source, K: Sink>(
     source: &mut S,
     sink: &mut K,
 ) -> u8
-    ensures statuses { (result ≤ 6) × (result ≢ 2) }
-    ensures read_fault { result ≡ 3 → HasRisen (S.faults source.old) (S.faults source.new) }
-    ensures write_fault { result ≡ 4 → HasRisen (K.faults sink.old) (K.faults sink.new) }
-    ensures outcome { WhereTold (S.left source.old) (S.left source.new) (K.written sink.old) (K.written sink.new)
+    ensures told { RunTold S.left S.faults source.old source.new K.written K.faults sink.old sink.new result
         (λ held taken added. Outcome (foreign_rules foreign limits) result (2 ^ 40) held taken added) }
 {
     run_foreign(alloc, foreign, limits, source, sink, INPUT_MAX)
@@ -52,10 +47,7 @@ pub fn check_foreign_users<S: Source, K: Sink>(
     source: &mut S,
     sink: &mut K,
 ) -> u8
-    ensures statuses { (result ≤ 6) × (result ≢ 2) }
-    ensures read_fault { result ≡ 3 → HasRisen (S.faults source.old) (S.faults source.new) }
-    ensures write_fault { result ≡ 4 → HasRisen (K.faults sink.old) (K.faults sink.new) }
-    ensures outcome { WhereTold (S.left source.old) (S.left source.new) (K.written sink.old) (K.written sink.new)
+    ensures told { RunTold S.left S.faults source.old source.new K.written K.faults sink.old sink.new result
         (λ held taken added. Outcome (foreign_user_rules foreign limits) result (2 ^ 40) held taken added) }
 {
     run_foreign_users(alloc, foreign, limits, source, sink, INPUT_MAX)
@@ -68,10 +60,7 @@ pub fn survey_foreign<S: Source, K: Sink>(
     source: &mut S,
     sink: &mut K,
 ) -> u8
-    ensures statuses { (result ≤ 6) × (result ≢ 2) }
-    ensures read_fault { result ≡ 3 → HasRisen (S.faults source.old) (S.faults source.new) }
-    ensures write_fault { result ≡ 4 → HasRisen (K.faults sink.old) (K.faults sink.new) }
-    ensures outcome { WhereTold (S.left source.old) (S.left source.new) (K.written sink.old) (K.written sink.new)
+    ensures told { RunTold S.left S.faults source.old source.new K.written K.faults sink.old sink.new result
         (λ held taken added. EndedOutcome
         (foreign_state (λ s. s.foreign) (λ s. s.form) (λ s. s.inner) (λ s i. record s { inner = i }) survey_rules)
         (λ s. ending_text s.inner.format s.inner.counts) lines.old result (2 ^ 40) held taken added) }
@@ -81,7 +70,7 @@ pub fn survey_foreign<S: Source, K: Sink>(
 
 /// Answers each user of a file of foreign texts by the user's password in another file, each of at most 2^40 bytes.
 ///
-/// Answers, statuses and memory are those of [`run_foreign_join`].
+/// Answers, statuses and memory are those of [`run_join`] by [`ForeignJoin`].
 pub fn join_foreign<P: Source, T: Source, K: Sink>(
     alloc: Global,
     keys: RandomState,
@@ -97,14 +86,17 @@ pub fn join_foreign<P: Source, T: Source, K: Sink>(
     ensures write_fault { status_of result ≡ 4 → HasRisen (K.faults sink.old) (K.faults sink.new) }
     ensures outcome { IfSome (P.left passwords.old) (λ given.
         WhereTold (T.left texts.old) (T.left texts.new) (K.written sink.old) (K.written sink.new)
-        (λ held taken added. ForeignJoin foreign limits result (2 ^ 40) given held taken added)) }
+        (λ held taken added. JoinOutcome (foreign_joined_rules foreign limits) result (2 ^ 40) given held taken added)) }
 {
-    run_foreign_join(
-        alloc, keys, foreign, limits, passwords, texts, sink, INPUT_MAX,
-    )
+    let joining = ForeignJoin {
+        alloc,
+        foreign,
+        limits,
+    };
+    run_join(alloc, keys, &joining, passwords, texts, sink, INPUT_MAX)
 }
 
-/// The same, reading the texts first for their users, as [`run_foreign_join_fewer`] does.
+/// The same, reading the texts first for their users, as [`run_join_fewer`] does.
 pub fn join_foreign_fewer<U: Source, P: Source, T: Source, K: Sink>(
     alloc: Global,
     keys: RandomState,
@@ -122,9 +114,14 @@ pub fn join_foreign_fewer<U: Source, P: Source, T: Source, K: Sink>(
     ensures write_fault { fewer_status result ≡ 4 → HasRisen (K.faults sink.old) (K.faults sink.new) }
     ensures outcome { IfSome (U.left users.old) (λ first. IfSome (P.left passwords.old) (λ given.
         WhereTold (T.left texts.old) (T.left texts.new) (K.written sink.old) (K.written sink.new)
-        (λ held taken added. ForeignFewer foreign limits result (2 ^ 40) first given held taken added))) }
+        (λ held taken added. FewerOutcome (foreign_joined_rules foreign limits) result (2 ^ 40) first given held taken added))) }
 {
-    run_foreign_join_fewer(
-        alloc, keys, foreign, limits, users, passwords, texts, sink, INPUT_MAX,
+    let joining = ForeignJoin {
+        alloc,
+        foreign,
+        limits,
+    };
+    run_join_fewer(
+        alloc, keys, &joining, users, passwords, texts, sink, INPUT_MAX,
     )
 }

@@ -58,7 +58,7 @@ pub fn answer<R: Read + Drop, W: Write + Drop>(
 }
 
 /// Answers the lines of the file that is named, or of standard input, and gives the status.
-pub fn run_check(rt: &HostRuntime, matches: &ArgMatches<'_>) -> u8 {
+pub fn check_form(rt: &HostRuntime, matches: &ArgMatches<'_>) -> u8 {
     let name = matches.get_str("FILE").unwrap_or("-");
     if name == "-" {
         return answer(rt, matches, name, rt.reader(), io::writer(rt));
@@ -112,7 +112,7 @@ pub fn survey_of(matches: &ArgMatches<'_>) -> Option<SurveyLines> {
 }
 
 /// Surveys the lines of the file that is named, or of standard input, and gives the status.
-pub fn run_survey(rt: &HostRuntime, matches: &ArgMatches<'_>) -> u8 {
+pub fn survey_form(rt: &HostRuntime, matches: &ArgMatches<'_>) -> u8 {
     let Some(lines) = survey_of(matches) else {
         say(rt, "--csv and --json exclude each other");
         return BAD_WORDS;

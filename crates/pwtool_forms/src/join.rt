@@ -4,12 +4,13 @@ ghost use Rattle.std.specs.Prelude.{◌≡◌, ◌≢◌, ◌≤◌, ◌^◌, If
 ghost use Rattle.line_io.specs.Devices.{WhereTold};
 ghost use Rattle.pieces.specs.FaultCounts.{HasRisen};
 ghost use Rattle.shadow_check.specs.FewerOutcome.{FewerOutcome, fewer_status};
+ghost use Rattle.shadow_check.specs.Join.{joined_rules};
 ghost use Rattle.shadow_check.specs.JoinOutcome.{JoinOutcome, status_of};
 ghost use Rattle.shadow_check.specs.NoText.{NoTextOutcome};
 
 use any_check::CostLimits;
 use line_io::{INPUT_MAX, Sink, Source};
-use shadow_check::{JoinEnd, run_join, run_join_fewer, run_no_text};
+use shadow_check::{JoinEnd, TextJoin, run_join, run_join_fewer, run_no_text};
 use std::alloc::Global;
 use std::hash::RandomState;
 
@@ -30,9 +31,10 @@ pub fn join_files<P: Source, T: Source, K: Sink>(
     ensures write_fault { status_of result ≡ 4 → HasRisen (K.faults sink.old) (K.faults sink.new) }
     ensures outcome { IfSome (P.left passwords.old) (λ given.
         WhereTold (T.left texts.old) (T.left texts.new) (K.written sink.old) (K.written sink.new)
-        (λ held taken added. JoinOutcome limits result (2 ^ 40) given held taken added)) }
+        (λ held taken added. JoinOutcome (joined_rules limits) result (2 ^ 40) given held taken added)) }
 {
-    run_join(alloc, keys, limits, passwords, texts, sink, INPUT_MAX)
+    let joining = TextJoin { alloc, limits };
+    run_join(alloc, keys, &joining, passwords, texts, sink, INPUT_MAX)
 }
 
 /// The same, reading the texts first for their users: of the passwords those of these users alone are kept.
@@ -54,10 +56,11 @@ pub fn join_fewer<U: Source, P: Source, T: Source, K: Sink>(
     ensures write_fault { fewer_status result ≡ 4 → HasRisen (K.faults sink.old) (K.faults sink.new) }
     ensures outcome { IfSome (U.left users.old) (λ first. IfSome (P.left passwords.old) (λ given.
         WhereTold (T.left texts.old) (T.left texts.new) (K.written sink.old) (K.written sink.new)
-        (λ held taken added. FewerOutcome limits result (2 ^ 40) first given held taken added))) }
+        (λ held taken added. FewerOutcome (joined_rules limits) result (2 ^ 40) first given held taken added))) }
 {
+    let joining = TextJoin { alloc, limits };
     run_join_fewer(
-        alloc, keys, limits, users, passwords, texts, sink, INPUT_MAX,
+        alloc, keys, &joining, users, passwords, texts, sink, INPUT_MAX,
     )
 }
 

@@ -14,7 +14,7 @@ pub mod form;
 mod from;
 mod join;
 pub mod make;
-mod normalizer;
+mod normalize;
 pub mod pair;
 pub mod progress;
 pub mod reports;
@@ -28,5 +28,5 @@ pub use foreign::{
     check_foreign, check_foreign_users, join_foreign, join_foreign_fewer, survey_foreign,
 };
 pub use join::{join_fewer, join_files, tell_no_text};
-pub use normalizer::normalize_lines;
+pub use normalize::normalize_lines;
 pub use survey::survey_lines;

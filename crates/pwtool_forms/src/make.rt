@@ -162,7 +162,7 @@ fn make(rt: &HostRuntime, cost: MakeCost) -> u8 {
 }
 
 /// Makes the text of the password on standard input, and gives the status.
-pub fn run_make_form(rt: &HostRuntime, matches: &ArgMatches<'_>) -> u8 {
+pub fn make_form(rt: &HostRuntime, matches: &ArgMatches<'_>) -> u8 {
     let name = matches.get_str("SCHEME").unwrap_or("");
     let Some(scheme) = scheme_of(rt, name) else {
         return BAD_WORDS;

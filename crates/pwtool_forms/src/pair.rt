@@ -175,7 +175,7 @@ fn join_opened(
 }
 
 /// Answers the users of the first file that is named by the passwords of the second, and gives the status.
-pub fn run_join(rt: &HostRuntime, matches: &ArgMatches<'_>) -> u8 {
+pub fn join_form(rt: &HostRuntime, matches: &ArgMatches<'_>) -> u8 {
     let names = Names {
         texts: matches.get_str("TEXTS").unwrap_or("-"),
         passwords: matches.get_str("PASSWORDS").unwrap_or("-"),

@@ -1,7 +1,7 @@
 //! The forms `normalize`, `wrap` and `unwrap` from their command lines on.
 
 use crate::fault::{say, say_at};
-use crate::normalizer::normalize_lines;
+use crate::normalize::normalize_lines;
 use crate::reports::{opened, told};
 use crate::status::{BAD_WORDS, NO_FILE};
 use clap::ArgMatches;
@@ -22,7 +22,7 @@ fn normalize<R: Read + Drop>(rt: &HostRuntime, name: &str, reader: R) -> u8 {
 }
 
 /// Writes the normal texts of the lines of the file that is named, or of standard input, and gives the status.
-pub fn run_normalize(rt: &HostRuntime, matches: &ArgMatches<'_>) -> u8 {
+pub fn normalize_form(rt: &HostRuntime, matches: &ArgMatches<'_>) -> u8 {
     let name = matches.get_str("FILE").unwrap_or("-");
     if name == "-" {
         return normalize(rt, name, rt.reader());
@@ -58,7 +58,7 @@ fn stream<R: Read + Drop>(
 }
 
 /// Does what the form `wrap` or `unwrap` says with the file that is named, or with standard input, and gives the status.
-pub fn run_stream_form(rt: &HostRuntime, form: &str, matches: &ArgMatches<'_>) -> u8 {
+pub fn stream_form(rt: &HostRuntime, form: &str, matches: &ArgMatches<'_>) -> u8 {
     let name = matches.get_str("FILE").unwrap_or("-");
     if name == "-" {
         return stream(rt, form, matches, name, rt.reader());

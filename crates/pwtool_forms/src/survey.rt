@@ -1,9 +1,7 @@
 //! The form `survey` without its command line: what the theorem is about.
 
 ghost use Rattle.std.specs.Prelude.{◌≡◌, ◌≢◌, ◌≤◌, ◌^◌};
-ghost use Rattle.line_io.specs.Devices.{WhereTold};
-ghost use Rattle.line_state.specs.Outcome.{EndedOutcome};
-ghost use Rattle.pieces.specs.FaultCounts.{HasRisen};
+ghost use Rattle.line_program.specs.Outcome.{EndedOutcome, RunTold};
 ghost use Rattle.shadow_survey.specs.Rows.{ending_text};
 ghost use Rattle.shadow_survey.specs.Rules.{survey_rules};
 
@@ -13,10 +11,7 @@ use shadow_survey::{SurveyLines, run_survey};
 /// Writes a row for each line of a source of at most 2^40 bytes, and in the form for people how many there are of each
 /// judgement behind them. Statuses are those of [`run_survey`]; no memory is taken.
 pub fn survey_lines<S: Source, K: Sink>(lines: &mut SurveyLines, source: &mut S, sink: &mut K) -> u8
-    ensures statuses { (result ≤ 6) × (result ≢ 2) }
-    ensures read_fault { result ≡ 3 → HasRisen (S.faults source.old) (S.faults source.new) }
-    ensures write_fault { result ≡ 4 → HasRisen (K.faults sink.old) (K.faults sink.new) }
-    ensures outcome { WhereTold (S.left source.old) (S.left source.new) (K.written sink.old) (K.written sink.new)
+    ensures told { RunTold S.left S.faults source.old source.new K.written K.faults sink.old sink.new result
         (λ held taken added. EndedOutcome survey_rules (λ s. ending_text s.format s.counts) lines.old result (2 ^ 40) held
         taken added) }
 {

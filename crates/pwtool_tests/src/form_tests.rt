@@ -3,7 +3,7 @@
 
 use any_check::CostLimits;
 use any_make::{MakeCost, MakeEnd, MakeFault, scheme_named};
-use pwtool_cli::{command, run_table};
+use pwtool_cli::{command, table_form};
 use pwtool_forms::bounds::{bound_of, least_of};
 use pwtool_forms::form::{answer, survey, survey_of};
 use pwtool_forms::make::{cost_of, told};
@@ -402,7 +402,7 @@ fn table_status(rt: &HostRuntime, name: &str, action: &str) -> Result<Option<u8>
         return Ok(None);
     };
     match matches.subcommand() {
-        Some((_, matches)) => Ok(Some(run_table(rt, matches))),
+        Some((_, matches)) => Ok(Some(table_form(rt, matches))),
         None => Ok(None),
     }
 }

@@ -3,6 +3,7 @@ use Rattle.std.proofs.Common.{ℕ, zero, suc, ◌+◌, ◌/◌, ◌<◌, List, [
 use Rattle.std.proofs.Common.{arith}
 use Rattle.std.specs.Int.{w32, to_be_bytes, bytes_high_first, byte_at}
 use Rattle.sha2.specs.Sha256.{sha256, digest_bytes}
+use Rattle.hmac_plain.specs.Hmac as of_any
 use Rattle.scrypt_plain.specs.Hmac.{hmac}
 use Rattle.scrypt_plain.specs.Laws.{AreBytes}
 use Rattle.scrypt_plain.specs.Pbkdf2.{pbkdf2_blocks}
@@ -36,7 +37,7 @@ digest_bytes_below h (suc n) i =
     (number_bytes 4 (slice_index h n)) i
 
 hmac_bytes : (key text : List ℕ) → AreBytes (hmac key text)
-unfolding hmac sha256
+unfolding of_any.hmac sha256
 hmac_bytes key text = digest_bytes_below _ 8
 
 blocks_bytes : (p s : List ℕ) (i : ℕ) → AreBytes (pbkdf2_blocks p s i)

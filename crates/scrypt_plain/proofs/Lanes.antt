@@ -6,59 +6,10 @@ use Rattle.std.proofs.lemmas.Simd.{Each1-get_or}
 use Rattle.std.proofs.lemmas.List.{nil_from_length}
 use lib.Lanes.{chunk, put_chunk}
 use Rattle.scrypt_plain.specs.Bytes.{bytes}
-use Rattle.scrypt_plain.specs.Scrypt.{add32, quarter_round, column_round, row_round}
+use Rattle.scrypt_plain.specs.Scrypt.{quarter_round, column_round, row_round}
+use Rattle.word_lists.specs.Sums.{add32}
 use Rattle.scrypt_plain.specs.Layout.{xor_rotated, quarter_words, lane_words, block_words, block_bytes}
-
--- what holds of each of the four lanes
-pub below_four : (P : ℕ → Type 0) → P 0 → P 1 → P 2 → P 3 → (j : ℕ) → j < 4 → P j
-below_four P p0 p1 p2 p3 zero h = p0
-below_four P p0 p1 p2 p3 (suc zero) h = p1
-below_four P p0 p1 p2 p3 (suc (suc zero)) h = p2
-below_four P p0 p1 p2 p3 (suc (suc (suc zero))) h = p3
-below_four P p0 p1 p2 p3 (suc (suc (suc (suc n)))) h = absurd (omega arith)
-
--- what holds of each list of four elements
-pub four_lanes : (P : List ℕ → Type 0) → ((a b c d : ℕ) → P (a ∷ b ∷ c ∷ d ∷ [])) → (xs : List ℕ) → length xs ≡ 4 → P xs
-four_lanes P p (a ∷ b ∷ c ∷ d ∷ []) h = p a b c d
-four_lanes P p [] h = absurd (omega arith)
-four_lanes P p (a ∷ []) h = absurd (omega arith)
-four_lanes P p (a ∷ b ∷ []) h = absurd (omega arith)
-four_lanes P p (a ∷ b ∷ c ∷ []) h = absurd (omega arith)
-four_lanes P p (a ∷ b ∷ c ∷ d ∷ e ∷ xs) h = absurd (omega arith)
-
--- a list that is not empty, by its first element and the rest
-next : (P : List ℕ → Type 0) (n : ℕ) → ((x : ℕ) (xs : List ℕ) → length xs ≡ n → P (x ∷ xs)) → (s : List ℕ)
-    → length s ≡ n + 1 → P s
-next P n p [] h = absurd (omega arith)
-next P n p (x ∷ xs) h = p x xs (omega arith)
-
--- what holds of each list of sixteen
-pub sixteen : (P : List ℕ → Type 0)
-    → ((x0 x1 x2 x3 x4 x5 x6 x7 x8 x9 x10 x11 x12 x13 x14 x15 : ℕ)
-    → P (x0 ∷ x1 ∷ x2 ∷ x3 ∷ x4 ∷ x5 ∷ x6 ∷ x7 ∷ x8 ∷ x9 ∷ x10 ∷ x11 ∷ x12 ∷ x13 ∷ x14 ∷ x15 ∷ [])) → (s : List ℕ)
-    → length s ≡ 16 → P s
-sixteen P p s0 h0 =
-    next (λ (s : List ℕ). P (s)) 15 (λ x0 s1 h1.
-    next (λ (s : List ℕ). P (x0 ∷ s)) 14 (λ x1 s2 h2.
-    next (λ (s : List ℕ). P (x0 ∷ x1 ∷ s)) 13 (λ x2 s3 h3.
-    next (λ (s : List ℕ). P (x0 ∷ x1 ∷ x2 ∷ s)) 12 (λ x3 s4 h4.
-    next (λ (s : List ℕ). P (x0 ∷ x1 ∷ x2 ∷ x3 ∷ s)) 11 (λ x4 s5 h5.
-    next (λ (s : List ℕ). P (x0 ∷ x1 ∷ x2 ∷ x3 ∷ x4 ∷ s)) 10 (λ x5 s6 h6.
-    next (λ (s : List ℕ). P (x0 ∷ x1 ∷ x2 ∷ x3 ∷ x4 ∷ x5 ∷ s)) 9 (λ x6 s7 h7.
-    next (λ (s : List ℕ). P (x0 ∷ x1 ∷ x2 ∷ x3 ∷ x4 ∷ x5 ∷ x6 ∷ s)) 8 (λ x7 s8 h8.
-    next (λ (s : List ℕ). P (x0 ∷ x1 ∷ x2 ∷ x3 ∷ x4 ∷ x5 ∷ x6 ∷ x7 ∷ s)) 7 (λ x8 s9 h9.
-    next (λ (s : List ℕ). P (x0 ∷ x1 ∷ x2 ∷ x3 ∷ x4 ∷ x5 ∷ x6 ∷ x7 ∷ x8 ∷ s)) 6 (λ x9 s10 h10.
-    next (λ (s : List ℕ). P (x0 ∷ x1 ∷ x2 ∷ x3 ∷ x4 ∷ x5 ∷ x6 ∷ x7 ∷ x8 ∷ x9 ∷ s)) 5 (λ x10 s11 h11.
-    next (λ (s : List ℕ). P (x0 ∷ x1 ∷ x2 ∷ x3 ∷ x4 ∷ x5 ∷ x6 ∷ x7 ∷ x8 ∷ x9 ∷ x10 ∷ s)) 4 (λ x11 s12 h12.
-    next (λ (s : List ℕ). P (x0 ∷ x1 ∷ x2 ∷ x3 ∷ x4 ∷ x5 ∷ x6 ∷ x7 ∷ x8 ∷ x9 ∷ x10 ∷ x11 ∷ s)) 3 (λ x12 s13 h13.
-    next (λ (s : List ℕ). P (x0 ∷ x1 ∷ x2 ∷ x3 ∷ x4 ∷ x5 ∷ x6 ∷ x7 ∷ x8 ∷ x9 ∷ x10 ∷ x11 ∷ x12 ∷ s)) 2 (λ x13 s14 h14.
-    next (λ (s : List ℕ). P (x0 ∷ x1 ∷ x2 ∷ x3 ∷ x4 ∷ x5 ∷ x6 ∷ x7 ∷ x8 ∷ x9 ∷ x10 ∷ x11 ∷ x12 ∷ x13 ∷ s)) 1
-    (λ x14 s15 h15.
-    next (λ (s : List ℕ). P (x0 ∷ x1 ∷ x2 ∷ x3 ∷ x4 ∷ x5 ∷ x6 ∷ x7 ∷ x8 ∷ x9 ∷ x10 ∷ x11 ∷ x12 ∷ x13 ∷ x14 ∷ s)) 0
-    (λ x15 s16 h16.
-    subst (λ (s : List ℕ). P (x0 ∷ x1 ∷ x2 ∷ x3 ∷ x4 ∷ x5 ∷ x6 ∷ x7 ∷ x8 ∷ x9 ∷ x10 ∷ x11 ∷ x12 ∷ x13 ∷ x14 ∷ x15 ∷ s))
-    (sym (nil_from_length s16 h16)) (p x0 x1 x2 x3 x4 x5 x6 x7 x8 x9 x10 x11 x12 x13 x14 x15)) s15 h15) s14 h14) s13
-    h13) s12 h12) s11 h11) s10 h10) s9 h9) s8 h8) s7 h7) s6 h6) s5 h5) s4 h4) s3 h3) s2 h2) s1 h1) s0 h0
+use Rattle.word_lists.proofs.Lanes.{below_four, four_lanes, sixteen, LaneWise}
 
 -- the rounds, word by word
 column_is : (x0 x1 x2 x3 x4 x5 x6 x7 x8 x9 x10 x11 x12 x13 x14 x15 : ℕ)
@@ -155,10 +106,6 @@ stored = sixteen (λ s. (a : List ℕ) → length a ≡ 4 → (b : List ℕ) →
     four_lanes (λ c. (d : List ℕ) → length d ≡ 4 → Stored s a b c d) (λ c0 c1 c2 c3.
     let c = c0 ∷ c1 ∷ c2 ∷ c3 ∷ [] in
     four_lanes (λ d. Stored s a b c d) (λ d0 d1 d2 d3. refl)))))
-
--- an operation on the words of two blocks, lane by lane
-abbrev pub LaneWise : (ℕ → ℕ → ℕ) → List ℕ → List ℕ → List ℕ → Type 0
-LaneWise f r x y = (j : ℕ) → j < 4 → slice_index r j ≡ f (slice_index x j) (slice_index y j)
 
 pub lane_words-zip2 : (f : ℕ → ℕ → ℕ) (r s t u e f' g h a b c d : List ℕ)
     → LaneWise f r e a → LaneWise f s f' b → LaneWise f t g c → LaneWise f u h d

@@ -1,11 +1,10 @@
--- The verdicts on a text that scrypt makes of a password and a salt.
+-- The text of the record that scrypt makes of a password and a salt.
 use Rattle.std.proofs.Common.{◌≡◌, ℕ, ◌*◌, ◌^◌, ◌≤◌, true, List, [], ◌∷◌, ◌++◌, length, refl, sym, ap, ◌∙◌, append-nil}
 use Rattle.std.proofs.Common.{append_assoc, arith, Ok}
 use Rattle.std.specs.Prelude.{codes, Some, None}
 use Rattle.std.specs.List.{list_all}
 use Rattle.std.proofs.lemmas.Bool.Decides.{nat_tests}
 use Rattle.base64ct.specs.Encoding.{EachBelow}
-use Rattle.base64ct.proofs.DecodingLaws.{true_same}
 use Rattle.mcf.specs.Grammar.{Parts, fault, field_fault, first_field_fault, is_field_byte, mcf, parts}
 use Rattle.mcf.specs.Grammar.{parts_text}
 use Rattle.mcf.proofs.Built.{mcf-parts_text}
@@ -20,9 +19,7 @@ use Rattle.phc.specs.declared.password_hash.PasswordHash.{PasswordHash}
 use Rattle.phc.proofs.Characters.{all_weaker, encoding_value}
 use Rattle.phc.proofs.EncodedBytes.{encoded_length}
 use Rattle.phc.proofs.ParsedBack.{parses_back}
-use Rattle.stored_check.proofs.MadeTexts.{of_parts}
-use Rattle.stored_check.proofs.MadeTexts as made_texts
-use Rattle.stored_check.specs.Verdict.{phc_answer, same_text}
+use Rattle.phc_kdf.proofs.MadeRecords.{IsMadeRecord}
 use Rattle.scrypt_plain.specs.Lengths.{length-pbkdf2_once}
 use Rattle.scrypt_plain.specs.Pbkdf2.{pbkdf2_once}
 use Rattle.scrypt_plain.specs.Profile.{accepted, cost_of, key, scrypt_accepts, scrypt_key}
@@ -133,8 +130,8 @@ module _ (ln r p : List ℕ) (n b c : ℕ) (written : IsWritten ln r p n b c) wh
           let good : first_field_fault (made_parts salt k).fields ≡ None = rw (written.field, of_salt, of_key) refl in
           ap mcf (sym (parts_printed salt k)) ∙ mcf-parts_text (made_parts salt k) refl good
 
-      -- each password has a verdict on it, and its own matches
-      pub scrypt_made : made_texts.IsMade accepted key password (made_text ln r p n b c password salt)
+      -- so each password has a verdict on it, and its own matches
+      pub scrypt_made : IsMadeRecord accepted key (codes "scrypt") password (made_text ln r p n b c password salt)
       scrypt_made =
           let k : List ℕ = made_key n b c password salt in
           let size : length k ≡ 32 = key_length password salt (2 ^ n) b c in
@@ -143,12 +140,16 @@ module _ (ln r p : List ℕ) (n b c : ℕ) (written : IsWritten ln r p n b c) wh
           let valid : IsRecord made =
           record_valid salt k below least most (scrypt_bytes password salt (2 ^ n) b c 32) size in
           let is_record : phc q.id q.fields ≡ Ok made =
-          sym (read_phc (record_text made) q made_read) ∙ parses_back made valid refl in (
-            λ (asked : List ℕ). same_text (encoding k) (encoding (made_key n b c asked salt)),
-            λ (asked : List ℕ) fits.
-                of_parts accepted key asked (record_text made) q fits made_read
-                ∙ ap (phc_answer accepted key asked) is_record
-                ∙ rw size (rw (accepts salt k)
-                (ap (λ (t : List ℕ). Ok (same_text (encoding k) (encoding t))) (keys asked salt k))),
-            true_same (encoding k),
-          )
+          sym (read_phc (record_text made) q made_read) ∙ parses_back made valid refl in
+          record {
+            fields = q.fields;
+            made = made;
+            salt = salt;
+            hash = k;
+            read = made_read;
+            is_record = is_record;
+            has_salt = refl;
+            has_hash = refl;
+            takes = rw size (accepts salt k);
+            is_key = rw size (keys password salt k);
+          }

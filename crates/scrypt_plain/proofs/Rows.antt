@@ -8,10 +8,12 @@ use Rattle.std.proofs.lemmas.List.{drop-take, drop_at, drop-append-le, take-appe
 use Rattle.std.proofs.lemmas.List.{length-take, length-drop, append_assoc, append-nil}
 use Rattle.std.proofs.lemmas.Slice.{take-put_mid_below, drop-put_mid, between-put_mid}
 use borrow.Rule.Slice.PartMut.{put_mid}
-use Rattle.scrypt_plain.specs.Bytes.{xor_bytes}
+use Rattle.word_lists.specs.Lists.{xor_bytes}
 use Rattle.scrypt_plain.specs.Scrypt.{salsa20_8, block, mix_state, mixed_block, concat_below, block_mix}
 use Rattle.scrypt_plain.specs.declared.salsa.Block.{Block}
 use Rattle.scrypt_plain.specs.Layout.{lane_bytes, block_bytes, row_block, row_bytes}
+use Rattle.word_lists.proofs.Zips.{take-zip2, drop-zip2}
+use Rattle.word_lists.proofs.Pieces.{take_drop_left}
 
 -- ---- pieces, one after another
 
@@ -38,10 +40,6 @@ length-concat_below (suc n) w f h =
     let l = length-concat_below n w f h in
     let last = h n in
     length-append (concat_below n f) (f n) ∙ omega arith
-
-pub take_drop_left : (xs ys : List ℕ) (a w : ℕ) → a + w ≤ length xs → take w (drop a (xs ++ ys)) ≡ take w (drop a xs)
-take_drop_left xs ys a w h =
-    ap (take w) (drop-append-le a xs ys (omega arith)) ∙ take-append-le w (drop a xs) ys (rw length-drop (omega arith))
 
 -- piece k, where each piece has w elements
 pub concat_below_piece : (n w : ℕ) (f : ℕ → List ℕ) → ((k : ℕ) → length (f k) ≡ w) → (k : ℕ) → k < n
@@ -180,22 +178,6 @@ pub row_bytes_part : (n : ℕ) (s : List ℕ) (a w k : ℕ) → k < n → w ≡ 
     → block_bytes (take w (drop a s)) ≡ block (row_bytes n s) k
 row_bytes_part n s a w k lt width at =
     ap₂ (λ (u v : ℕ). block_bytes (take u (drop v s))) width at ∙ sym (block-row_bytes n s k lt)
-
-zip2-nil : (f : ℕ → ℕ → ℕ) (xs : List ℕ) → zip2 f xs [] ≡ []
-zip2-nil f [] = refl
-zip2-nil f (x ∷ xs) = refl
-
-pub take-zip2 : (f : ℕ → ℕ → ℕ) (n : ℕ) (xs ys : List ℕ) → take n (zip2 f xs ys) ≡ zip2 f (take n xs) (take n ys)
-take-zip2 f zero xs ys = refl
-take-zip2 f (suc n) [] ys = refl
-take-zip2 f (suc n) (x ∷ xs) [] = refl
-take-zip2 f (suc n) (x ∷ xs) (y ∷ ys) = ap (λ (z : List ℕ). f x y ∷ z) (take-zip2 f n xs ys)
-
-pub drop-zip2 : (f : ℕ → ℕ → ℕ) (n : ℕ) (xs ys : List ℕ) → drop n (zip2 f xs ys) ≡ zip2 f (drop n xs) (drop n ys)
-drop-zip2 f zero xs ys = refl
-drop-zip2 f (suc n) [] ys = refl
-drop-zip2 f (suc n) (x ∷ xs) [] = sym (zip2-nil f (drop n xs))
-drop-zip2 f (suc n) (x ∷ xs) (y ∷ ys) = drop-zip2 f n xs ys
 
 pub block-xor : (a b : List ℕ) (k : ℕ) → xor_bytes (block a k) (block b k) ≡ block (xor_bytes a b) k
 block-xor a b k =

@@ -7,15 +7,17 @@ use Rattle.std.proofs.lemmas.Nat.{pow-add, mod_below}
 use Rattle.std.proofs.lemmas.Bool.{cases_lt}
 use Rattle.std.proofs.lemmas.List.{drop_at, take_at, take_all, take-append-drop, length-take}
 use borrow.Rule.Slice.PartMut.{put_mid}
-use Rattle.scrypt_plain.specs.Bytes.{bytes, little_endian, xor_bytes}
+use Rattle.scrypt_plain.specs.Bytes.{bytes, little_endian}
+use Rattle.word_lists.specs.Lists.{xor_bytes, piece}
 use Rattle.scrypt_plain.specs.Scrypt.{integerify, concat_below, block_mix, table_row, ro_mix_state, part, ro_mix}
 use Rattle.scrypt_plain.specs.Scrypt.{ro_mix_step}
-use Rattle.scrypt_plain.specs.Layout.{block_bytes, block_words, row_block, row_bytes, piece}
+use Rattle.scrypt_plain.specs.Layout.{block_bytes, block_words, row_block, row_bytes}
 use Rattle.std.specs.Int.{to_le_bytes}
 use Rattle.std.proofs.lemmas.Slice.{drop-put_mid}
-use Rattle.scrypt_plain.proofs.Blocks.{take-more, bytes-append}
-use Rattle.scrypt_plain.proofs.Lanes.{sixteen}
-use Rattle.scrypt_plain.proofs.Rows.{concat_below_same, block-row_bytes, take_drop_left, row_block_same}
+use Rattle.scrypt_plain.proofs.Blocks.{bytes-append}
+use Rattle.word_lists.proofs.Pieces.{take-more, take_drop_left, piece_at, piece_put_same, piece_put_other}
+use Rattle.word_lists.proofs.Lanes.{sixteen}
+use Rattle.scrypt_plain.proofs.Rows.{concat_below_same, block-row_bytes, row_block_same}
 use Rattle.scrypt_plain.proofs.Rows.{row_block_other}
 
 -- ---- a block in the order of the table
@@ -74,17 +76,6 @@ pub row_bytes_from_bytes : (n : ℕ) (s t : List ℕ) → length s ≡ 16 * n
 row_bytes_from_bytes n s t h each =
     concat_below_same n (λ k. block_bytes (row_block t k)) (λ k. bytes (piece 16 s k)) each
     ∙ sym (bytes_pieces 16 n s h)
-
-pub piece_left : (w k : ℕ) (xs ys : List ℕ) → w * k + w ≤ length xs → piece w (xs ++ ys) k ≡ piece w xs k
-piece_left w k xs ys h = take_drop_left xs ys (w * k) w h
-
-pub piece-take : (w k m : ℕ) (s : List ℕ) → w * k + w ≤ m → m ≤ length s → piece w (take m s) k ≡ piece w s k
-piece-take w k m s h le =
-    sym (piece_left w k (take m s) (drop m s) (rw length-take (omega arith)))
-    ∙ ap (λ (z : List ℕ). piece w z k) (take-append-drop m s)
-
-pub piece_at : (w k : ℕ) (xs ys zs : List ℕ) → length xs ≡ w * k → length ys ≡ w → piece w (xs ++ (ys ++ zs)) k ≡ ys
-piece_at w k xs ys zs h e = ap (take w) (drop_at xs (ys ++ zs) (w * k) h) ∙ take_at ys zs w e
 
 -- ---- Integerify
 
@@ -202,27 +193,7 @@ even_power ln h =
 
 -- ---- the parts
 
-pub piece_put_same : (w i n : ℕ) (s p : List ℕ) → length p ≡ w → w * i + w ≤ length s
-    → piece w (put_mid (w * i) n s p) i ≡ p
-piece_put_same w i n s p len room =
-    piece_at w i (take (w * i) s) p (drop n (drop (w * i) s)) (rw length-take (omega arith)) len
-
-pub piece_put_other : (w i n k : ℕ) (s p : List ℕ) → n ≡ w → length p ≡ w → w * i + w ≤ length s → k ≢ i
-    → piece w (put_mid (w * i) n s p) k ≡ piece w s k
-piece_put_other w i n k s p width len room ne =
-    elim (cases_lt k i) [
-      | inl a ↦
-          let le : k + 1 ≤ i = omega arith in
-          let fits : w * k + w ≤ w * i = omega (arith, mul-le-mul_left w le) in
-          piece_left w k (take (w * i) s) (p ++ drop n (drop (w * i) s)) (rw length-take (omega arith))
-          ∙ piece-take w k (w * i) s fits (omega arith)
-      | inr b ↦
-          let le : i + 1 ≤ k = omega arith in
-          let fits : w * i + w ≤ w * k = omega (arith, mul-le-mul_left w le) in
-          ap (take w) (drop-put_mid (w * i) n s p (w * k) (omega arith) (omega arith) (omega arith))
-    ]
-
-drop-bytes : (n : ℕ) (ws : List ℕ) → drop (4 * n) (bytes ws) ≡ bytes (drop n ws)
+pub drop-bytes : (n : ℕ) (ws : List ℕ) → drop (4 * n) (bytes ws) ≡ bytes (drop n ws)
 drop-bytes zero ws = refl
 drop-bytes (suc n) [] = let e : 4 * suc n ≡ suc (suc (suc (suc (4 * n)))) = omega arith in
     ap (λ (m : ℕ). drop m (bytes [])) e
@@ -230,7 +201,7 @@ drop-bytes (suc n) (w ∷ ws) =
     let e : 4 * suc n ≡ suc (suc (suc (suc (4 * n)))) = omega arith in
     ap (λ (m : ℕ). drop m (bytes (w ∷ ws))) e ∙ drop-bytes n ws
 
-take-bytes : (n : ℕ) (ws : List ℕ) → take (4 * n) (bytes ws) ≡ bytes (take n ws)
+pub take-bytes : (n : ℕ) (ws : List ℕ) → take (4 * n) (bytes ws) ≡ bytes (take n ws)
 take-bytes zero ws = refl
 take-bytes (suc n) [] = let e : 4 * suc n ≡ suc (suc (suc (suc (4 * n)))) = omega arith in
     ap (λ (m : ℕ). take m (bytes [])) e

@@ -1,24 +1,10 @@
 -- Outside vectors, computed by the definitions: a wrong constant, order or step in one doesn't check.
-use Rattle.std.proofs.Common.{◌≡◌, [], ◌∷◌, codes, replicate, refl}
+use Rattle.std.proofs.Common.{◌≡◌, [], ◌∷◌, codes, refl}
 use Rattle.sha2.specs.Sha256.{sha256, digest_bytes, hash_after, compress, rounds, schedule, first_words}
-use Rattle.scrypt_plain.specs.Hmac.{hmac}
+use Rattle.hmac_plain.specs.Hmac as of_any
 use Rattle.scrypt_plain.specs.Pbkdf2.{pbkdf2_once, pbkdf2_blocks}
 use Rattle.scrypt_plain.specs.Scrypt.{salsa20_8, salsa20_8_words, double_rounds, column_round, row_round, quarter_round}
 use Rattle.scrypt_plain.specs.Scrypt.{block_mix, mix_state, concat_below, table_row, ro_mix_state, integerify, ro_mix}
-
--- RFC 4231, test case 2
-pub code_of_a_short_key : hmac (codes "Jefe") (codes "what do ya want for nothing?")
-    ≡ 0x5b ∷ 0xdc ∷ 0xc1 ∷ 0x46 ∷ 0xbf ∷ 0x60 ∷ 0x75 ∷ 0x4e ∷ 0x6a ∷ 0x04 ∷ 0x24 ∷ 0x26 ∷ 0x08 ∷ 0x95 ∷ 0x75 ∷ 0xc7
-    ∷ 0x5a ∷ 0x00 ∷ 0x3f ∷ 0x08 ∷ 0x9d ∷ 0x27 ∷ 0x39 ∷ 0x83 ∷ 0x9d ∷ 0xec ∷ 0x58 ∷ 0xb9 ∷ 0x64 ∷ 0xec ∷ 0x38 ∷ 0x43 ∷ []
-unfolding hmac sha256 digest_bytes hash_after compress rounds schedule first_words
-code_of_a_short_key = refl
-
--- RFC 4231, test case 6: the key has more than 64 bytes
-pub code_of_a_long_key : hmac (replicate 131 0xaa) (codes "Test Using Larger Than Block-Size Key - Hash Key First")
-    ≡ 0x60 ∷ 0xe4 ∷ 0x31 ∷ 0x59 ∷ 0x1e ∷ 0xe0 ∷ 0xb6 ∷ 0x7f ∷ 0x0d ∷ 0x8a ∷ 0x26 ∷ 0xaa ∷ 0xcb ∷ 0xf5 ∷ 0xb7 ∷ 0x7f
-    ∷ 0x8e ∷ 0x0b ∷ 0xc6 ∷ 0x21 ∷ 0x37 ∷ 0x28 ∷ 0xc5 ∷ 0x14 ∷ 0x05 ∷ 0x46 ∷ 0x04 ∷ 0x0f ∷ 0x0e ∷ 0xe3 ∷ 0x7f ∷ 0x54 ∷ []
-unfolding hmac sha256 digest_bytes hash_after compress rounds schedule first_words
-code_of_a_long_key = refl
 
 -- RFC 7914, section 8
 pub salsa20_8_of_a_block : salsa20_8 (
@@ -86,5 +72,5 @@ pub key_of_two_blocks : pbkdf2_once (codes "passwd") (codes "salt") 64
     ∷ 0xf9 ∷ 0x41 ∷ 0x85 ∷ 0x21 ∷ 0x6d ∷ 0xde ∷ 0x04 ∷ 0x65 ∷ 0xe6 ∷ 0x8b ∷ 0x9d ∷ 0x57 ∷ 0xc2 ∷ 0x0d ∷ 0xac ∷ 0xbc
     ∷ 0x49 ∷ 0xca ∷ 0x9c ∷ 0xcc ∷ 0xf1 ∷ 0x79 ∷ 0xb6 ∷ 0x45 ∷ 0x99 ∷ 0x16 ∷ 0x64 ∷ 0xb3 ∷ 0x9d ∷ 0x77 ∷ 0xef ∷ 0x31
     ∷ 0x7c ∷ 0x71 ∷ 0xb8 ∷ 0x45 ∷ 0xb1 ∷ 0xe3 ∷ 0x0b ∷ 0xd5 ∷ 0x09 ∷ 0x11 ∷ 0x20 ∷ 0x41 ∷ 0xd3 ∷ 0xa1 ∷ 0x97 ∷ 0x83 ∷ []
-unfolding hmac pbkdf2_blocks sha256 digest_bytes hash_after compress rounds schedule first_words
+unfolding of_any.hmac pbkdf2_blocks sha256 digest_bytes hash_after compress rounds schedule first_words
 key_of_two_blocks = refl

@@ -4,7 +4,8 @@ use Rattle.std.proofs.Common.{add-one}
 use Rattle.std.specs.Int.{w32, to_le_bytes}
 use Rattle.std.specs.Simd.Lanes.{zip2, Each1}
 use Rattle.std.proofs.lemmas.Nat.{from_le_bytes-to_le_bytes_4, xor_shr, xor_mod}
-use Rattle.scrypt_plain.specs.Bytes.{bytes, words, xor_bytes}
+use Rattle.scrypt_plain.specs.Bytes.{bytes, words}
+use Rattle.word_lists.specs.Lists.{xor_bytes}
 use Rattle.scrypt_plain.specs.Scrypt.{salsa20_8, salsa20_8_words, salsa20_2, salsa20_2_words, double_rounds, row_round, column_round}
 
 pub words-bytes : (ws : List ℕ) → Each1 (λ w. w < 2 ^ 32) ws → words (bytes ws) ≡ ws

@@ -4,10 +4,6 @@ use Rattle.std.specs.Int.{w32, from_le_bytes, to_le_bytes}
 use Rattle.std.specs.List.{flat_map}
 use Rattle.std.specs.Simd.Lanes.{zip2}
 
--- the exclusive or of two lists of bytes, as far as the shorter goes
-abbrev pub xor_bytes : List ℕ → List ℕ → List ℕ
-xor_bytes = zip2 bit_xor
-
 -- the 32-bit words of some bytes, lowest byte first (RFC 7914, section 3)
 abbrev pub words : List ℕ → List ℕ
 words (a ∷ b ∷ c ∷ d ∷ rest) = from_le_bytes w32 (a ∷ b ∷ c ∷ d ∷ []) ∷ words rest

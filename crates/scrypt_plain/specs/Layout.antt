@@ -4,7 +4,8 @@
 use Rattle.std.specs.Prelude.{ℕ, ◌*◌, List, [], ◌∷◌, take, drop, bit_xor, slice_index}
 use Rattle.std.specs.Int.{w32, rotate_left}
 use Rattle.scrypt_plain.specs.Bytes.{bytes}
-use Rattle.scrypt_plain.specs.Scrypt.{add32, concat_below}
+use Rattle.scrypt_plain.specs.Scrypt.{concat_below}
+use Rattle.word_lists.specs.Sums.{add32}
 use Rattle.scrypt_plain.specs.declared.salsa.Block.{Block}
 
 -- to ^ R(x + y, n)
@@ -51,7 +52,3 @@ row_block s i = take 16 (drop (16 * i) s)
 -- the bytes that a row of n blocks stands for
 abbrev pub row_bytes : ℕ → List ℕ → List ℕ
 row_bytes n s = concat_below n (λ i. block_bytes (row_block s i))
-
--- piece k of w elements
-abbrev pub piece : ℕ → List ℕ → ℕ → List ℕ
-piece w s k = take w (drop (w * k) s)

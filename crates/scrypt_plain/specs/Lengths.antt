@@ -1,4 +1,4 @@
--- How long codes, their keys and derived keys are: proofs, which stand here as an implementation of `PhcKdf` names one
+-- How long the keys of codes and derived keys are: proofs, which stand here as an implementation of `PhcKdf` names one
 -- of them. No public clause names these words.
 use Rattle.std.proofs.Common.{◌≡◌, ℕ, zero, suc, ◌+◌, ◌-◌, ◌*◌, ◌/◌, ◌≤◌, Bool, true, false, nat_lt, cond, List, ◌++◌}
 use Rattle.std.proofs.Common.{length, take, refl, sym, ap, ◌∙◌, arith}
@@ -7,13 +7,9 @@ use Rattle.std.proofs.lemmas.List.{length-append, length-take-le, length-replica
 use Rattle.std.proofs.lemmas.Bool.{ltb-false}
 use Rattle.sha2.specs.Sha256.{sha256}
 use Rattle.sha2.proofs.Facts256.{length-sha256}
-use Rattle.scrypt_plain.specs.Bytes.{xor_bytes}
-use Rattle.scrypt_plain.specs.Hmac.{block_key, hmac, ipad, opad}
+use Rattle.hmac_plain.specs.Lengths.{length-hmac_sha256}
+use Rattle.scrypt_plain.specs.Hmac.{block_key, hmac}
 use Rattle.scrypt_plain.specs.Pbkdf2.{pbkdf2_blocks, pbkdf2_once}
-
-pub length-hmac : (key text : List ℕ) → length (hmac key text) ≡ 32
-unfolding hmac
-length-hmac key text = length-sha256 (xor_bytes (block_key key) opad ++ sha256 (xor_bytes (block_key key) ipad ++ text))
 
 short_key-le : (is_long : Bool) (key : List ℕ) → nat_lt 64 (length key) ≡ is_long
     → length (cond is_long (sha256 key) key) ≤ 64
@@ -30,7 +26,7 @@ unfolding pbkdf2_blocks
 length-pbkdf2_blocks p s zero = refl
 length-pbkdf2_blocks p s (suc i) =
     let before = length-pbkdf2_blocks p s i in
-    let last = length-hmac p (s ++ to_be_bytes w32 (i + 1)) in
+    let last = length-hmac_sha256 p (s ++ to_be_bytes w32 (i + 1)) in
     length-append (pbkdf2_blocks p s i) (hmac p (s ++ to_be_bytes w32 (i + 1))) ∙ omega (arith, before, last)
 
 pub length-pbkdf2_once : (p s : List ℕ) (n : ℕ) → length (pbkdf2_once p s n) ≡ n

@@ -1,19 +1,13 @@
 -- The PHC records for which scrypt derives a key (a profile of this crate's own), and that key.
 use Rattle.std.specs.Prelude.{ℕ, ◌^◌, Bool, true, false, ◌&&◌, List, nat_eq, nat_le, ◌==◌, length}
 use Rattle.std.specs.Prelude.{replicate, Option, Some, None, is_none, codes}
-use Rattle.std.specs.Option.{option_and_then}
 use Rattle.std.specs.Cmp.Lexicographic.{pointwise}
-use Rattle.phc.specs.Grammar.{decimal_value}
 use Rattle.phc.specs.Limits.{output_max, output_min}
-use Rattle.phc.specs.Params.{get}
 use Rattle.phc.specs.declared.password_hash.PasswordHash.{PasswordHash}
+use Rattle.phc_kdf.specs.Numbers.{number}
 use Rattle.scrypt_plain.specs.Bounds.{in_bounds}
 use Rattle.scrypt_plain.specs.Scrypt.{scrypt}
 use Rattle.scrypt_plain.specs.declared.profile.Cost.{Cost}
-
--- the decimal with this name
-abbrev pub number : PasswordHash → List ℕ → Option ℕ
-number parsed name = option_and_then decimal_value (get parsed.params name)
 
 -- the cost of these three numbers; none where one is missing
 abbrev pub cost_of_numbers : Option ℕ → Option ℕ → Option ℕ → Option Cost

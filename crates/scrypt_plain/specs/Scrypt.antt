@@ -3,14 +3,12 @@ use Rattle.std.specs.Prelude.{ℕ, zero, suc, ◌+◌, ◌-◌, ◌*◌, ◌%◌
 use Rattle.std.specs.Prelude.{slice_set}
 use Rattle.std.specs.Int.{w32, rotate_left}
 use Rattle.std.specs.Simd.Lanes.{zip2}
-use Rattle.scrypt_plain.specs.Bytes.{bytes, words, xor_bytes, little_endian}
+use Rattle.scrypt_plain.specs.Bytes.{bytes, words, little_endian}
+use Rattle.word_lists.specs.Lists.{xor_bytes}
 use Rattle.scrypt_plain.specs.Pbkdf2.{pbkdf2_once}
+use Rattle.word_lists.specs.Sums.{add32}
 
 -- ---- section 3: the Salsa20/8 core function, on sixteen words x[0] to x[15]
-
--- the sum of two words, without the carry
-abbrev pub add32 : ℕ → ℕ → ℕ
-add32 x y = (x + y) % 2 ^ 32
 
 -- x after x[i] ^= R(x[j] + x[k], n), where R rotates to the left
 abbrev pub xor_rotated_sum : ℕ → ℕ → ℕ → ℕ → List ℕ → List ℕ

@@ -1,7 +1,7 @@
 //! scryptBlockMix (RFC 7914, section 4), from one row of the table to another.
 
 ghost use Rattle.std.specs.Prelude.{◌≡◌, ◌*◌, ◌≤◌, length};
-ghost use Rattle.scrypt_plain.specs.Bytes.{xor_bytes};
+ghost use Rattle.word_lists.specs.Lists.{xor_bytes};
 ghost use Rattle.scrypt_plain.specs.Scrypt.{block_mix};
 ghost use Rattle.scrypt_plain.specs.Layout.{row_bytes};
 

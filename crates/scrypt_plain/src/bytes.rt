@@ -1,14 +1,3 @@
 //! Lists of bytes.
 
-ghost use Rattle.std.specs.Prelude.{◌≡◌, length};
-ghost use Rattle.scrypt_plain.specs.Bytes.{xor_bytes};
-
-/// Writes the exclusive or of both into the first.
-pub fn xor_bytes(to: &mut [u8], with: &[u8])
-    requires same_length { length with.now ≡ length to.old }
-    ensures { to.new ≡ xor_bytes to.old with.now }
-{
-    'bytes: for i in 0..to.len() {
-        to[i] ^= with[i];
-    }
-}
+pub use word_lists::xor_bytes;

@@ -10,9 +10,9 @@ ghost use Rattle.scrypt_plain.specs.Scrypt.{scrypt};
 use crate::profile::taken_cost;
 use crate::{FIRST_WORD, ScryptPlain, scrypt, scrypt_in, work_len};
 use phc::PasswordHash;
+use phc_kdf::PhcKdf;
 use std::alloc::{AllocError, Global};
 use std::cell::RefCell;
-use stored_check::PhcKdf;
 
 /// scrypt behind [`PhcKdf`], as [`ScryptPlain`], with the table of one record kept for the next.
 ///

@@ -12,7 +12,7 @@ use crate::hmac::HmacSha256;
 fn output_block(salted: &HmacSha256, index: u32) -> [u8; 32]
     ensures { (key salt : List ℕ) → HoldsHmac salted.now key salt → result ≡ hmac key (salt ++ to_be_bytes w32 index) }
 {
-    let mut state = salted.clone().unwrap();
+    let mut state = salted.copy();
     state.update(&index.to_be_bytes());
     state.finalize()
 }

@@ -3,7 +3,8 @@
 ghost use Rattle.std.specs.Prelude.{◌≡◌, ℕ, ◌+◌, ◌*◌, ◌%◌, ◌^◌, ◌<◌, ◌≤◌, length};
 ghost use Rattle.scrypt_plain.specs.Bytes.{bytes};
 ghost use Rattle.scrypt_plain.specs.Scrypt.{block_mix, concat_below, integerify, part, ro_mix, ro_mix_step, table_row};
-ghost use Rattle.scrypt_plain.specs.Layout.{row_bytes, piece};
+ghost use Rattle.scrypt_plain.specs.Layout.{row_bytes};
+ghost use Rattle.word_lists.specs.Lists.{piece};
 
 use crate::block_mix::{block_mix, block_mix_xor};
 use crate::salsa;

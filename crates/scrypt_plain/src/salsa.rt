@@ -2,8 +2,10 @@
 //! vectors and in the table is known here alone.
 
 ghost use Rattle.std.specs.Prelude.{◌≡◌, ℕ, ◌-◌, ◌%◌, ◌^◌, ◌<◌, [], ◌∷◌, length, bit_xor, slice_index};
-ghost use Rattle.scrypt_plain.specs.Bytes.{bytes, little_endian, xor_bytes};
-ghost use Rattle.scrypt_plain.specs.Scrypt.{add32, column_round, row_round, salsa20_2, salsa20_8};
+ghost use Rattle.scrypt_plain.specs.Bytes.{bytes, little_endian};
+ghost use Rattle.word_lists.specs.Lists.{xor_bytes};
+ghost use Rattle.scrypt_plain.specs.Scrypt.{column_round, row_round, salsa20_2, salsa20_8};
+ghost use Rattle.word_lists.specs.Sums.{add32};
 ghost use Rattle.scrypt_plain.specs.Layout.{lane_bytes, block_bytes, lane_words, quarter_words, xor_rotated};
 
 use std::simd::u32x4;

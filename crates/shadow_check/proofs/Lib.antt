@@ -1,3 +1,4 @@
+mod KnownAnswers
 mod OfUsers
 mod OfJoins
 pub mod TwoFiles

@@ -7,7 +7,7 @@ use Rattle.any_check.specs.declared.cost.CostLimits.{CostLimits}
 use Rattle.any_check.specs.declared.error.AnyError.{AnyError}
 use Rattle.any_check.specs.declared.error.AnyError.TheVariants.{Stored}
 use Rattle.shadow_check.specs.Join.{is_join_match, join_may_lack, join_word, joined_is_good}
-use Rattle.shadow_check.specs.Join.{joined_may_lack, joined_output, line_answer}
+use Rattle.shadow_check.specs.Join.{joined_may_lack, joined_output, joined_answer}
 use Rattle.shadow_check.specs.declared.answer.JoinAnswer.TheVariants.{Checked}
 
 -- ---- an answer that is known
@@ -29,8 +29,8 @@ module _ (limits : Option CostLimits) (find : List ℕ → Option (List ℕ)) (l
 
   module _ (short : nat_lt 8192 (length l) ≡ false) where
     pub of_user : has_user l ≡ true →
-        (joined_output limits find l ≡ user_of l ++ 9 ∷ (join_word (line_answer limits find l) ++ 10 ∷ []))
-        × (joined_is_good limits find l ≡ is_join_match (line_answer limits find l))
+        (joined_output limits find l ≡ user_of l ++ 9 ∷ (join_word (joined_answer limits find l) ++ 10 ∷ []))
+        × (joined_is_good limits find l ≡ is_join_match (joined_answer limits find l))
         × (joined_may_lack limits find l ≡ join_may_lack limits (find (user_of l)) (text_of_line l))
     unfolding joined_output joined_is_good joined_may_lack
     of_user user = (rw (short, user) refl, rw (short, user) refl, rw (short, user) refl)

@@ -2,7 +2,7 @@
 use Rattle.std.proofs.Common.{◌≡◌, ℕ, true, false, List, [], ◌∷◌, ◌++◌, length, refl, Option}
 use Rattle.std.specs.Prelude.{nat_lt, codes}
 use Rattle.shadow_fields.specs.Fields.{has_user, rest_of, user_of}
-use Rattle.any_check.specs.Lines.{line_is_good, line_may_lack, line_output}
+use Rattle.shadow_check.specs.Lines.{line_is_good, line_may_lack, line_output}
 use Rattle.any_check.specs.declared.cost.CostLimits.{CostLimits}
 use Rattle.shadow_check.specs.Users.{user_is_good, user_may_lack, user_output}
 

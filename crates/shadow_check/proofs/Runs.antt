@@ -4,12 +4,11 @@ use Rattle.std.specs.Prelude.{IfSome, Ok, Err, is_some}
 use Rattle.line_io.specs.Devices.{WhereTold}
 use Rattle.line_io.specs.Lines.{lines}
 use Rattle.line_program.specs.Outcome.{Outcome}
+use Rattle.line_program.specs.Rules.{LineRules}
 use Rattle.shadow_fields.specs.Loads.{Loaded}
 use Rattle.shadow_fields.specs.Passwords.{Rows, password_in, password_of}
 use Rattle.shadow_fields.specs.Wanted.{LoadedWanted, has_line, is_in, wanted_password}
-use Rattle.any_check.specs.declared.cost.CostLimits.{CostLimits}
 use Rattle.shadow_check.specs.FewerOutcome.{FewerOutcome, WantedOutcome}
-use Rattle.shadow_check.specs.Join.{joined_rules}
 use Rattle.shadow_check.specs.JoinOutcome.{JoinOutcome}
 use Rattle.shadow_check.specs.NoText.{NoTextOutcome, no_text_rules}
 use Rattle.shadow_check.specs.declared.join.JoinEnd.{JoinEnd}
@@ -42,12 +41,12 @@ module _ (rows : Rows) (status max : ℕ) where
 
 -- ---- the runs
 
-module _ (limits : Option CostLimits) (rows : Rows) (status max : ℕ) where
+module _ (owed : (List ℕ → Option (List ℕ)) → LineRules) (rows : Rows) (status max : ℕ) where
   -- the passwords weren't read to their end
   pub passwords_end : 1 < status → (left left_now t w w_mid : Option (List ℕ))
       → WhereTold left left_now w w_mid (λ held taken added. Loaded rows status max held taken added)
       → IfSome left (λ given. WhereTold t t w w_mid
-      (λ held taken added. JoinOutcome limits (Passwords status) max given held taken added))
+      (λ held taken added. JoinOutcome owed (Passwords status) max given held taken added))
   passwords_end high =
       first_alone (1 < status) (λ given. status ≡ 6 → max < length given) (Loaded rows status max)
       (loaded_early rows status max) high
@@ -56,11 +55,11 @@ module _ (limits : Option CostLimits) (rows : Rows) (status max : ℕ) where
   pub texts_end : (status2 : ℕ) → status ≤ 1 → (left left_now t t_now w w_mid w_now : Option (List ℕ))
       → WhereTold left left_now w w_mid (λ held taken added. Loaded rows status max held taken added)
       → WhereTold t t_now w_mid w_now
-      (λ held taken added. Outcome (joined_rules limits (password_in rows)) status2 max held taken added)
+      (λ held taken added. Outcome (owed (password_in rows)) status2 max held taken added)
       → IfSome left (λ given. WhereTold t t_now w w_now
-      (λ held taken added. JoinOutcome limits (Texts status2) max given held taken added))
+      (λ held taken added. JoinOutcome owed (Texts status2) max given held taken added))
   texts_end status2 low =
-      both (λ (find : List ℕ → Option (List ℕ)). Outcome (joined_rules limits find) status2 max) (password_in rows)
+      both (λ (find : List ℕ → Option (List ℕ)). Outcome (owed find) status2 max) (password_in rows)
       (λ given. password_of (lines given)) max (Loaded rows status max) (loaded_rows rows status max low)
 
   -- the same of the passwords that are wanted
@@ -68,7 +67,7 @@ module _ (limits : Option CostLimits) (rows : Rows) (status max : ℕ) where
     pub wanted_end : 1 < status → (left left_now t w w_mid : Option (List ℕ))
         → WhereTold left left_now w w_mid (λ held taken added. LoadedWanted is_wanted rows status max held taken added)
         → IfSome left (λ given. WhereTold t t w w_mid
-        (λ held taken added. WantedOutcome limits is_wanted (Passwords status) max given held taken added))
+        (λ held taken added. WantedOutcome owed is_wanted (Passwords status) max given held taken added))
     wanted_end high =
         first_alone (1 < status) (λ given. status ≡ 6 → max < length given) (LoadedWanted is_wanted rows status max)
         (wanted_early rows status max is_wanted) high
@@ -76,11 +75,11 @@ module _ (limits : Option CostLimits) (rows : Rows) (status max : ℕ) where
     pub wanted_texts_end : (status2 : ℕ) → status ≤ 1 → (left left_now t t_now w w_mid w_now : Option (List ℕ))
         → WhereTold left left_now w w_mid (λ held taken added. LoadedWanted is_wanted rows status max held taken added)
         → WhereTold t t_now w_mid w_now
-        (λ held taken added. Outcome (joined_rules limits (password_in rows)) status2 max held taken added)
+        (λ held taken added. Outcome (owed (password_in rows)) status2 max held taken added)
         → IfSome left (λ given. WhereTold t t_now w w_now
-        (λ held taken added. WantedOutcome limits is_wanted (Texts status2) max given held taken added))
+        (λ held taken added. WantedOutcome owed is_wanted (Texts status2) max given held taken added))
     wanted_texts_end status2 low =
-        both (λ (find : List ℕ → Option (List ℕ)). Outcome (joined_rules limits find) status2 max) (password_in rows)
+        both (λ (find : List ℕ → Option (List ℕ)). Outcome (owed find) status2 max) (password_in rows)
         (λ given. wanted_password is_wanted (lines given)) max (LoadedWanted is_wanted rows status max)
         (wanted_rows rows status max is_wanted low)
 
@@ -88,7 +87,7 @@ module _ (limits : Option CostLimits) (rows : Rows) (status max : ℕ) where
   pub users_end : 1 < status → (left left_now p t w w_mid : Option (List ℕ))
       → WhereTold left left_now w w_mid (λ held taken added. Loaded rows status max held taken added)
       → IfSome left (λ first. IfSome p (λ given. WhereTold t t w w_mid
-      (λ held taken added. FewerOutcome limits (Err status) max first given held taken added)))
+      (λ held taken added. FewerOutcome owed (Err status) max first given held taken added)))
   users_end high left left_now None t w w_mid o = search rules
   users_end high left left_now (Some given) t w w_mid o =
       first_alone (1 < status) (λ first. status ≡ 6 → max < length first) (Loaded rows status max)
@@ -98,12 +97,12 @@ module _ (limits : Option CostLimits) (rows : Rows) (status max : ℕ) where
   pub fewer_end : (end : JoinEnd) → status ≤ 1 → (left left_now p t t_now w w_mid w_now : Option (List ℕ))
       → WhereTold left left_now w w_mid (λ held taken added. Loaded rows status max held taken added)
       → IfSome p (λ given. WhereTold t t_now w_mid w_now
-      (λ held taken added. WantedOutcome limits (is_in rows) end max given held taken added))
+      (λ held taken added. WantedOutcome owed (is_in rows) end max given held taken added))
       → IfSome left (λ first. IfSome p (λ given. WhereTold t t_now w w_now
-      (λ held taken added. FewerOutcome limits (Ok end) max first given held taken added)))
+      (λ held taken added. FewerOutcome owed (Ok end) max first given held taken added)))
   fewer_end end low left left_now None t t_now w w_mid w_now o q = search rules
   fewer_end end low left left_now (Some given) t t_now w w_mid w_now o q =
-      both (λ (wanted : List ℕ → Bool). WantedOutcome limits wanted end max given) (is_in rows)
+      both (λ (wanted : List ℕ → Bool). WantedOutcome owed wanted end max given) (is_in rows)
       (λ first. has_line (lines first)) max (Loaded rows status max) (loaded_users rows status max low) left left_now t t_now w
       w_mid w_now o q
 

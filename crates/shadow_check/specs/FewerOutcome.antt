@@ -2,11 +2,10 @@
 use Rattle.std.specs.Prelude.{◌≡◌, ◌<◌, ◌≤◌, ℕ, Bool, List, [], length, Option, Result, Ok, Err}
 use Rattle.line_io.specs.Lines.{lines}
 use Rattle.line_program.specs.Outcome.{Outcome}
+use Rattle.line_program.specs.Rules.{LineRules}
 use Rattle.shadow_fields.specs.Wanted.{has_line, wanted_password}
-use Rattle.any_check.specs.declared.cost.CostLimits.{CostLimits}
 use Rattle.shadow_check.specs.declared.join.JoinEnd.{JoinEnd}
 use Rattle.shadow_check.specs.declared.join.JoinEnd.TheVariants.{Passwords, Texts}
-use Rattle.shadow_check.specs.Join.{joined_rules}
 use Rattle.shadow_check.specs.JoinOutcome.{status_of}
 
 -- its status
@@ -17,16 +16,18 @@ fewer_status (Ok end) = status_of end
 -- The passwords gave `given`, the texts `held`, of which `taken` was taken; `added` was written. Where the passwords weren't
 -- read to their end, nothing was taken of the texts, and nothing written. Else each line of the texts is answered by the
 -- password that the last line of its user gives, if the user is wanted.
-abbrev pub WantedOutcome : Option CostLimits → (List ℕ → Bool) → JoinEnd → ℕ → List ℕ → List ℕ → List ℕ → List ℕ → Type 0
-WantedOutcome limits is_wanted (Passwords status) max given held taken added =
+abbrev pub WantedOutcome : ((List ℕ → Option (List ℕ)) → LineRules) → (List ℕ → Bool) → JoinEnd → ℕ → List ℕ → List ℕ → List ℕ
+    → List ℕ → Type 0
+WantedOutcome rules is_wanted (Passwords status) max given held taken added =
     (1 < status) × (status ≡ 6 → max < length given) × (taken ≡ []) × (added ≡ [])
-WantedOutcome limits is_wanted (Texts status) max given held taken added =
-    (length given ≤ max) × Outcome (joined_rules limits (wanted_password is_wanted (lines given))) status max held taken added
+WantedOutcome rules is_wanted (Texts status) max given held taken added =
+    (length given ≤ max) × Outcome (rules (wanted_password is_wanted (lines given))) status max held taken added
 
 -- The texts gave `first` when they were read for their users. Where that reading ended early (`Err`), nothing was taken of
 -- the texts behind it, and nothing written. Else those users are wanted who have a line there.
-abbrev pub FewerOutcome : Option CostLimits → Result JoinEnd ℕ → ℕ → List ℕ → List ℕ → List ℕ → List ℕ → List ℕ → Type 0
-FewerOutcome limits (Err status) max first given held taken added =
+abbrev pub FewerOutcome : ((List ℕ → Option (List ℕ)) → LineRules) → Result JoinEnd ℕ → ℕ → List ℕ → List ℕ → List ℕ → List ℕ
+    → List ℕ → Type 0
+FewerOutcome rules (Err status) max first given held taken added =
     (1 < status) × (status ≡ 6 → max < length first) × (taken ≡ []) × (added ≡ [])
-FewerOutcome limits (Ok end) max first given held taken added =
-    (length first ≤ max) × WantedOutcome limits (has_line (lines first)) end max given held taken added
+FewerOutcome rules (Ok end) max first given held taken added =
+    (length first ≤ max) × WantedOutcome rules (has_line (lines first)) end max given held taken added

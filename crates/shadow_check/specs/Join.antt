@@ -5,7 +5,7 @@ use Rattle.std.specs.Str.{is_utf8}
 use Rattle.line_program.specs.Rules.{LineRules, each_line}
 use Rattle.line_io.specs.Limits.{line_max}
 use Rattle.shadow_fields.specs.Fields.{has_user, is_locked, text_of_line, user_of}
-use Rattle.any_check.specs.Lines.{given_may_lack, given_verdict}
+use Rattle.any_check.specs.Given.{given_may_lack, given_verdict}
 use Rattle.any_check.specs.Words.{any_word}
 use Rattle.any_check.specs.declared.cost.CostLimits.{CostLimits}
 use Rattle.shadow_check.specs.declared.answer.JoinAnswer.{JoinAnswer}
@@ -77,21 +77,21 @@ join_has_verdict NotText = false
 -- ---- a line, by what finds the password of a user
 
 -- the answer for the user of a line
-abbrev pub line_answer : Option CostLimits → (List ℕ → Option (List ℕ)) → List ℕ → JoinAnswer
-line_answer limits find line = join_answer limits (find (user_of line)) (text_of_line line)
+abbrev pub joined_answer : Option CostLimits → (List ℕ → Option (List ℕ)) → List ℕ → JoinAnswer
+joined_answer limits find line = join_answer limits (find (user_of line)) (text_of_line line)
 
 -- what is written for a line: its user, a tab, the word and a line feed
 unfoldable pub joined_output : Option CostLimits → (List ℕ → Option (List ℕ)) → List ℕ → List ℕ
 joined_output limits find line =
     if nat_lt line_max (length line) then codes "toolong" ++ 10 ∷ []
-    else if has_user line then user_of line ++ 9 ∷ (join_word (line_answer limits find line) ++ 10 ∷ [])
+    else if has_user line then user_of line ++ 9 ∷ (join_word (joined_answer limits find line) ++ 10 ∷ [])
     else codes "badline" ++ 10 ∷ []
 
 -- a line is good where the password matches
 unfoldable pub joined_is_good : Option CostLimits → (List ℕ → Option (List ℕ)) → List ℕ → Bool
 joined_is_good limits find line =
     if nat_lt line_max (length line) then false
-    else if has_user line then is_join_match (line_answer limits find line) else false
+    else if has_user line then is_join_match (joined_answer limits find line) else false
 
 -- memory may be wanting
 unfoldable pub joined_may_lack : Option CostLimits → (List ℕ → Option (List ℕ)) → List ℕ → Bool

@@ -7,8 +7,8 @@ use Rattle.shadow_check.specs.declared.joined.JoinedLines.{JoinedLines}
 -- each line by itself, under the same bound and by the same table
 abbrev pub joined_state_rules : StateRules JoinedLines
 joined_state_rules = record {
-  reply = λ s line. joined_output s.lines.limits (password_in s.passwords) line;
+  reply = λ s line. joined_output s.check.limits (password_in s.passwords) line;
   after = λ s line. s;
-  is_good = λ s line. joined_is_good s.lines.limits (password_in s.passwords) line;
-  may_lack_memory = λ s line. joined_may_lack s.lines.limits (password_in s.passwords) line;
+  is_good = λ s line. joined_is_good s.check.limits (password_in s.passwords) line;
+  may_lack_memory = λ s line. joined_may_lack s.check.limits (password_in s.passwords) line;
 }

@@ -1,3 +1,5 @@
+pub mod Lines
+pub mod LineRules
 pub mod Users
 pub mod UserRules
 pub mod Join

@@ -3,7 +3,7 @@ use Rattle.std.specs.Prelude.{ℕ, Bool, false, List, [], ◌∷◌, ◌++◌, l
 use Rattle.line_program.specs.Rules.{LineRules, each_line}
 use Rattle.line_io.specs.Limits.{line_max}
 use Rattle.shadow_fields.specs.Fields.{has_user, rest_of, user_of}
-use Rattle.any_check.specs.Lines.{line_is_good, line_may_lack, line_output}
+use Rattle.shadow_check.specs.Lines.{line_is_good, line_may_lack, line_output}
 use Rattle.any_check.specs.declared.cost.CostLimits.{CostLimits}
 
 -- what is written for a line: its user, a tab, and what is written for the line behind the colon

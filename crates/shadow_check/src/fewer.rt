@@ -7,9 +7,7 @@ ghost use Rattle.shadow_fields.specs.Wanted.{is_in};
 ghost use Rattle.shadow_check.specs.JoinOutcome.{status_of};
 ghost use Rattle.shadow_check.specs.FewerOutcome.{FewerOutcome, WantedOutcome, fewer_status};
 
-use crate::JoinEnd;
-use crate::join::join_texts;
-use any_check::CostLimits;
+use crate::{JoinEnd, Joining};
 use line_io::{Sink, Source};
 use line_program::status::SOME_OTHER;
 use shadow_fields::{Loading, LoadingWanted, Passwords, load_passwords, load_wanted};
@@ -17,9 +15,8 @@ use std::alloc::Global;
 use std::hash::RandomState;
 
 // Answers the lines of texts by the passwords of the users in a table.
-fn join_wanted<P: Source, T: Source, K: Sink>(
-    alloc: Global,
-    limits: Option<CostLimits>,
+fn join_wanted<J: Joining, P: Source, T: Source, K: Sink>(
+    joining: &J,
     loading: LoadingWanted,
     passwords: &mut P,
     texts: &mut T,
@@ -34,14 +31,14 @@ fn join_wanted<P: Source, T: Source, K: Sink>(
     ensures write_fault { status_of result ≡ 4 → HasRisen (K.faults sink.old) (K.faults sink.new) }
     ensures outcome { IfSome (P.left passwords.old) (λ given.
         WhereTold (T.left texts.old) (T.left texts.new) (K.written sink.old) (K.written sink.new)
-        (λ held taken added. WantedOutcome limits (is_in loading.users) result max given held taken added)) }
+        (λ held taken added. WantedOutcome (J.join_rules joining.now) (is_in loading.users) result max given held taken added)) }
 {
     let mut loading = loading;
     let status = load_wanted(&mut loading, passwords, sink, max);
     if status > SOME_OTHER {
         return JoinEnd::Passwords(status);
     }
-    JoinEnd::Texts(join_texts(alloc, limits, loading.passwords, texts, sink, max))
+    JoinEnd::Texts(joining.join_texts(loading.passwords, texts, sink, max))
 }
 
 /// Answers each line of `texts` as [`run_join`](crate::run_join) does, and keeps of the passwords those alone whose users
@@ -50,10 +47,10 @@ fn join_wanted<P: Source, T: Source, K: Sink>(
 /// `Err` is the status of that first reading, where it ended early. In memory are the users of the texts with all that
 /// follows them while the passwords are read, and then the passwords of these users, beside what `run_any` takes; so of two
 /// files this is for a small one of texts beside a great one of passwords.
-pub fn run_join_fewer<U: Source, P: Source, T: Source, K: Sink>(
+pub fn run_join_fewer<J: Joining, U: Source, P: Source, T: Source, K: Sink>(
     alloc: Global,
     keys: RandomState,
-    limits: Option<CostLimits>,
+    joining: &J,
     users: &mut U,
     passwords: &mut P,
     texts: &mut T,
@@ -68,7 +65,7 @@ pub fn run_join_fewer<U: Source, P: Source, T: Source, K: Sink>(
     ensures write_fault { fewer_status result ≡ 4 → HasRisen (K.faults sink.old) (K.faults sink.new) }
     ensures outcome { IfSome (U.left users.old) (λ first. IfSome (P.left passwords.old) (λ given.
         WhereTold (T.left texts.old) (T.left texts.new) (K.written sink.old) (K.written sink.new)
-        (λ held taken added. FewerOutcome limits result max first given held taken added))) }
+        (λ held taken added. FewerOutcome (J.join_rules joining.now) result max first given held taken added))) }
 {
     let mut first = Loading {
         passwords: Passwords::new(alloc, keys),
@@ -81,5 +78,5 @@ pub fn run_join_fewer<U: Source, P: Source, T: Source, K: Sink>(
         passwords: Passwords::new(alloc, keys),
         users: first.passwords,
     };
-    Ok(join_wanted(alloc, limits, loading, passwords, texts, sink, max))
+    Ok(join_wanted(joining, loading, passwords, texts, sink, max))
 }

@@ -1,15 +1,15 @@
 //! The users of one file, answered by the passwords of another.
 
-ghost use Rattle.std.specs.Prelude.{◌≡◌, ◌≢◌, ◌≤◌, ◌^◌, IfSome};
+ghost use Rattle.std.specs.Prelude.{◌≡◌, ◌≢◌, ◌≤◌, ◌^◌, IfSome, List, Option, ℕ};
 ghost use Rattle.line_io.specs.Devices.{WhereTold};
 ghost use Rattle.pieces.specs.FaultCounts.{HasRisen};
-ghost use Rattle.line_program.specs.Outcome.{Outcome};
+ghost use Rattle.line_program.specs.Outcome.{Outcome, RunTold};
+ghost use Rattle.line_program.specs.Rules.{LineRules};
 ghost use Rattle.shadow_fields.specs.Passwords.{password_in};
-ghost use Rattle.shadow_check.specs.Join.{joined_rules};
 ghost use Rattle.shadow_check.specs.JoinOutcome.{JoinOutcome, status_of};
 
 use crate::joined::JoinedLines;
-use any_check::{AnyLines, CostLimits};
+use any_check::{AnyCheck, CostLimits};
 use line_io::{Sink, Source};
 use line_program::run_lines;
 use line_program::status::SOME_OTHER;
@@ -26,42 +26,65 @@ pub enum JoinEnd {
     Texts(u8),
 }
 
-// Answers the lines of texts by a table of passwords.
-pub(crate) fn join_texts<T: Source, K: Sink>(
-    alloc: Global,
-    limits: Option<CostLimits>,
-    passwords: Passwords,
-    texts: &mut T,
-    sink: &mut K,
-    max: u64,
-) -> u8
-    requires bound { max ≤ 2 ^ 40 }
-    ensures statuses { (result ≤ 6) × (result ≢ 2) }
-    ensures read_fault { result ≡ 3 → HasRisen (T.faults texts.old) (T.faults texts.new) }
-    ensures write_fault { result ≡ 4 → HasRisen (K.faults sink.old) (K.faults sink.new) }
-    ensures outcome { WhereTold (T.left texts.old) (T.left texts.new) (K.written sink.old) (K.written sink.new)
-        (λ held taken added. Outcome (joined_rules limits (password_in passwords)) result max held taken added) }
-{
-    let mut joined = JoinedLines {
-        lines: AnyLines::new(alloc, limits),
-        passwords,
-    };
-    run_lines(&mut joined, texts, sink, max)
+/// What answers the lines of texts by a table of passwords.
+pub trait Joining {
+    /// The rules of a run, by what finds the password of a user.
+    ghost join_rules: { Self → (List ℕ → Option (List ℕ)) → LineRules };
+
+    /// Answers each line of a source of at most `max` bytes by the passwords in a table, and gives the status of
+    /// `line_program::run_lines`.
+    fn join_texts<T: Source, K: Sink>(
+        &self,
+        passwords: Passwords,
+        texts: &mut T,
+        sink: &mut K,
+        max: u64,
+    ) -> u8
+        requires bound { max ≤ 2 ^ 40 }
+        ensures told { RunTold T.left T.faults texts.old texts.new K.written K.faults sink.old sink.new result
+            (λ held taken added. Outcome (join_rules self.now (password_in passwords)) result max held taken added) };
+}
+
+/// Stored texts, answered by the verdicts of `any_check`, under a bound on cost or under none.
+#[derive(Clone, Copy, Debug)]
+pub struct TextJoin {
+    pub alloc: Global,
+    pub limits: Option<CostLimits>,
+}
+
+impl Joining for TextJoin {
+    ghost use Rattle.shadow_check.specs.Join.{joined_rules};
+
+    ghost join_rules = { λ join. joined_rules join.limits };
+
+    fn join_texts<T: Source, K: Sink>(
+        &self,
+        passwords: Passwords,
+        texts: &mut T,
+        sink: &mut K,
+        max: u64,
+    ) -> u8 {
+        let mut joined = JoinedLines {
+            check: AnyCheck::new(self.alloc, self.limits),
+            passwords,
+        };
+        run_lines(&mut joined, texts, sink, max)
+    }
 }
 
 /// Answers each line of `texts` by the user's password in `passwords`, and tells where it ended: at the passwords, which are
 /// read first, where they weren't read to their end, or at the texts. Each source has at most `max` bytes.
 ///
-/// A line of texts is a user, a colon and a stored text, which ends at the next colon or with the line. The answer is the
-/// user, a tab and a word: `empty`, `locked` for a text that begins with `*` or `!`, `no-password` for a user without one,
-/// `badline` where the password or the text isn't UTF-8, else the word of `any_check`. A line without a user is answered by
-/// `badline` alone, one of more than 8,192 bytes by `toolong` alone. Passwords are taken as `shadow_fields::load_passwords`
-/// does; all of them are kept in memory until the run ends, beside what `run_any` takes. The statuses are those of
-/// `run_any`.
-pub fn run_join<P: Source, T: Source, K: Sink>(
+/// By [`TextJoin`] a line of texts is a user, a colon and a stored text, which ends at the next colon or with the line. The
+/// answer is the user, a tab and a word: `empty`, `locked` for a text that begins with `*` or `!`, `no-password` for a user
+/// without one, `badline` where the password or the text isn't UTF-8, else the word of `any_check`. A line without a user is
+/// answered by `badline` alone, one of more than 8,192 bytes by `toolong` alone. Passwords are taken as
+/// `shadow_fields::load_passwords` does; all of them are kept in memory until the run ends, beside what the verdicts take.
+/// The statuses are those of [`run_any`](crate::run_any).
+pub fn run_join<J: Joining, P: Source, T: Source, K: Sink>(
     alloc: Global,
     keys: RandomState,
-    limits: Option<CostLimits>,
+    joining: &J,
     passwords: &mut P,
     texts: &mut T,
     sink: &mut K,
@@ -78,7 +101,7 @@ pub fn run_join<P: Source, T: Source, K: Sink>(
     // What was taken and written.
     ensures outcome { IfSome (P.left passwords.old) (λ given.
         WhereTold (T.left texts.old) (T.left texts.new) (K.written sink.old) (K.written sink.new)
-        (λ held taken added. JoinOutcome limits result max given held taken added)) }
+        (λ held taken added. JoinOutcome (J.join_rules joining.now) result max given held taken added)) }
 {
     let mut loading = Loading {
         passwords: Passwords::new(alloc, keys),
@@ -87,5 +110,5 @@ pub fn run_join<P: Source, T: Source, K: Sink>(
     if status > SOME_OTHER {
         return JoinEnd::Passwords(status);
     }
-    JoinEnd::Texts(join_texts(alloc, limits, loading.passwords, texts, sink, max))
+    JoinEnd::Texts(joining.join_texts(loading.passwords, texts, sink, max))
 }

@@ -5,11 +5,11 @@ ghost use Rattle.std.specs.Option.{option_copied};
 ghost use Rattle.line_io.specs.Output.{Puts};
 ghost use Rattle.stored_check.specs.declared.error.StoredError.TheVariants.{OutOfMemory};
 ghost use Rattle.shadow_fields.specs.Passwords.{password_in};
-ghost use Rattle.any_check.specs.Lines.{given_may_lack, given_verdict};
+ghost use Rattle.any_check.specs.Given.{given_may_lack, given_verdict};
 ghost use Rattle.shadow_check.specs.Join.{both_answer, both_may_lack, is_join_match, join_answer, join_may_lack, join_word, password_answer, password_may_lack, text_answer, text_may_lack};
 
 use crate::JoinAnswer;
-use any_check::{AnyError, AnyLines};
+use any_check::{AnyCheck, AnyError};
 use line_io::{OutputBuffer, Sink};
 use line_program::Responder;
 use pieces::text::text_of;
@@ -19,18 +19,18 @@ use std::alloc::AllocError;
 /// What answers the lines of a shadow or htpasswd file, each by itself.
 #[derive(Drop)]
 pub struct JoinedLines {
-    pub lines: AnyLines,
+    pub check: AnyCheck,
     pub passwords: Passwords,
 }
 
 impl JoinedLines {
     // The answer for a password and a text; none where memory is wanting.
     fn checked(&self, password: &str, text: &str) -> Option<JoinAnswer>
-        ensures answered { MatchOption result (given_may_lack self.now.lines.limits password.now text.now ≡ true)
+        ensures answered { MatchOption result (given_may_lack self.now.check.limits password.now text.now ≡ true)
             (λ a. (a ≢ JoinAnswer.Checked (Err (AnyError.Stored OutOfMemory)))
-            × (a ≡ JoinAnswer.Checked (given_verdict self.now.lines.limits password.now text.now))) }
+            × (a ≡ JoinAnswer.Checked (given_verdict self.now.check.limits password.now text.now))) }
     {
-        match self.lines.known_verdict(password, text) {
+        match self.check.known_verdict(password, text) {
             Some(answer) => Some(JoinAnswer::Checked(answer)),
             None => None,
         }
@@ -38,9 +38,9 @@ impl JoinedLines {
 
     // The same where the text may not be UTF-8.
     fn text_answer(&self, password: &str, text: &[u8]) -> Option<JoinAnswer>
-        ensures answered { MatchOption result (text_may_lack self.now.lines.limits password.now text.now ≡ true)
+        ensures answered { MatchOption result (text_may_lack self.now.check.limits password.now text.now ≡ true)
             (λ a. (a ≢ JoinAnswer.Checked (Err (AnyError.Stored OutOfMemory)))
-            × (a ≡ text_answer self.now.lines.limits password.now text.now)) }
+            × (a ≡ text_answer self.now.check.limits password.now text.now)) }
     {
         match text_of(text) {
             Some(text) => self.checked(password, text),
@@ -50,9 +50,9 @@ impl JoinedLines {
 
     // The same where the password may not be UTF-8.
     fn both_answer(&self, password: &[u8], text: &[u8]) -> Option<JoinAnswer>
-        ensures answered { MatchOption result (both_may_lack self.now.lines.limits password.now text.now ≡ true)
+        ensures answered { MatchOption result (both_may_lack self.now.check.limits password.now text.now ≡ true)
             (λ a. (a ≢ JoinAnswer.Checked (Err (AnyError.Stored OutOfMemory)))
-            × (a ≡ both_answer self.now.lines.limits password.now text.now)) }
+            × (a ≡ both_answer self.now.check.limits password.now text.now)) }
     {
         match text_of(password) {
             Some(password) => self.text_answer(password, text),
@@ -62,9 +62,9 @@ impl JoinedLines {
 
     // The same by the user's password, if there is one.
     fn password_answer(&self, password: Option<&[u8]>, text: &[u8]) -> Option<JoinAnswer>
-        ensures answered { MatchOption result (password_may_lack self.now.lines.limits (option_copied password.entry) text.now ≡ true)
+        ensures answered { MatchOption result (password_may_lack self.now.check.limits (option_copied password.entry) text.now ≡ true)
             (λ a. (a ≢ JoinAnswer.Checked (Err (AnyError.Stored OutOfMemory)))
-            × (a ≡ password_answer self.now.lines.limits (option_copied password.entry) text.now)) }
+            × (a ≡ password_answer self.now.check.limits (option_copied password.entry) text.now)) }
     {
         match password {
             Some(password) => self.both_answer(password, text),
@@ -76,9 +76,9 @@ impl JoinedLines {
     #[tactic(auto, unfolding(crate::specs::Join::join_answer, crate::specs::Join::join_may_lack))]
     fn answer_user(&self, user: &[u8], text: &[u8]) -> Option<JoinAnswer>
         ensures answered { MatchOption result
-            (join_may_lack self.now.lines.limits (password_in self.now.passwords user.now) text.now ≡ true)
+            (join_may_lack self.now.check.limits (password_in self.now.passwords user.now) text.now ≡ true)
             (λ a. (a ≢ JoinAnswer.Checked (Err (AnyError.Stored OutOfMemory)))
-            × (a ≡ join_answer self.now.lines.limits (password_in self.now.passwords user.now) text.now)) }
+            × (a ≡ join_answer self.now.check.limits (password_in self.now.passwords user.now) text.now)) }
     {
         if text.is_empty() {
             return Some(JoinAnswer::Empty);
@@ -98,10 +98,10 @@ impl JoinedLines {
         sink: &mut K,
     ) -> Result<bool, AllocError>
         ensures good { IfOk result (λ good. good
-            ≡ is_join_match (join_answer self.now.lines.limits (password_in self.now.passwords user.now) text.now)) }
+            ≡ is_join_match (join_answer self.now.check.limits (password_in self.now.passwords user.now) text.now)) }
         ensures reply { OnOk result (Puts (K.written sink.old) (K.written sink.new) (K.faults sink.old) (K.faults sink.new) out.old out.new
-            (user.now ++ 9 ∷ (join_word (join_answer self.now.lines.limits (password_in self.now.passwords user.now) text.now) ++ 10 ∷ []))) }
-        ensures wants { OnErr result (join_may_lack self.now.lines.limits (password_in self.now.passwords user.now) text.now ≡ true) }
+            (user.now ++ 9 ∷ (join_word (join_answer self.now.check.limits (password_in self.now.passwords user.now) text.now) ++ 10 ∷ []))) }
+        ensures wants { OnErr result (join_may_lack self.now.check.limits (password_in self.now.passwords user.now) text.now ≡ true) }
         ensures nothing { OnErr result (Puts (K.written sink.old) (K.written sink.new) (K.faults sink.old) (K.faults sink.new) out.old out.new []) }
     {
         match self.answer_user(user, text) {

@@ -3,7 +3,7 @@
 ghost use Rattle.std.specs.Prelude.{◌≡◌, ◌≢◌, ◌≤◌, ◌^◌, IfSome};
 ghost use Rattle.line_io.specs.Devices.{WhereTold};
 ghost use Rattle.line_io.specs.Output.{Puts};
-ghost use Rattle.line_program.specs.Outcome.{Outcome};
+ghost use Rattle.line_program.specs.Outcome.{Outcome, RunTold};
 ghost use Rattle.pieces.specs.FaultCounts.{HasRisen};
 ghost use Rattle.shadow_fields.specs.Wanted.{is_in};
 ghost use Rattle.shadow_check.specs.JoinOutcome.{status_of};
@@ -67,10 +67,7 @@ impl Responder for NoTextLines {
 // Answers the lines of passwords by a table of users.
 fn tell_users<P: Source, K: Sink>(users: Passwords, passwords: &mut P, sink: &mut K, max: u64) -> u8
     requires bound { max ≤ 2 ^ 40 }
-    ensures statuses { (result ≤ 6) × (result ≢ 2) }
-    ensures read_fault { result ≡ 3 → HasRisen (P.faults passwords.old) (P.faults passwords.new) }
-    ensures write_fault { result ≡ 4 → HasRisen (K.faults sink.old) (K.faults sink.new) }
-    ensures outcome { WhereTold (P.left passwords.old) (P.left passwords.new) (K.written sink.old) (K.written sink.new)
+    ensures told { RunTold P.left P.faults passwords.old passwords.new K.written K.faults sink.old sink.new result
         (λ held taken added. Outcome (no_text_rules (is_in users)) result max held taken added) }
 {
     let mut lines = NoTextLines { users };

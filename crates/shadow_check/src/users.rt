@@ -1,14 +1,13 @@
 //! The lines of a file of users, each answered by the user and a word.
 
 ghost use Rattle.std.specs.Prelude.{◌≡◌, ◌≢◌, ◌≤◌, ◌^◌, ◌++◌, ◌∷◌, [], IfOk, OnErr, OnOk, false, true};
-ghost use Rattle.line_io.specs.Devices.{WhereTold};
 ghost use Rattle.line_io.specs.Output.{Puts};
-ghost use Rattle.line_program.specs.Outcome.{Outcome};
-ghost use Rattle.pieces.specs.FaultCounts.{HasRisen};
-ghost use Rattle.any_check.specs.Lines.{line_is_good, line_may_lack, line_output};
+ghost use Rattle.line_program.specs.Outcome.{Outcome, RunTold};
+ghost use Rattle.shadow_check.specs.Lines.{line_is_good, line_may_lack, line_output};
 ghost use Rattle.shadow_check.specs.Users.{user_line_rules};
 
-use any_check::{AnyLines, CostLimits};
+use crate::lines::AnyLines;
+use any_check::CostLimits;
 use line_io::{OutputBuffer, Sink, Source};
 use line_program::{Responder, run_lines};
 use shadow_fields::{cut_user, put_user};
@@ -29,10 +28,10 @@ impl UserLines {
         out: &mut OutputBuffer,
         sink: &mut K,
     ) -> Result<bool, AllocError>
-        ensures good { IfOk result (λ good. good ≡ line_is_good self.now.lines.limits rest.now) }
+        ensures good { IfOk result (λ good. good ≡ line_is_good self.now.lines.check.limits rest.now) }
         ensures reply { OnOk result (Puts (K.written sink.old) (K.written sink.new) (K.faults sink.old) (K.faults sink.new) out.old out.new
-            (user.now ++ 9 ∷ line_output self.now.lines.limits rest.now)) }
-        ensures wants { OnErr result (line_may_lack self.now.lines.limits rest.now ≡ true) }
+            (user.now ++ 9 ∷ line_output self.now.lines.check.limits rest.now)) }
+        ensures wants { OnErr result (line_may_lack self.now.lines.check.limits rest.now ≡ true) }
         ensures nothing { OnErr result (Puts (K.written sink.old) (K.written sink.new) (K.faults sink.old) (K.faults sink.new) out.old out.new []) }
     {
         match self.lines.known_answer(rest) {
@@ -78,7 +77,7 @@ impl Responder for UserLines {
 
 /// Answers each line of a source of at most `max` bytes with its user and its word, and gives the status.
 ///
-/// A line is a user, a colon, and a line as `any_check::run_any` reads it: a password, a tab and a stored text. The user is
+/// A line is a user, a colon, and a line as [`run_any`](crate::run_any) reads it: a password, a tab and a stored text. The user is
 /// kept, with a tab before the word. A line without a colon, or with a tab before the first colon, has no user and is
 /// answered by `badline` alone, one of more than 8,192 bytes by `toolong` alone. Statuses and memory are those of `run_any`.
 pub fn run_users<S: Source, K: Sink>(
@@ -89,10 +88,7 @@ pub fn run_users<S: Source, K: Sink>(
     max: u64,
 ) -> u8
     requires bound { max ≤ 2 ^ 40 }
-    ensures statuses { (result ≤ 6) × (result ≢ 2) }
-    ensures read_fault { result ≡ 3 → HasRisen (S.faults source.old) (S.faults source.new) }
-    ensures write_fault { result ≡ 4 → HasRisen (K.faults sink.old) (K.faults sink.new) }
-    ensures outcome { WhereTold (S.left source.old) (S.left source.new) (K.written sink.old) (K.written sink.new)
+    ensures told { RunTold S.left S.faults source.old source.new K.written K.faults sink.old sink.new result
         (λ held taken added. Outcome (user_line_rules limits) result max held taken added) }
 {
     let mut users = UserLines {

@@ -2,7 +2,7 @@
 
 use any_check::CostLimits;
 use line_io::{MemorySink, MemorySource};
-use shadow_check::{JoinEnd, run_join};
+use shadow_check::{JoinEnd, TextJoin, run_join};
 use std::hash::RandomState;
 use std::test::Fail;
 
@@ -63,10 +63,14 @@ fn each_user_by_the_last_password(rt: HostRuntime) -> Result<(), Fail> {
         let mut texts = MemorySource::new(TEXTS, 50, &[]);
         let mut sink = MemorySink::new(&mut room, 7, &[]);
         let keys = RandomState::new(&rt)?;
+        let joining = TextJoin {
+            alloc: rt.alloc(),
+            limits,
+        };
         let end = run_join(
             rt.alloc(),
             keys,
-            limits,
+            &joining,
             &mut passwords,
             &mut texts,
             &mut sink,
@@ -102,10 +106,14 @@ fn ends(rt: HostRuntime) -> Result<(), Fail> {
             bad_texts,
         );
         let mut sink = MemorySink::new(&mut room, 40, bad_writes);
+        let joining = TextJoin {
+            alloc: rt.alloc(),
+            limits: None,
+        };
         let end = run_join(
             rt.alloc(),
             RandomState::new(&rt)?,
-            None,
+            &joining,
             &mut passwords,
             &mut texts,
             &mut sink,

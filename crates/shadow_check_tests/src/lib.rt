@@ -6,6 +6,8 @@
 #[cfg(test)]
 mod join_tests;
 #[cfg(test)]
+mod line_tests;
+#[cfg(test)]
 mod tests;
 #[cfg(test)]
 mod two_file_tests;

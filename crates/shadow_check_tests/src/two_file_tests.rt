@@ -2,7 +2,7 @@
 //! `secret`.
 
 use line_io::{MemorySink, MemorySource};
-use shadow_check::{JoinEnd, run_join_fewer, run_no_text};
+use shadow_check::{JoinEnd, TextJoin, run_join_fewer, run_no_text};
 use std::hash::RandomState;
 use std::test::Fail;
 
@@ -23,10 +23,14 @@ fn each_user_by_the_passwords_that_are_needed(rt: HostRuntime) -> Result<(), Fai
     let mut passwords = MemorySource::new(PASSWORDS, 11, &[]);
     let mut texts = MemorySource::new(TEXTS, 50, &[]);
     let mut sink = MemorySink::new(&mut room, 7, &[]);
+    let joining = TextJoin {
+        alloc: rt.alloc(),
+        limits: None,
+    };
     let end = run_join_fewer(
         rt.alloc(),
         RandomState::new(&rt)?,
-        None,
+        &joining,
         &mut users,
         &mut passwords,
         &mut texts,
@@ -52,10 +56,14 @@ fn a_user_who_came_between_the_readings_has_no_password(rt: HostRuntime) -> Resu
         &[],
     );
     let mut sink = MemorySink::new(&mut room, 64, &[]);
+    let joining = TextJoin {
+        alloc: rt.alloc(),
+        limits: None,
+    };
     let end = run_join_fewer(
         rt.alloc(),
         RandomState::new(&rt)?,
-        None,
+        &joining,
         &mut users,
         &mut passwords,
         &mut texts,
@@ -109,10 +117,14 @@ fn ends_of_three_files(rt: HostRuntime) -> Result<(), Fail> {
         );
         let mut texts = MemorySource::new(text, 30, bad_texts);
         let mut sink = MemorySink::new(&mut room, 40, bad_writes);
+        let joining = TextJoin {
+            alloc: rt.alloc(),
+            limits: None,
+        };
         let end = run_join_fewer(
             rt.alloc(),
             RandomState::new(&rt)?,
-            None,
+            &joining,
             &mut users,
             &mut passwords,
             &mut texts,

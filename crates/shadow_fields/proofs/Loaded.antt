@@ -8,7 +8,7 @@ use Rattle.line_io.specs.Runs.{IsPrefix}
 use Rattle.line_program.specs.Outcome.{output}
 use Rattle.line_program.specs.Rules.{after_lines, all_good, from_state, replies}
 use Rattle.line_program.proofs.Told.{told_as}
-use Rattle.line_state.specs.Outcome.{StateOutcome}
+use Rattle.line_program.specs.Outcome.{StateOutcome}
 use Rattle.shadow_fields.specs.Fields.{has_user}
 use Rattle.shadow_fields.specs.LoadRules.{loading_rules, rows_behind}
 use Rattle.shadow_fields.specs.Loads.{Loaded}

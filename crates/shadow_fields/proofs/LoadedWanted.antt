@@ -6,7 +6,7 @@ use Rattle.std.specs.List.{list_all}
 use Rattle.line_io.specs.Lines.{lines}
 use Rattle.line_io.specs.Runs.{IsPrefix}
 use Rattle.line_program.specs.Rules.{after_lines, all_good, replies}
-use Rattle.line_state.specs.Outcome.{StateOutcome}
+use Rattle.line_program.specs.Outcome.{StateOutcome}
 use Rattle.shadow_fields.specs.Fields.{rest_of, user_of}
 use Rattle.shadow_fields.specs.Passwords.{Rows, is_given, is_same, password_behind, password_in, password_of, with_password}
 use Rattle.shadow_fields.specs.Wanted.{LoadedWanted, has_line, is_in, wanted_behind, wanted_password}

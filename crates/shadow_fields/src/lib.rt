@@ -9,8 +9,6 @@
 mod cut;
 mod load;
 mod passwords;
-#[cfg(test)]
-mod tests;
 mod wanted;
 
 pub use cut::{cut_field, cut_user, is_locked, put_user};

@@ -9,8 +9,7 @@ ghost use Rattle.shadow_fields.specs.Wanted.{LoadedWanted, is_in};
 use crate::cut::cut_user;
 use crate::passwords::Passwords;
 use line_io::{OutputBuffer, Sink, Source};
-use line_program::Responder;
-use line_state::run_state_lines;
+use line_program::{Responder, run_state_lines};
 use std::alloc::AllocError;
 
 /// A table that takes the password of each line whose user is in another table, and writes nothing.

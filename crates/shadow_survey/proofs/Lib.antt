@@ -1,4 +1,3 @@
 mod Judging
-mod McfTexts
 mod Putting
 mod Surveying

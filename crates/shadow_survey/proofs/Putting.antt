@@ -1,9 +1,11 @@
 -- How rows go on.
 use Rattle.std.proofs.Common.{◌≡◌, ℕ, zero, suc, ◌+◌, ◌<◌, List, [], ◌∷◌, ◌++◌, length, take, slice_index, refl, sym, ap, ◌∙◌}
-use Rattle.std.proofs.Common.{append_assoc, add-one, arith}
-use Rattle.std.specs.List.{flat_map}
+use Rattle.std.proofs.Common.{append_assoc, add-one, arith, Some}
+use Rattle.std.specs.List.{flat_map, slice_get}
 use Rattle.std.proofs.lemmas.List.{append-nil}
-use Rattle.shadow_survey.specs.Rows.{total_row, totals}
+use Rattle.shadow_survey.specs.Counting.{count_of, total_row}
+use Rattle.shadow_survey.specs.declared.counts.Counts.{Counts}
+use Rattle.shadow_survey.specs.declared.counts.Kind.{Kind}
 
 more : (f : ℕ → List ℕ) (xs : List ℕ) (i : ℕ) → i < length xs
     → flat_map f (take (suc i) xs) ≡ flat_map f (take i xs) ++ f (slice_index xs i)
@@ -13,20 +15,24 @@ more f (x ∷ xs) (suc i) lt =
     ap (λ (t : List ℕ). f x ++ t) (more f xs i (omega arith))
     ∙ sym (append_assoc (f x) (flat_map f (take i xs)) (f (slice_index xs i)))
 
+next : {X : Type 0} → (f : X → List ℕ) (xs : List X) (i : ℕ) (x : X) → slice_get xs i ≡ Some x
+    → flat_map f (take (suc i) xs) ≡ flat_map f (take i xs) ++ f x
+next f [] i x is = absurd cc
+next f (y ∷ xs) zero x is = let same : y ≡ x = cc in append-nil (f y) ∙ ap f same
+next f (y ∷ xs) (suc i) x is =
+    ap (λ (t : List ℕ). f y ++ t) (next f xs i x is)
+    ∙ sym (append_assoc (f y) (flat_map f (take i xs)) (f x))
+
 -- one more element
 pub flat_more : (f : ℕ → List ℕ) (xs : List ℕ) (i : ℕ) → i < length xs
     → flat_map f (take (i + 1) xs) ≡ flat_map f (take i xs) ++ f (slice_index xs i)
 flat_more f xs i lt = ap (λ (n : ℕ). flat_map f (take n xs)) (add-one i) ∙ more f xs i lt
 
-pub totals_none : (counts : List ℕ) → totals counts 0 ≡ []
-unfolding totals
-totals_none counts = refl
-
--- one more kind
-pub totals_more : (counts : List ℕ) (n : ℕ) → totals counts (n + 1) ≡ totals counts n ++ total_row counts n
-unfolding totals
-totals_more counts n = ap (totals counts) (add-one n)
+-- the same, where the element is known
+pub flat_next : {X : Type 0} → (f : X → List ℕ) (xs : List X) (i : ℕ) (x : X) → slice_get xs i ≡ Some x
+    → flat_map f (take (i + 1) xs) ≡ flat_map f (take i xs) ++ f x
+flat_next f xs i x is = ap (λ (n : ℕ). flat_map f (take n xs)) (add-one i) ∙ next f xs i x is
 
 -- a kind of which there is none
-pub total_none : (counts : List ℕ) (k : ℕ) → slice_index counts k ≡ 0 → total_row counts k ≡ []
-total_none counts k none = rw none refl
+pub total_none : (counts : Counts) (kind : Kind) → count_of counts kind ≡ 0 → total_row counts kind ≡ []
+total_none counts kind none = rw none refl

@@ -1,24 +1,28 @@
 -- The judgement on a stored text, and what is written of it.
-use Rattle.std.specs.Prelude.{ℕ, ◌==◌, List, ◌++◌, length, nat_lt, codes, decimal}
+use Rattle.std.specs.Prelude.{ℕ, ◌==◌, ◌||◌, List, ◌++◌, length, nat_lt, codes, decimal}
 use Rattle.std.specs.Prelude.{if◌then◌else◌}
 use Rattle.std.specs.Str.{is_utf8}
 use Rattle.shadow_fields.specs.Fields.{is_locked}
-use Rattle.shadow_survey.specs.Costs.{scheme_name, text_kind}
-use Rattle.shadow_survey.specs.declared.costs.Scheme.{Scheme}
-use Rattle.shadow_survey.specs.declared.costs.Scheme.TheVariants.{Md5Crypt, Sha256Crypt, Sha512Crypt, Bcrypt, Yescrypt}
-use Rattle.shadow_survey.specs.declared.costs.Scheme.TheVariants.{ScryptCrypt, Scrypt, Pbkdf2Sha256, Pbkdf2Sha512, Argon2d, Argon2i, Argon2id}
-use Rattle.shadow_survey.specs.declared.costs.TextCosts.{TextCosts}
-use Rattle.shadow_survey.specs.declared.costs.TextKind.{TextKind}
-use Rattle.shadow_survey.specs.declared.costs.TextKind.TheVariants as of
+use Rattle.scheme_list.specs.Schemes.{row_of}
+use Rattle.scheme_list.specs.declared.schemes.Numbers.{Numbers}
+use Rattle.scheme_list.specs.declared.schemes.Numbers.TheVariants.{Cost, LnRP, LnRT, MTP, Nothing, Rounds}
+use Rattle.scheme_list.specs.declared.schemes.Scheme.{Scheme}
+use Rattle.scheme_list.specs.declared.schemes.Scheme.TheVariants.{Argon2d, Argon2i, Argon2id, Bcrypt, Md5Crypt, Pbkdf2Sha256}
+use Rattle.scheme_list.specs.declared.schemes.Scheme.TheVariants.{Pbkdf2Sha512, Scrypt, ScryptCrypt, Sha256Crypt, Sha512Crypt, Yescrypt}
+use Rattle.any_check.specs.Kinds.{text_kind}
+use Rattle.any_check.specs.Records.{accepted}
+use Rattle.any_check.specs.declared.kinds.TextCosts.{TextCosts}
+use Rattle.any_check.specs.declared.kinds.TextKind.{TextKind}
+use Rattle.any_check.specs.declared.kinds.TextKind.TheVariants as of
 use Rattle.shadow_survey.specs.declared.judgement.Judgement.{Judgement}
 use Rattle.shadow_survey.specs.declared.judgement.Judgement.TheVariants.{BadLine, Empty, Invalid, Locked, NoScheme, Strong, TooLong, Weak}
 use Rattle.shadow_survey.specs.declared.judgement.LeastCosts.{LeastCosts}
 
 -- ---- strong or weak
 
--- the least first number of a scheme that isn't weak; md5-crypt, whose first number is 0, is weak in any case
+-- the least first number of a scheme that isn't weak; md5-crypt asks for none
 abbrev pub least_of : LeastCosts → Scheme → ℕ
-least_of least Md5Crypt = 1
+least_of least Md5Crypt = 0
 least_of least Sha256Crypt = least.sha_rounds
 least_of least Sha512Crypt = least.sha_rounds
 least_of least Bcrypt = least.bcrypt_cost
@@ -31,9 +35,10 @@ least_of least Argon2d = least.argon2_memory
 least_of least Argon2i = least.argon2_memory
 least_of least Argon2id = least.argon2_memory
 
--- by the least costs
+-- by the least costs; a scheme may be weak whatever its texts ask for
 abbrev pub judged_costs : LeastCosts → TextCosts → Judgement
-judged_costs least costs = if nat_lt costs.first (least_of least costs.scheme) then Weak costs else Strong costs
+judged_costs least costs =
+    if (row_of costs.scheme).is_weak || nat_lt costs.first (least_of least costs.scheme) then Weak costs else Strong costs
 
 -- by what the text is
 abbrev pub judged_kind : LeastCosts → TextKind → Judgement
@@ -45,7 +50,7 @@ judged_kind least (of.Costs costs) = judged_costs least costs
 unfoldable pub judged : LeastCosts → List ℕ → Judgement
 judged least text =
     if length text == 0 then Empty else if is_locked text then Locked
-    else if is_utf8 text then judged_kind least (text_kind text) else Invalid
+    else if is_utf8 text then judged_kind least (text_kind accepted text) else Invalid
 
 -- ---- what is written
 
@@ -57,40 +62,28 @@ three a b c costs = ((((a ++ decimal costs.first) ++ b) ++ decimal costs.second)
 abbrev pub one : List ℕ → TextCosts → List ℕ
 one a costs = a ++ decimal costs.first
 
--- the costs of a scheme by the names of its standard; `-` for md5-crypt, which has none
-abbrev pub scheme_costs : Scheme → TextCosts → List ℕ
-scheme_costs Md5Crypt costs = codes "-"
-scheme_costs Sha256Crypt costs = one (codes "rounds=") costs
-scheme_costs Sha512Crypt costs = one (codes "rounds=") costs
-scheme_costs Bcrypt costs = one (codes "cost=") costs
-scheme_costs Yescrypt costs = three (codes "ln=") (codes ",r=") (codes ",t=") costs
-scheme_costs ScryptCrypt costs = three (codes "ln=") (codes ",r=") (codes ",p=") costs
-scheme_costs Scrypt costs = three (codes "ln=") (codes ",r=") (codes ",p=") costs
-scheme_costs Pbkdf2Sha256 costs = one (codes "rounds=") costs
-scheme_costs Pbkdf2Sha512 costs = one (codes "rounds=") costs
-scheme_costs Argon2d costs = three (codes "m=") (codes ",t=") (codes ",p=") costs
-scheme_costs Argon2i costs = three (codes "m=") (codes ",t=") (codes ",p=") costs
-scheme_costs Argon2id costs = three (codes "m=") (codes ",t=") (codes ",p=") costs
+-- the costs by the names of the numbers; `-` where there are none
+abbrev pub numbers_text : Numbers → TextCosts → List ℕ
+numbers_text Nothing costs = codes "-"
+numbers_text Rounds costs = one (codes "rounds=") costs
+numbers_text Cost costs = one (codes "cost=") costs
+numbers_text LnRT costs = three (codes "ln=") (codes ",r=") (codes ",t=") costs
+numbers_text LnRP costs = three (codes "ln=") (codes ",r=") (codes ",p=") costs
+numbers_text MTP costs = three (codes "m=") (codes ",t=") (codes ",p=") costs
 
--- what is weak
-abbrev pub weakness : Scheme → TextCosts → List ℕ
-weakness Md5Crypt costs = codes "weak: md5-crypt"
-weakness Sha256Crypt costs = one (codes "weak: ") costs ++ codes " rounds"
-weakness Sha512Crypt costs = one (codes "weak: ") costs ++ codes " rounds"
-weakness Bcrypt costs = one (codes "weak: cost ") costs
-weakness Yescrypt costs = one (codes "weak: ln ") costs
-weakness ScryptCrypt costs = one (codes "weak: ln ") costs
-weakness Scrypt costs = one (codes "weak: ln ") costs
-weakness Pbkdf2Sha256 costs = one (codes "weak: ") costs ++ codes " rounds"
-weakness Pbkdf2Sha512 costs = one (codes "weak: ") costs ++ codes " rounds"
-weakness Argon2d costs = one (codes "weak: m ") costs
-weakness Argon2i costs = one (codes "weak: m ") costs
-weakness Argon2id costs = one (codes "weak: m ") costs
+-- what is weak: the first number, or the scheme where it has none
+abbrev pub weakness : Numbers → TextCosts → List ℕ
+weakness Nothing costs = codes "weak: " ++ (row_of costs.scheme).name
+weakness Rounds costs = one (codes "weak: ") costs ++ codes " rounds"
+weakness Cost costs = one (codes "weak: cost ") costs
+weakness LnRT costs = one (codes "weak: ln ") costs
+weakness LnRP costs = one (codes "weak: ln ") costs
+weakness MTP costs = one (codes "weak: m ") costs
 
 -- the scheme; `-` where there is none
 abbrev pub scheme_cell : Judgement → List ℕ
-scheme_cell (Strong costs) = scheme_name costs.scheme
-scheme_cell (Weak costs) = scheme_name costs.scheme
+scheme_cell (Strong costs) = (row_of costs.scheme).name
+scheme_cell (Weak costs) = (row_of costs.scheme).name
 scheme_cell Empty = codes "-"
 scheme_cell Locked = codes "-"
 scheme_cell NoScheme = codes "-"
@@ -100,8 +93,8 @@ scheme_cell TooLong = codes "-"
 
 -- its costs
 abbrev pub cost_cell : Judgement → List ℕ
-cost_cell (Strong costs) = scheme_costs costs.scheme costs
-cost_cell (Weak costs) = scheme_costs costs.scheme costs
+cost_cell (Strong costs) = numbers_text (row_of costs.scheme).numbers costs
+cost_cell (Weak costs) = numbers_text (row_of costs.scheme).numbers costs
 cost_cell Empty = codes "-"
 cost_cell Locked = codes "-"
 cost_cell NoScheme = codes "-"
@@ -112,7 +105,7 @@ cost_cell TooLong = codes "-"
 -- the judgement
 abbrev pub judgement_cell : Judgement → List ℕ
 judgement_cell (Strong costs) = codes "ok"
-judgement_cell (Weak costs) = weakness costs.scheme costs
+judgement_cell (Weak costs) = weakness (row_of costs.scheme).numbers costs
 judgement_cell Empty = codes "empty"
 judgement_cell Locked = codes "locked"
 judgement_cell NoScheme = codes "no scheme"

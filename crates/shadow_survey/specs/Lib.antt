@@ -1,4 +1,4 @@
-pub mod Costs
 pub mod Judgements
+pub mod Counting
 pub mod Rows
 pub mod Rules

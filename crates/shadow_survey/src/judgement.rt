@@ -1,11 +1,13 @@
 //! The judgement on a stored text.
 
 ghost use Rattle.std.specs.Prelude.{◌≡◌, ◌+◌, ◌≤◌, ◌++◌, codes, decimal, length};
-ghost use Rattle.shadow_survey.specs.Judgements.{cost_cell, judged, judged_costs, judged_kind, judgement_cell, least_of, one, scheme_cell, scheme_costs, three, weakness};
+ghost use Rattle.shadow_survey.specs.Judgements.{cost_cell, judged, judged_costs, judged_kind, judgement_cell, least_of, numbers_text, one, scheme_cell, three, weakness};
+ghost use Rattle.scheme_list.specs.Schemes.{row_of};
 
-use crate::costs::{Scheme, TextCosts, TextKind, text_kind};
+use any_check::{PlainRecords, Scheme, TextCosts, TextKind, text_kind};
 use pieces::short_bytes::ShortBytes;
 use pieces::text::text_of;
+use scheme_list::Numbers;
 use shadow_fields::is_locked;
 
 /// The least costs that aren't weak, scheme by scheme.
@@ -55,7 +57,7 @@ fn least_of(least: &LeastCosts, scheme: Scheme) -> u64
     ensures { result ≡ least_of least.now scheme }
 {
     match scheme {
-        Scheme::Md5Crypt => 1,
+        Scheme::Md5Crypt => 0,
         Scheme::Sha256Crypt | Scheme::Sha512Crypt => least.sha_rounds,
         Scheme::Bcrypt => least.bcrypt_cost,
         Scheme::Yescrypt => least.yescrypt_ln,
@@ -69,7 +71,7 @@ fn least_of(least: &LeastCosts, scheme: Scheme) -> u64
 fn judged_costs(least: &LeastCosts, costs: TextCosts) -> Judgement
     ensures { result ≡ judged_costs least.now costs }
 {
-    if costs.first < least_of(least, costs.scheme) {
+    if costs.scheme.is_weak() || costs.first < least_of(least, costs.scheme) {
         Judgement::Weak(costs)
     } else {
         Judgement::Strong(costs)
@@ -98,7 +100,7 @@ pub fn judged(least: &LeastCosts, text: &[u8]) -> Judgement
         return Judgement::Locked;
     }
     match text_of(text) {
-        Some(text) => judged_kind(least, text_kind(text)),
+        Some(text) => judged_kind(least, text_kind(&PlainRecords, text)),
         None => Judgement::Invalid,
     }
 }
@@ -152,34 +154,38 @@ fn rounds(costs: &TextCosts) -> Cell
     cell
 }
 
-// The costs of a scheme, by the names of its standard.
-fn scheme_costs(costs: &TextCosts) -> Cell
-    ensures { result ≡ scheme_costs costs.now.scheme costs.now }
+fn weak_scheme(scheme: Scheme) -> Cell
+    ensures { result ≡ codes "weak: " ++ (row_of scheme).name }
 {
-    match costs.scheme {
-        Scheme::Md5Crypt => word(b"-"),
-        Scheme::Sha256Crypt | Scheme::Sha512Crypt | Scheme::Pbkdf2Sha256 | Scheme::Pbkdf2Sha512 =>
-            one(b"rounds=", costs),
-        Scheme::Bcrypt => one(b"cost=", costs),
-        Scheme::Yescrypt => three(b"ln=", b",r=", b",t=", costs),
-        Scheme::ScryptCrypt | Scheme::Scrypt => three(b"ln=", b",r=", b",p=", costs),
-        Scheme::Argon2d | Scheme::Argon2i | Scheme::Argon2id => {
-            three(b"m=", b",t=", b",p=", costs)
-        }
+    let mut cell = word(b"weak: ");
+    cell.push_all(scheme.name().as_bytes());
+    cell
+}
+
+// The costs, by the names of the numbers.
+fn numbers_text(numbers: Numbers, costs: &TextCosts) -> Cell
+    ensures { result ≡ numbers_text numbers costs.now }
+{
+    match numbers {
+        Numbers::Nothing => word(b"-"),
+        Numbers::Rounds => one(b"rounds=", costs),
+        Numbers::Cost => one(b"cost=", costs),
+        Numbers::LnRT => three(b"ln=", b",r=", b",t=", costs),
+        Numbers::LnRP => three(b"ln=", b",r=", b",p=", costs),
+        Numbers::MTP => three(b"m=", b",t=", b",p=", costs),
     }
 }
 
 // What is weak.
-fn weakness(costs: &TextCosts) -> Cell
-    ensures { result ≡ weakness costs.now.scheme costs.now }
+fn weakness(numbers: Numbers, costs: &TextCosts) -> Cell
+    ensures { result ≡ weakness numbers costs.now }
 {
-    match costs.scheme {
-        Scheme::Md5Crypt => word(b"weak: md5-crypt"),
-        Scheme::Sha256Crypt | Scheme::Sha512Crypt | Scheme::Pbkdf2Sha256 | Scheme::Pbkdf2Sha512 =>
-            rounds(costs),
-        Scheme::Bcrypt => one(b"weak: cost ", costs),
-        Scheme::Yescrypt | Scheme::ScryptCrypt | Scheme::Scrypt => one(b"weak: ln ", costs),
-        Scheme::Argon2d | Scheme::Argon2i | Scheme::Argon2id => one(b"weak: m ", costs),
+    match numbers {
+        Numbers::Nothing => weak_scheme(costs.scheme),
+        Numbers::Rounds => rounds(costs),
+        Numbers::Cost => one(b"weak: cost ", costs),
+        Numbers::LnRT | Numbers::LnRP => one(b"weak: ln ", costs),
+        Numbers::MTP => one(b"weak: m ", costs),
     }
 }
 
@@ -199,7 +205,9 @@ impl Judgement {
         ensures { result ≡ cost_cell self.now }
     {
         match self {
-            Judgement::Strong(costs) | Judgement::Weak(costs) => scheme_costs(costs),
+            Judgement::Strong(costs) | Judgement::Weak(costs) => {
+                numbers_text(costs.scheme.numbers(), costs)
+            }
             _ => word(b"-"),
         }
     }
@@ -216,7 +224,7 @@ impl Judgement {
             Judgement::NoScheme => word(b"no scheme"),
             Judgement::Invalid => word(b"invalid"),
             Judgement::Strong(_) => word(b"ok"),
-            Judgement::Weak(costs) => weakness(costs),
+            Judgement::Weak(costs) => weakness(costs.scheme.numbers(), costs),
         }
     }
 }

@@ -2,12 +2,13 @@
 //! asked for, and nothing is hashed.
 #![tactic(auto)]
 
-mod costs;
+mod counts;
 mod judgement;
 mod lines;
 mod rows;
 
-pub use costs::{Scheme, TextCosts, TextKind, text_kind};
+pub use any_check::{Scheme, TextCosts, TextKind};
+pub use counts::{Counts, Kind};
 pub use judgement::{Judgement, LeastCosts, judged};
 pub use lines::{SurveyLines, run_survey};
 pub use rows::Format;

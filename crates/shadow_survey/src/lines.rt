@@ -2,33 +2,27 @@
 
 ghost use Rattle.std.specs.Prelude.{◌≡◌, ◌≢◌, ◌≤◌, ◌<◌, ◌^◌, ◌++◌, ◌∷◌, ◌&&◌, [], List, ℕ, decimal, false, true, length, replicate};
 ghost use Rattle.std.specs.Str.{is_utf8};
-ghost use Rattle.line_io.specs.Devices.{WhereTold};
 ghost use Rattle.line_io.specs.Output.{Puts};
-ghost use Rattle.line_state.specs.Outcome.{EndedOutcome};
-ghost use Rattle.pieces.specs.FaultCounts.{HasRisen};
-ghost use Rattle.shadow_survey.specs.Rows.{counted, ending_text, is_good, kind_name, row_text, surveyed, total_row, totals};
+ghost use Rattle.line_program.specs.Outcome.{EndedOutcome, RunTold};
+ghost use Rattle.shadow_survey.specs.Counting.{counted, kind_of, no_counts};
+ghost use Rattle.shadow_survey.specs.Rows.{ending_text, is_good, row_text, surveyed};
 ghost use Rattle.shadow_survey.specs.Rules.{survey_rules};
 
+use crate::counts::{Counts, put_totals};
 use crate::judgement::{Judgement, LeastCosts, judged};
-use crate::rows::{Format, is_good, kind_index, put_row};
+use crate::rows::{Format, is_good, put_row};
 use line_io::{OutputBuffer, Sink, Source};
-use line_program::Responder;
-use line_state::{Ending, run_ended};
-use pieces::short_bytes::ShortBytes;
+use line_program::{Ending, Responder, run_ended};
 use pieces::text::text_of;
 use shadow_fields::{cut_field, cut_user};
 use std::alloc::AllocError;
-
-/// How many kinds of judgements are counted: each scheme's twice, and six more.
-const KINDS: usize = 30;
 
 /// What answers the lines of a shadow or htpasswd file by what their texts are, and counts the judgements.
 #[derive(Drop)]
 pub struct SurveyLines {
     pub least: LeastCosts,
     pub format: Format,
-    /// How many there are of each kind; a count stays at the greatest number of its type.
-    pub counts: [u64; KINDS],
+    pub counts: Counts,
 }
 
 impl SurveyLines {
@@ -36,21 +30,13 @@ impl SurveyLines {
     pub fn new(least: LeastCosts, format: Format) -> SurveyLines
         ensures least { result.least ≡ least }
         ensures format { result.format ≡ format }
-        ensures counts { result.counts ≡ replicate 30 0 }
+        ensures counts { result.counts ≡ no_counts }
     {
         SurveyLines {
             least,
             format,
-            counts: [0; KINDS],
+            counts: Counts::new(),
         }
-    }
-
-    // Counts a judgement.
-    fn count(&mut self, judgement: &Judgement)
-        ensures { self.new ≡ record self.old { counts = counted self.old.counts judgement.now } }
-    {
-        let kind = kind_index(judgement);
-        self.counts[kind] = self.counts[kind].saturating_add(1);
     }
 
     // Puts the row of a user, counts it, and tells whether it is good.
@@ -63,11 +49,11 @@ impl SurveyLines {
     ) -> bool
         ensures row { Puts (K.written sink.old) (K.written sink.new) (K.faults sink.old) (K.faults sink.new) out.old out.new
             (row_text self.old.format user.now judgement) }
-        ensures count { self.new ≡ record self.old { counts = counted self.old.counts judgement } }
+        ensures count { self.new ≡ record self.old { counts = counted self.old.counts (kind_of judgement) } }
         ensures good { result ≡ is_good judgement }
     {
         put_row(self.format, user, &judgement, out, sink);
-        self.count(&judgement);
+        self.counts.count(judgement.kind());
         is_good(&judgement)
     }
 
@@ -83,84 +69,6 @@ impl SurveyLines {
             },
             None => (&[], Judgement::BadLine),
         }
-    }
-}
-
-// A number, which has at most 20 digits.
-fn number_text(n: u64) -> ShortBytes<20>
-    ensures { result ≡ decimal n }
-{
-    let mut text = ShortBytes::new();
-    text.push_decimal(n);
-    text
-}
-
-// The name of a kind.
-fn kind_name(k: usize) -> &'static str
-    ensures { result.now ≡ kind_name k }
-{
-    match k {
-        0 => "md5-crypt ok",
-        1 => "md5-crypt weak",
-        2 => "sha256-crypt ok",
-        3 => "sha256-crypt weak",
-        4 => "sha512-crypt ok",
-        5 => "sha512-crypt weak",
-        6 => "bcrypt ok",
-        7 => "bcrypt weak",
-        8 => "yescrypt ok",
-        9 => "yescrypt weak",
-        10 => "scrypt-crypt ok",
-        11 => "scrypt-crypt weak",
-        12 => "scrypt ok",
-        13 => "scrypt weak",
-        14 => "pbkdf2-sha256 ok",
-        15 => "pbkdf2-sha256 weak",
-        16 => "pbkdf2-sha512 ok",
-        17 => "pbkdf2-sha512 weak",
-        18 => "argon2d ok",
-        19 => "argon2d weak",
-        20 => "argon2i ok",
-        21 => "argon2i weak",
-        22 => "argon2id ok",
-        23 => "argon2id weak",
-        24 => "empty",
-        25 => "locked",
-        26 => "no scheme",
-        27 => "invalid",
-        28 => "badline",
-        _ => "toolong",
-    }
-}
-
-// Puts a count and the name of its kind.
-fn put_count<K: Sink>(count: u64, k: usize, out: &mut OutputBuffer, sink: &mut K)
-    ensures puts { Puts (K.written sink.old) (K.written sink.new) (K.faults sink.old) (K.faults sink.new) out.old out.new
-        (decimal count ++ 9 ∷ (kind_name k ++ 10 ∷ [])) }
-{
-    out.put(sink, number_text(count).as_slice());
-    out.put(sink, b"\t");
-    out.put_line(sink, kind_name(k).as_bytes());
-}
-
-// Puts the count of a kind, where there is one of it.
-fn put_total<K: Sink>(counts: &[u64; KINDS], k: usize, out: &mut OutputBuffer, sink: &mut K)
-    requires { k < 30 }
-    ensures puts { Puts (K.written sink.old) (K.written sink.new) (K.faults sink.old) (K.faults sink.new) out.old out.new
-        (total_row counts.now k) }
-{
-    if counts[k] != 0 {
-        put_count(counts[k], k, out, sink);
-    }
-}
-
-// Puts the counts.
-fn put_totals<K: Sink>(counts: &[u64; KINDS], out: &mut OutputBuffer, sink: &mut K)
-    ensures puts { Puts (K.written sink.old) (K.written sink.new) (K.faults sink.old) (K.faults sink.new) out.old out.new
-        (totals counts.now 30) }
-{
-    for k in 0..KINDS {
-        put_total(counts, k, out, sink);
     }
 }
 
@@ -213,14 +121,7 @@ pub fn run_survey<S: Source, K: Sink>(
     max: u64,
 ) -> u8
     requires bound { max ≤ 2 ^ 40 }
-    ensures statuses { (result ≤ 6) × (result ≢ 2) }
-
-    // A fault is answered only where the count of that device rose in this call.
-    ensures read_fault { result ≡ 3 → HasRisen (S.faults source.old) (S.faults source.new) }
-    ensures write_fault { result ≡ 4 → HasRisen (K.faults sink.old) (K.faults sink.new) }
-
-    // What was taken and written, for each status.
-    ensures outcome { WhereTold (S.left source.old) (S.left source.new) (K.written sink.old) (K.written sink.new)
+    ensures told { RunTold S.left S.faults source.old source.new K.written K.faults sink.old sink.new result
         (λ held taken added. EndedOutcome survey_rules (λ s. ending_text s.format s.counts) lines.old result max held taken
         added) }
 {

@@ -4,9 +4,8 @@ ghost use Rattle.std.specs.Prelude.{◌≡◌, ◌<◌, ◌+◌, ◌*◌, ◌/�
 ghost use Rattle.std.specs.List.{flat_map};
 ghost use Rattle.line_io.specs.Output.{Puts};
 ghost use Rattle.shadow_survey.specs.Judgements.{cost_cell, judgement_cell, scheme_cell};
-ghost use Rattle.shadow_survey.specs.Rows.{csv_byte, csv_row, hexadecimal, is_good, json_byte, json_row, kind_index, row_text, scheme_index, tabs_row};
+ghost use Rattle.shadow_survey.specs.Rows.{csv_byte, csv_row, hexadecimal, is_good, json_byte, json_row, row_text, tabs_row};
 
-use crate::costs::Scheme;
 use crate::judgement::Judgement;
 use line_io::{OutputBuffer, Sink};
 use pieces::short_bytes::ShortBytes;
@@ -176,43 +175,6 @@ pub(crate) fn put_row<K: Sink>(
         Format::Tabs => put_tabs_row(user, judgement, out, sink),
         Format::Csv => put_csv_row(user, judgement, out, sink),
         Format::Json => put_json_row(user, judgement, out, sink),
-    }
-}
-
-fn scheme_index(scheme: Scheme) -> usize
-    ensures value { result ≡ scheme_index scheme }
-    ensures most { result < 12 }
-{
-    match scheme {
-        Scheme::Md5Crypt => 0,
-        Scheme::Sha256Crypt => 1,
-        Scheme::Sha512Crypt => 2,
-        Scheme::Bcrypt => 3,
-        Scheme::Yescrypt => 4,
-        Scheme::ScryptCrypt => 5,
-        Scheme::Scrypt => 6,
-        Scheme::Pbkdf2Sha256 => 7,
-        Scheme::Pbkdf2Sha512 => 8,
-        Scheme::Argon2d => 9,
-        Scheme::Argon2i => 10,
-        Scheme::Argon2id => 11,
-    }
-}
-
-/// The kind of a judgement, by which judgements are counted.
-pub(crate) fn kind_index(judgement: &Judgement) -> usize
-    ensures value { result ≡ kind_index judgement.now }
-    ensures most { result < 30 }
-{
-    match judgement {
-        Judgement::Strong(costs) => 2 * scheme_index(costs.scheme),
-        Judgement::Weak(costs) => 2 * scheme_index(costs.scheme) + 1,
-        Judgement::Empty => 24,
-        Judgement::Locked => 25,
-        Judgement::NoScheme => 26,
-        Judgement::Invalid => 27,
-        Judgement::BadLine => 28,
-        Judgement::TooLong => 29,
     }
 }
 

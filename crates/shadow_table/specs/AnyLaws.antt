@@ -28,14 +28,16 @@ use Rattle.yescrypt_plain.specs.Check as crypt
 use Rattle.yescrypt_plain.specs.Text.{ScryptMeaning, YescryptMeaning, scrypt_text, yescrypt_text}
 use Rattle.yescrypt_plain.specs.declared.error.CheckError.TheVariants as of_crypt
 use Rattle.yescrypt_plain.specs.declared.error.TextFault.{TextFault}
-use Rattle.any_check.specs.Lines.{given_may_lack, given_verdict}
+use Rattle.any_check.specs.Given.{given_may_lack, given_verdict}
 use Rattle.any_check.specs.Records.{accepted, needs_memory, tag}
 use Rattle.any_check.specs.Table.{any_may_lack, any_verdict, identifier, of_scrypt_check, of_stored, of_yescrypt_check}
-use Rattle.any_check.specs.Table.{row_may_lack, scheme_answer, scheme_named, text_scheme}
+use Rattle.any_check.specs.Table.{row_may_lack, scheme_answer, text_scheme}
+use Rattle.scheme_list.specs.Schemes.{scheme_named}
 use Rattle.any_check.specs.declared.error.AnyError.{AnyError}
 use Rattle.any_check.specs.declared.error.AnyError.TheVariants.{Stored}
-use Rattle.any_check.specs.declared.scheme.AnyScheme.{AnyScheme}
-use Rattle.any_check.specs.declared.scheme.AnyScheme.TheVariants.{Bcrypt, Md5Crypt, Record, Scrypt, ShaCrypt, Yescrypt}
+use Rattle.scheme_list.specs.declared.schemes.Scheme.{Scheme}
+use Rattle.scheme_list.specs.declared.schemes.Scheme.TheVariants.{Argon2d, Argon2i, Argon2id, Bcrypt, Md5Crypt, Pbkdf2Sha256}
+use Rattle.scheme_list.specs.declared.schemes.Scheme.TheVariants.{Pbkdf2Sha512, Scrypt, ScryptCrypt, Sha256Crypt, Sha512Crypt, Yescrypt}
 use Rattle.pw_file.specs.Policy.{IsLawful}
 use Rattle.pw_file.specs.StoredLaws.{IsScryptText, fresh_good, fresh_read, is_text_byte, stored_lawful, text_bytes}
 use Rattle.pw_file.specs.StoredTexts.{verdict_on}
@@ -158,7 +160,7 @@ module _ (password : List ℕ) where
       (ap (text_answer accepted tag password) is.1.0 ∙ same_parts is.0 is.1.1
       ∙ ap (text_answer scrypt.accepted scrypt.key password) (sym is.1.0))
 
-record_scheme : (text : List ℕ) → IsScryptText text → text_scheme text ≡ Some Record
+record_scheme : (text : List ℕ) → IsScryptText text → text_scheme text ≡ Some Scrypt
 unfolding text_scheme mcf
 record_scheme text is =
     let found : parts text ≡ is.0 = (value_found (parts text) is.0 (fault text) is.1.0).1 in
@@ -252,16 +254,22 @@ scrypt_judged : (password text : List ℕ) → is_verdict (scrypt_answer passwor
 unfolding scrypt_answer
 scrypt_judged password text h = scrypt_cases password (scrypt_text text) h
 
-row_judged : (password text : List ℕ) (scheme : Option AnyScheme)
+row_judged : (password text : List ℕ) (scheme : Option Scheme)
     → row_may_lack accepted needs_memory tag scheme password text ≡ true
     → IsJudged password (scheme_answer accepted tag scheme password text)
 row_judged password text None h = absurd (false≢true h)
 row_judged password text (Some Md5Crypt) h = absurd (false≢true h)
-row_judged password text (Some (ShaCrypt family)) h = absurd (false≢true h)
+row_judged password text (Some Sha256Crypt) h = absurd (false≢true h)
+row_judged password text (Some Sha512Crypt) h = absurd (false≢true h)
 row_judged password text (Some Bcrypt) h = absurd (false≢true h)
 row_judged password text (Some Yescrypt) h = yescrypt_judged password text h
-row_judged password text (Some Scrypt) h = scrypt_judged password text h
-row_judged password text (Some Record) h = record_judged password text h
+row_judged password text (Some ScryptCrypt) h = scrypt_judged password text h
+row_judged password text (Some Scrypt) h = record_judged password text h
+row_judged password text (Some Pbkdf2Sha256) h = record_judged password text h
+row_judged password text (Some Pbkdf2Sha512) h = record_judged password text h
+row_judged password text (Some Argon2d) h = record_judged password text h
+row_judged password text (Some Argon2i) h = record_judged password text h
+row_judged password text (Some Argon2id) h = record_judged password text h
 
 lack_judged : (password text : List ℕ) → given_may_lack None password text ≡ true
     → is_ok (given_verdict None password text) ≡ true

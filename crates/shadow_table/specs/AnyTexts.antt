@@ -1,7 +1,7 @@
 -- A policy: names and texts as shadow(5) has them, and the verdict for every scheme.
 use Rattle.std.specs.Prelude.{None}
 use Rattle.pieces.specs.Faults.{unless}
-use Rattle.any_check.specs.Lines.{given_may_lack, given_verdict}
+use Rattle.any_check.specs.Given.{given_may_lack, given_verdict}
 use Rattle.any_check.specs.declared.error.AnyError.{AnyError}
 use Rattle.pw_file.specs.Policy.{TextPolicy}
 use Rattle.shadow_table.specs.Fields.{is_field, is_locked_text, is_user_name}

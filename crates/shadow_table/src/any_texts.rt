@@ -4,7 +4,7 @@ ghost use Rattle.std.specs.Prelude.{◌≡◌, None};
 
 use crate::FieldFault;
 use crate::fields::{is_field, is_locked_text, is_user_name};
-use any_check::{AnyError, AnyLines};
+use any_check::{AnyCheck, AnyError};
 use pw_file::Policy;
 use scrypt_plain::ScryptKept;
 use std::alloc::{AllocError, Global};
@@ -18,16 +18,16 @@ pub struct AnyTexts;
 /// texts that upgrades make.
 #[derive(Drop)]
 pub struct AnyKept {
-    pub lines: AnyLines,
+    pub check: AnyCheck,
     pub scrypt: ScryptKept,
-    pub ghost unbounded: { lines.limits ≡ None },
+    pub ghost unbounded: { check.limits ≡ None },
 }
 
 impl AnyKept {
     /// No table is kept yet.
     pub fn new(alloc: Global) -> AnyKept {
         AnyKept {
-            lines: AnyLines::new(alloc, None),
+            check: AnyCheck::new(alloc, None),
             scrypt: ScryptKept::new(alloc),
         }
     }
@@ -67,7 +67,7 @@ impl Policy for AnyTexts {
         password: &str,
         text: &str,
     ) -> Result<Result<bool, AnyError>, AllocError> {
-        match kept.lines.known_verdict(password, text) {
+        match kept.check.known_verdict(password, text) {
             Some(answer) => Ok(answer),
             None => Err(AllocError),
         }

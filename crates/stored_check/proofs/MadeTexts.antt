@@ -1,13 +1,15 @@
--- The verdicts on texts that SHA-crypt makes.
-use Rattle.std.proofs.Common.{◌≡◌, ℕ, ◌≤◌, Bool, true, false, List, [], ◌∷◌, ◌++◌, length, refl, ap, ◌∙◌, arith, Ok}
-use Rattle.std.specs.Prelude.{not, nat_lt, Some, None}
+-- The verdicts on texts that SHA-crypt makes, and on those of records that a derivation makes.
+use Rattle.std.proofs.Common.{◌≡◌, ℕ, ◌≤◌, Bool, true, false, List, [], ◌∷◌, ◌++◌, length, refl, ap, ap₂, ◌∙◌, arith, Ok}
+use Rattle.std.specs.Prelude.{not, nat_lt, Option, Some, None, Result, Err, if◌then◌else◌}
 use Rattle.std.specs.List.{list_all}
 use Rattle.std.proofs.lemmas.Bool.Decides.{nat_tests}
 use Rattle.base64ct.proofs.DecodingLaws.{true_same}
 use Rattle.mcf.specs.Grammar.{mcf, field_fault, first_field_fault, is_field_byte, is_identifier, Parts}
 use Rattle.mcf.proofs.Built.{mcf-parts_text}
 use Rattle.mcf.proofs.Pushed.{good_field}
+use Rattle.phc.specs.Encoded.{encoding}
 use Rattle.phc.specs.declared.password_hash.PasswordHash.{PasswordHash}
+use Rattle.phc_kdf.proofs.MadeRecords.{IsMadeRecord}
 use Rattle.sha_crypt.specs.Check.{hash_matches}
 use Rattle.sha_crypt.specs.Families.{Scheme, scheme_fields}
 use Rattle.sha_crypt.specs.Fields.{ShaFields}
@@ -17,7 +19,9 @@ use Rattle.sha_crypt.specs.declared.errors.Family.{Family}
 use Rattle.sha_crypt.specs.declared.errors.Family.TheVariants.{Sha256, Sha512}
 use Rattle.sha_crypt.proofs.Digests.{hash_passes, hash_some, is_scheme, made_hash}
 use Rattle.sha_crypt.proofs.MadeTexts.{IsSalt, by_default, made_read}
-use Rattle.stored_check.specs.Verdict.{parts_answer, scheme_of, sha_answer, text_answer, verdict}
+use Rattle.stored_check.specs.Verdict.{key_answer, parts_answer, phc_answer, same_text, scheme_of, sha_answer, text_answer, verdict}
+use Rattle.stored_check.specs.declared.error.StoredError.{StoredError}
+use Rattle.stored_check.specs.declared.error.StoredError.TheVariants.{Kdf}
 use Rattle.stored_check.proofs.Normals.{rounds_field}
 use Rattle.stored_check.proofs.Records.{printed_is}
 
@@ -43,6 +47,30 @@ module _ (accepted : PasswordHash → List ℕ → ℕ → Bool) (tag : List ℕ
   of_parts asked text p fits is =
       let test : nat_lt 4096 (length asked) ≡ false = grind (arith, nat_tests, fits) in
       rw test (ap (text_answer accepted tag asked) is)
+
+  abbrev if_taken : Bool → Bool → Result Bool StoredError
+  if_taken taken matches = if taken then Ok matches else Err Kdf
+
+  -- by a salt and a hash that the derivation takes
+  of_key : (asked : List ℕ) (r : PasswordHash) (salt hash : List ℕ) (its_salt its_hash : Option (List ℕ))
+      → its_salt ≡ Some salt → its_hash ≡ Some hash → accepted r salt (length hash) ≡ true
+      → key_answer accepted tag asked r its_salt its_hash
+      ≡ Ok (same_text (encoding hash) (encoding (tag asked r salt (length hash))))
+  of_key asked r salt hash its_salt its_hash of_salt of_hash takes =
+      ap₂ (λ (x y : Option (List ℕ)). key_answer accepted tag asked r x y) of_salt of_hash
+      ∙ ap (λ (t : Bool). if_taken t (same_text (encoding hash) (encoding (tag asked r salt (length hash))))) takes
+
+  -- the text of a record that the derivation makes, whose identifier is no family's
+  pub record_made : (id password text : List ℕ) → scheme_of id ≡ None
+      → IsMadeRecord accepted tag id password text → IsMade password text
+  record_made id password text none m =
+      let p : Parts = record { id = id; fields = m.fields } in (
+        λ (asked : List ℕ). same_text (encoding m.hash) (encoding (tag asked m.made m.salt (length m.hash))),
+        λ (asked : List ℕ) fits. of_parts asked text p fits m.read
+            ∙ ap (λ o. parts_answer accepted tag asked o p) none ∙ ap (phc_answer accepted tag asked) m.is_record
+            ∙ of_key asked m.made m.salt m.hash m.made.salt m.made.hash m.has_salt m.has_hash m.takes,
+        ap (λ (k : List ℕ). same_text (encoding m.hash) (encoding k)) m.is_key ∙ true_same (encoding m.hash),
+      )
 
   module _ (family : Family) (password salt : List ℕ) (n : ℕ) (least : 1000 ≤ n) (most : n ≤ 999999999)
       (good : IsSalt salt) (some : 1 ≤ length salt)

@@ -7,17 +7,14 @@ ghost use Rattle.phc.specs.Encoded.{encoding};
 ghost use Rattle.phc.specs.Record.{phc_text};
 ghost use Rattle.stored_check.specs.Counts.{hash_length, record_hash_length, verdict_comparisons, verdict_looks};
 ghost use Rattle.stored_check.specs.Verdict.{IsVerdict, key_answer, may_lack_memory, phc_answer, record_needs, same_text, verdict};
-ghost use Rattle.stored_check.specs.Limits.{password_max};
+ghost use Rattle.phc_kdf.specs.Limits.{password_max};
 
 use crate::family::{check_family, named_family};
 use crate::names::{mcf_name, phc_name, sha_verdict};
-use crate::{PhcKdf, StoredError};
+use crate::{PASSWORD_MAX, PhcKdf, StoredError};
 use base64ct::Counts;
 use mcf::PasswordHashRef;
 use std::alloc::Global;
-
-/// The most bytes of a password.
-pub const PASSWORD_MAX: usize = 4_096;
 
 // Whether two lists of bytes have one encoding. They are compared as bytes, to their end.
 fn same_encoding(hash: &[u8], key: &[u8], counts: &mut Counts) -> bool

@@ -7,16 +7,15 @@
 mod check;
 mod error;
 mod family;
-mod kdf;
 pub mod laws;
 mod names;
 mod normal;
 mod words;
 
-pub use check::{PASSWORD_MAX, check_stored, check_stored_counted};
+pub use check::{check_stored, check_stored_counted};
 pub use error::{McfFault, PhcFault, ShaFault, ShaFormat, StoredError};
 pub use family::named_family;
-pub use kdf::PhcKdf;
 pub use names::mcf_name;
 pub use normal::{normal_text, write_normal};
+pub use phc_kdf::{PASSWORD_MAX, PhcKdf};
 pub use words::word;

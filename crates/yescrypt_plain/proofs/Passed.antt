@@ -1,7 +1,7 @@
 -- Which passwords pass a check, where memory is not refused.
 use Rattle.std.proofs.Common.{◌≡◌, ℕ, ◌≤◌, List, length, sym, subst, inl, inr, Ok, Err}
 use Rattle.std.specs.Prelude.{◌↔◌}
-use Rattle.stored_check.specs.Limits.{password_max}
+use Rattle.phc_kdf.specs.Limits.{password_max}
 use Rattle.yescrypt_plain.specs.Check.{Answer, IsAnswer, scrypt_answer, yescrypt_answer}
 use Rattle.yescrypt_plain.specs.Made.{IsScryptText, IsYescryptText}
 use Rattle.yescrypt_plain.specs.declared.error.CheckError.TheVariants.{OutOfMemory}

@@ -12,7 +12,7 @@ use Rattle.pieces.proofs.FaultLaws.{err_ok}
 use Rattle.pieces.proofs.ListLaws.{nil_of_empty}
 use Rattle.scrypt_plain.specs.Scrypt.{scrypt}
 use Rattle.scrypt_plain.proofs.KeyBytes.{scrypt_bytes}
-use Rattle.stored_check.specs.Limits.{password_max}
+use Rattle.phc_kdf.specs.Limits.{password_max}
 use Rattle.yescrypt_plain.specs.Check.{scrypt_answer, scrypt_matches, scrypt_verdict}
 use Rattle.yescrypt_plain.specs.Field.{crypt_field, hash_bytes}
 use Rattle.yescrypt_plain.specs.Laws.{ScryptMadeMatches, ScryptMatchesExactly}

@@ -9,7 +9,7 @@ use Rattle.base64ct.proofs.DecodingLaws.{same_true, true_same}
 use Rattle.pieces.specs.Lists.{is_empty}
 use Rattle.pieces.proofs.FaultLaws.{err_ok}
 use Rattle.pieces.proofs.ListLaws.{nil_of_empty}
-use Rattle.stored_check.specs.Limits.{password_max}
+use Rattle.phc_kdf.specs.Limits.{password_max}
 use Rattle.yescrypt_plain.specs.Check.{yescrypt_answer, yescrypt_matches, yescrypt_verdict}
 use Rattle.yescrypt_plain.specs.Field.{crypt_field, hash_bytes, salt_bytes}
 use Rattle.yescrypt_plain.specs.Laws.{YescryptMadeMatches, YescryptMatchesExactly}

@@ -2,7 +2,7 @@
 use Rattle.std.specs.Prelude.{◌≡◌, ◌⊎◌, ℕ, ◌^◌, Bool, true, false, List, length, nat_eq, nat_lt, Result, Ok, Err, if◌then◌else◌}
 use Rattle.std.specs.Cmp.Lexicographic.{pointwise}
 use Rattle.scrypt_plain.specs.Scrypt.{scrypt}
-use Rattle.stored_check.specs.Limits.{password_max}
+use Rattle.phc_kdf.specs.Limits.{password_max}
 use Rattle.yescrypt_plain.specs.Text.{ScryptMeaning, YescryptMeaning, scrypt_text, yescrypt_text}
 use Rattle.yescrypt_plain.specs.Yescrypt.{yescrypt}
 use Rattle.yescrypt_plain.specs.declared.error.CheckError.{CheckError}

@@ -1,7 +1,7 @@
 -- Laws over the definitions.
 use Rattle.std.specs.Prelude.{◌≡◌, ◌↔◌, ◌≤◌, ℕ, true, List, Ok, length}
 use Rattle.base64ct.specs.Encoding.{EachBelow}
-use Rattle.stored_check.specs.Limits.{password_max}
+use Rattle.phc_kdf.specs.Limits.{password_max}
 use Rattle.yescrypt_plain.specs.Check.{scrypt_answer, yescrypt_answer}
 use Rattle.yescrypt_plain.specs.Made.{IsScryptText, IsYescryptText, scrypt_hash_text, yescrypt_hash_text}
 use Rattle.yescrypt_plain.specs.Params.{in_bounds, scrypt_in_bounds, yescrypt_params, yescrypt_params_text}

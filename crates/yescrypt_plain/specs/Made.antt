@@ -5,7 +5,7 @@ use Rattle.base64ct.specs.Encoding.{EachBelow}
 use Rattle.pieces.specs.Characters.{dollar}
 use Rattle.pieces.specs.Faults.{first_fault, unless, value_or_fault}
 use Rattle.scrypt_plain.specs.Scrypt.{scrypt}
-use Rattle.stored_check.specs.Limits.{password_max}
+use Rattle.phc_kdf.specs.Limits.{password_max}
 use Rattle.yescrypt_plain.specs.Field.{crypt_field}
 use Rattle.yescrypt_plain.specs.Params.{in_bounds, scrypt_in_bounds, scrypt_params_text, yescrypt_params_text}
 use Rattle.yescrypt_plain.specs.Text.{is_scrypt_salt}

@@ -1,7 +1,7 @@
 //! The checks of a password against a stored text.
 
 ghost use Rattle.std.specs.Prelude.{◌≡◌, ◌↔◌, ◌≤◌, ◌+◌, ◌^◌, Err, Ok, false, if◌then◌else◌, length, true};
-ghost use Rattle.stored_check.specs.Limits.{password_max};
+ghost use Rattle.phc_kdf.specs.Limits.{password_max};
 ghost use Rattle.yescrypt_plain.specs.Check.{IsAnswer, is_verdict, scrypt_answer, scrypt_verdict_by, yescrypt_answer};
 ghost use Rattle.yescrypt_plain.specs.Check.{yescrypt_verdict_by};
 ghost use Rattle.yescrypt_plain.specs.Made.{IsScryptText, IsYescryptText};
@@ -12,8 +12,8 @@ use crate::compare::Compare;
 use crate::text::{ScryptParts, YescryptParts, scrypt_text, yescrypt_text};
 use crate::{CheckError, CryptKept};
 use base64ct::Counts;
+use phc_kdf::PASSWORD_MAX;
 use std::alloc::{AllocError, Global};
-use stored_check::PASSWORD_MAX;
 
 // The answer by whether the hash matches.
 fn answer_of(matches: bool) -> Result<(), CheckError>

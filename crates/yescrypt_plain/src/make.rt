@@ -9,9 +9,9 @@ use crate::field::{hash_field, push_salt};
 use crate::params::{in_bounds, push_yescrypt_params, scrypt_in_bounds, scrypt_params_text};
 use crate::text::is_scrypt_salt;
 use crate::{CryptKept, MakeError, ScryptParams, YescryptParams, yescrypt};
+use phc_kdf::PASSWORD_MAX;
 use pieces::short_bytes::ShortBytes;
 use std::alloc::{AllocError, Global};
-use stored_check::PASSWORD_MAX;
 
 // The first cause that no text `$y$` is made.
 fn yescrypt_make_fault(password: &[u8], salt: &[u8], params: YescryptParams) -> Option<MakeError>

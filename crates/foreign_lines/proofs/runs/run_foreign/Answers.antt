@@ -2,8 +2,8 @@ use Rattle.std.proofs.Common.{ap}
 use Rattle.line_program.specs.Rules.{from_state}
 use Rattle.line_program.proofs.RuleLaws.{each_by_itself}
 use Rattle.line_program.proofs.Told.{outcome_as}
-use Rattle.any_check.specs.LineRules.{any_state_rules}
-use Rattle.any_check.specs.declared.lines.AnyLines.{AnyLines}
+use Rattle.shadow_check.specs.LineRules.{any_state_rules}
+use Rattle.shadow_check.specs.declared.lines.AnyLines.{AnyLines}
 use Rattle.foreign_lines.specs.Handed.{handed}
 use Rattle.foreign_lines.specs.Rules.{foreign_state}
 use Rattle.foreign_lines.specs.Runs.{foreign_rules}
@@ -12,15 +12,22 @@ use Rattle.foreign_lines.specs.declared.parts.LineForm.TheVariants.{Password}
 use Rattle.foreign_lines.proofs.Handing.{stays}
 use Rattle.foreign_lines.proofs.runs.run_foreign.Goals as goal
 
-pub returns-clause-outcome : goal.returns-clause-outcome
-returns-clause-outcome g c =
+pub returns : goal.returns
+returns g c =
     let inner : AnyLines = c.new.result in
     let lines : ForeignLines AnyLines = record { foreign = c.args.foreign; form = Password; inner = inner } in
     let state = foreign_state (λ (s : ForeignLines AnyLines). s.foreign) (λ s. s.form) (λ s. s.inner)
     (λ s i. record s { inner = i }) any_state_rules in
-    rw (← c.new.ensures.limits)
-    (outcome_as (from_state state lines)
-    (foreign_rules c.args.foreign c.new.result.limits)
-    (each_by_itself state lines
-    (λ l. ap (λ (i : AnyLines). record lines { inner = i }) (stays inner (handed c.args.foreign Password l))))
-    c.run_lines.result c.args.max _ _ _ _ c.run_lines.ensures.outcome)
+    record {
+      told = record {
+        statuses = c.run_lines.ensures.statuses;
+        read_fault = c.run_lines.ensures.read_fault;
+        write_fault = c.run_lines.ensures.write_fault;
+        outcome = rw (← c.new.ensures.limits)
+            (outcome_as (from_state state lines)
+            (foreign_rules c.args.foreign c.new.result.check.limits)
+            (each_by_itself state lines
+            (λ l. ap (λ (i : AnyLines). record lines { inner = i }) (stays inner (handed c.args.foreign Password l))))
+            c.run_lines.result c.args.max _ _ _ _ c.run_lines.ensures.outcome);
+      };
+    }

@@ -1,6 +1,7 @@
 use Rattle.std.proofs.Common.{rules, ◌≡◌, None, Some}
 use Rattle.mcf.specs.Grammar.{fault, parts}
-use Rattle.md5_crypt.specs.Verdict.{magic_of, md5_answer, md5_fields}
+use Rattle.md5_plain.specs.Verdict.{magic_of, md5_verdict}
+use Rattle.md5_crypt.specs.Verdict.{md5_answer}
 use Rattle.md5_crypt.proofs.Walk.{too_long, not_a_text, md5_text, other_text}
 use Rattle.md5_crypt.proofs.check.check_legacy.Goals as goal
 
@@ -20,8 +21,8 @@ pub returns-in-Some : goal.returns-in-Some
 returns-in-Some g c =
     let valid : fault c.args.stored.now ≡ None = search rules in
     let is : magic_of (parts c.args.stored.now).id ≡ Some c.in-Some.magic = search rules in
-    let answer : c.check_fields.result ≡ md5_answer c.in-Some.magic c.args.password.now
-    (md5_fields (parts c.args.stored.now).fields) = search rules in
+    let answer : c.check_fields.result ≡ md5_answer
+    (md5_verdict c.in-Some.magic c.args.password.now (parts c.args.stored.now).fields) = search rules in
     record {
       verdict = md5_text _ _ _ c.args.password.now c.args.stored.now c.in-Some.magic _
           c.if-password-gt-PASSWORD_MAX.false valid is answer;

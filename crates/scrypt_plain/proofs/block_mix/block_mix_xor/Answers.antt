@@ -1,5 +1,5 @@
 use Rattle.std.proofs.Common.{ℕ, ◌+◌, ◌-◌, ◌*◌, List, ap, ◌∙◌, arith}
-use Rattle.scrypt_plain.specs.Bytes.{xor_bytes}
+use Rattle.word_lists.specs.Lists.{xor_bytes}
 use Rattle.scrypt_plain.specs.Scrypt.{salsa20_8}
 use Rattle.scrypt_plain.specs.Layout.{lane_bytes, row_bytes}
 use Rattle.scrypt_plain.proofs.Rows.{IsMixing_none, IsMixing_more, IsMixing_all, row_bytes_parts}

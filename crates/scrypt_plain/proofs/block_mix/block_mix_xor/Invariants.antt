@@ -1,5 +1,5 @@
 use Rattle.std.proofs.Common.{◌*◌}
-use Rattle.scrypt_plain.specs.Bytes.{xor_bytes}
+use Rattle.word_lists.specs.Lists.{xor_bytes}
 use Rattle.scrypt_plain.specs.Layout.{row_bytes}
 use Rattle.scrypt_plain.proofs.Rows.{IsMixing}
 use Rattle.scrypt_plain.proofs.block_mix.block_mix_xor.Given as goal

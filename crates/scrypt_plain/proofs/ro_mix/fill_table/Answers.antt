@@ -1,5 +1,6 @@
 use Rattle.std.proofs.Common.{◌*◌}
-use Rattle.scrypt_plain.specs.Layout.{row_bytes, piece}
+use Rattle.scrypt_plain.specs.Layout.{row_bytes}
+use Rattle.word_lists.specs.Lists.{piece}
 use Rattle.scrypt_plain.proofs.Table.{filled_none, filled_more}
 use Rattle.scrypt_plain.proofs.ro_mix.fill_table.Goals as goal
 

@@ -1,6 +1,7 @@
 use Rattle.std.proofs.Common.{◌≡◌, ℕ, ◌*◌, ◌≤◌}
 use Rattle.scrypt_plain.specs.Scrypt.{table_row}
-use Rattle.scrypt_plain.specs.Layout.{row_bytes, piece}
+use Rattle.scrypt_plain.specs.Layout.{row_bytes}
+use Rattle.word_lists.specs.Lists.{piece}
 use Rattle.scrypt_plain.proofs.ro_mix.fill_table.Given as goal
 
 abbrev pub invariant-rows : goal.invariant-rows

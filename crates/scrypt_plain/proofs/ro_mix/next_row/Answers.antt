@@ -2,8 +2,9 @@ use Rattle.std.proofs.Common.{◌≡◌, ℕ, ◌+◌, ◌-◌, ◌*◌, ◌≤�
 use Rattle.std.proofs.Math.Nat.{mul-le-mul_left}
 use Rattle.std.proofs.lemmas.List.{length-take-le}
 use Rattle.scrypt_plain.specs.Scrypt.{block_mix}
-use Rattle.scrypt_plain.specs.Layout.{row_bytes, piece}
-use Rattle.scrypt_plain.proofs.Table.{piece_left, piece-take, piece_at}
+use Rattle.scrypt_plain.specs.Layout.{row_bytes}
+use Rattle.word_lists.specs.Lists.{piece}
+use Rattle.word_lists.proofs.Pieces.{piece_left, piece-take, piece_at}
 use Rattle.scrypt_plain.proofs.ro_mix.next_row.Goals as goal
 
 pub returns-clause-next : goal.returns-clause-next

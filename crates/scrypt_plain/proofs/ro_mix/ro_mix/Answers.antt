@@ -4,7 +4,8 @@ use Rattle.std.proofs.Math.Nat.{mul-le-mul_left}
 use Rattle.std.proofs.lemmas.List.{length-take-le}
 use Rattle.scrypt_plain.specs.Bytes.{bytes}
 use Rattle.scrypt_plain.specs.Scrypt.{block_mix, table_row, ro_mix_state}
-use Rattle.scrypt_plain.specs.Layout.{row_bytes, piece}
+use Rattle.scrypt_plain.specs.Layout.{row_bytes}
+use Rattle.word_lists.specs.Lists.{piece}
 use Rattle.scrypt_plain.proofs.Table.{piece_first, last_row, even_power, filled_last, two_steps}
 use Rattle.scrypt_plain.proofs.ro_mix.ro_mix.Goals as goal
 

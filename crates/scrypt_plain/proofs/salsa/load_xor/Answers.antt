@@ -1,5 +1,5 @@
 use Rattle.std.proofs.Common.{ap₂, ◌∙◌}
-use Rattle.scrypt_plain.specs.Bytes.{xor_bytes}
+use Rattle.word_lists.specs.Lists.{xor_bytes}
 use Rattle.scrypt_plain.proofs.salsa.load_xor.Goals as goal
 
 pub returns : goal.returns

@@ -1,7 +1,8 @@
 use Rattle.std.proofs.Common.{◌≡◌, List, ℕ, ap, sym, ◌∙◌, arith}
 use Rattle.std.specs.Simd.Lanes.{zip2}
 use Rattle.scrypt_plain.specs.Bytes.{bytes}
-use Rattle.scrypt_plain.specs.Scrypt.{add32, row_round, column_round, double_rounds, salsa20_8_words}
+use Rattle.scrypt_plain.specs.Scrypt.{row_round, column_round, double_rounds, salsa20_8_words}
+use Rattle.word_lists.specs.Sums.{add32}
 use Rattle.scrypt_plain.specs.Layout.{lane_words}
 use Rattle.scrypt_plain.proofs.Lanes.{lane_words-zip2, lane_words_fit, lanes_fit}
 use Rattle.scrypt_plain.proofs.Words.{salsa20_8-bytes, double_rounds_none, double_rounds_more}

@@ -5,15 +5,21 @@ use Rattle.shadow_check.proofs.fewer.join_wanted.Goals as goal
 
 pub returns-then-status-gt-SOME_OTHER-clause-outcome : goal.returns-then-status-gt-SOME_OTHER-clause-outcome
 returns-then-status-gt-SOME_OTHER-clause-outcome g c =
-    wanted_end c.args.limits c.load_wanted-status.new.loading.passwords c.load_wanted-status.result c.args.max
+    wanted_end (g.J.Joining.join_rules c.args.joining.now) c.load_wanted-status.new.loading.passwords c.load_wanted-status.result c.args.max
     (is_in c.args.loading.users) c.if-status-gt-SOME_OTHER.true _ _ _ _ _ c.load_wanted-status.ensures.loaded
+
+pub returns-clause-statuses : goal.returns-clause-statuses
+returns-clause-statuses g c = c.join_texts.ensures.told.statuses
+
+pub returns-clause-texts_fault : goal.returns-clause-texts_fault
+returns-clause-texts_fault g c = λ h. c.join_texts.ensures.told.read_fault cc
 
 pub returns-clause-write_fault : goal.returns-clause-write_fault
 returns-clause-write_fault g c =
-    λ h. risen_since _ _ _ c.load_wanted-status.ensures.count (c.join_texts.ensures.write_fault h)
+    λ h. risen_since _ _ _ c.load_wanted-status.ensures.count (c.join_texts.ensures.told.write_fault h)
 
 pub returns-clause-outcome : goal.returns-clause-outcome
 returns-clause-outcome g c =
-    wanted_texts_end c.args.limits c.load_wanted-status.new.loading.passwords c.load_wanted-status.result c.args.max
+    wanted_texts_end (g.J.Joining.join_rules c.args.joining.now) c.load_wanted-status.new.loading.passwords c.load_wanted-status.result c.args.max
     (is_in c.args.loading.users) c.join_texts.result c.if-status-gt-SOME_OTHER.false _ _ _ _ _ _ _
-    c.load_wanted-status.ensures.loaded c.join_texts.ensures.outcome
+    c.load_wanted-status.ensures.loaded c.join_texts.ensures.told.outcome

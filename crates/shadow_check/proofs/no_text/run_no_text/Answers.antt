@@ -7,12 +7,18 @@ returns-then-status-gt-SOME_OTHER-clause-outcome g c =
     no_texts_end c.load_passwords-status.new.loading.passwords c.load_passwords-status.result c.args.max
     c.if-status-gt-SOME_OTHER.true _ _ _ _ _ c.load_passwords-status.ensures.loaded
 
+pub returns-clause-statuses : goal.returns-clause-statuses
+returns-clause-statuses g c = c.tell_users.ensures.told.statuses
+
+pub returns-clause-passwords_fault : goal.returns-clause-passwords_fault
+returns-clause-passwords_fault g c = λ h. c.tell_users.ensures.told.read_fault cc
+
 pub returns-clause-write_fault : goal.returns-clause-write_fault
 returns-clause-write_fault g c =
-    λ h. risen_since _ _ _ c.load_passwords-status.ensures.count (c.tell_users.ensures.write_fault h)
+    λ h. risen_since _ _ _ c.load_passwords-status.ensures.count (c.tell_users.ensures.told.write_fault h)
 
 pub returns-clause-outcome : goal.returns-clause-outcome
 returns-clause-outcome g c =
     told_end c.load_passwords-status.new.loading.passwords c.load_passwords-status.result c.args.max
     c.tell_users.result c.if-status-gt-SOME_OTHER.false _ _ _ _ _ _ _ c.load_passwords-status.ensures.loaded
-    c.tell_users.ensures.outcome
+    c.tell_users.ensures.told.outcome

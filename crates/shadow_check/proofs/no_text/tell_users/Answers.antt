@@ -8,8 +8,15 @@ use Rattle.shadow_check.specs.NoTextRules.{no_text_state_rules}
 use Rattle.shadow_check.specs.declared.no_text.NoTextLines.{NoTextLines}
 use Rattle.shadow_check.proofs.no_text.tell_users.Goals as goal
 
-pub returns-clause-outcome : goal.returns-clause-outcome
-returns-clause-outcome g c =
+pub returns : goal.returns
+returns g c =
     let told : NoTextLines = record { users = c.args.users } in
-    outcome_as (from_state no_text_state_rules told) (no_text_rules (is_in c.args.users))
-    (each_by_itself no_text_state_rules told (λ l. refl)) c.run_lines.result c.args.max _ _ _ _ c.run_lines.ensures.outcome
+    record {
+      told = record {
+        statuses = c.run_lines.ensures.statuses;
+        read_fault = c.run_lines.ensures.read_fault;
+        write_fault = c.run_lines.ensures.write_fault;
+        outcome = outcome_as (from_state no_text_state_rules told) (no_text_rules (is_in c.args.users))
+            (each_by_itself no_text_state_rules told (λ l. refl)) c.run_lines.result c.args.max _ _ _ _ c.run_lines.ensures.outcome;
+      };
+    }

@@ -1,5 +1,5 @@
 use Rattle.line_program.proofs.Told.{told_as}
-use Rattle.line_state.specs.Outcome.{StateOutcome}
+use Rattle.line_program.specs.Outcome.{StateOutcome}
 use Rattle.shadow_fields.specs.LoadRules.{loading_rules}
 use Rattle.shadow_fields.specs.Loads.{Loaded}
 use Rattle.shadow_fields.proofs.Loaded.{loaded}

@@ -1,5 +1,5 @@
 use Rattle.line_program.proofs.Told.{told_as}
-use Rattle.line_state.specs.Outcome.{StateOutcome}
+use Rattle.line_program.specs.Outcome.{StateOutcome}
 use Rattle.shadow_fields.specs.Wanted.{LoadedWanted, is_in}
 use Rattle.shadow_fields.specs.WantedRules.{loading_wanted_rules}
 use Rattle.shadow_fields.proofs.LoadedWanted.{loaded_wanted}

@@ -2,7 +2,8 @@ use Rattle.std.proofs.Common.{rules, ◌≡◌, ◌∙◌, sym, ap, false, lengt
 use Rattle.std.specs.Prelude.{◌==◌}
 use Rattle.std.proofs.lemmas.Str.{is_utf8-from_IsUtf8}
 use Rattle.line_program.proofs.LastTab.{not_text}
-use Rattle.shadow_survey.specs.Costs.{text_kind}
+use Rattle.any_check.specs.Kinds.{text_kind}
+use Rattle.any_check.specs.Records.{accepted}
 use Rattle.shadow_fields.specs.Fields.{is_locked}
 use Rattle.shadow_survey.specs.Judgements.{judged_kind}
 use Rattle.shadow_survey.proofs.Judging.{of_other, of_text}
@@ -15,7 +16,7 @@ returns-in-Some c =
     let text = is_utf8-from_IsUtf8 c.args.text.now c.in-Some.ensures.text.1 in
     let same = c.in-Some.ensures.text.0 in
     record {
-      judgement = c.judged_kind.ensures ∙ ap (judged_kind c.args.least.now) (c.text_kind.ensures.kind ∙ ap text_kind same)
+      judgement = c.judged_kind.ensures ∙ ap (judged_kind c.args.least.now) (c.text_kind.ensures.kind ∙ ap (text_kind accepted) same)
           ∙ sym (of_text c.args.least.now c.args.text.now some unlocked text);
     }
 

@@ -8,7 +8,7 @@ use Rattle.shadow_check.proofs.joined.JoinedLines.put_answer.Goals as goal
 pub returns-then-has_verdict-clause-reply : goal.returns-then-has_verdict-clause-reply
 returns-then-has_verdict-clause-reply g c =
     let text : c.args.user.now ++ 9 ∷ (c.word.result.now ++ 10 ∷ []) ≡ c.args.user.now ++ 9 ∷ (join_word
-    (join_answer c.args.self.now.lines.limits (password_in c.args.self.now.passwords c.args.user.now) c.args.text.now)
+    (join_answer c.args.self.now.check.limits (password_in c.args.self.now.passwords c.args.user.now) c.args.text.now)
     ++ 10 ∷ []) =
     ap (λ (w : List ℕ). c.args.user.now ++ 9 ∷ (w ++ 10 ∷ [])) c.word.ensures.word
     ∙ ap (λ (a : JoinAnswer). c.args.user.now ++ 9 ∷ (join_word a ++ 10 ∷ [])) c.in-Some.ensures.answered.1 in
@@ -18,7 +18,7 @@ returns-then-has_verdict-clause-reply g c =
 pub returns-else-has_verdict-clause-reply : goal.returns-else-has_verdict-clause-reply
 returns-else-has_verdict-clause-reply g c =
     let text : c.args.user.now ++ 9 ∷ (c.word.result.now ++ 10 ∷ []) ≡ c.args.user.now ++ 9 ∷ (join_word
-    (join_answer c.args.self.now.lines.limits (password_in c.args.self.now.passwords c.args.user.now) c.args.text.now)
+    (join_answer c.args.self.now.check.limits (password_in c.args.self.now.passwords c.args.user.now) c.args.text.now)
     ++ 10 ∷ []) =
     ap (λ (w : List ℕ). c.args.user.now ++ 9 ∷ (w ++ 10 ∷ [])) c.word.ensures.word
     ∙ ap (λ (a : JoinAnswer). c.args.user.now ++ 9 ∷ (join_word a ++ 10 ∷ [])) c.in-Some.ensures.answered.1 in

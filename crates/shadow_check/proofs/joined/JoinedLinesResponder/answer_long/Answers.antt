@@ -7,9 +7,9 @@ use Rattle.shadow_check.proofs.joined.JoinedLinesResponder.answer_long.Goals as 
 pub returns-clause-good : goal.returns-clause-good
 returns-clause-good g c line long =
     let is : nat_lt 8192 (length line) ≡ true = search rules in
-    sym (long_good c.args.self.now.lines.limits (password_in c.args.self.now.passwords) line is)
+    sym (long_good c.args.self.now.check.limits (password_in c.args.self.now.passwords) line is)
 
 pub returns-clause-reply : goal.returns-clause-reply
 returns-clause-reply g c line long =
     let is : nat_lt 8192 (length line) ≡ true = search rules in
-    rw (long_output c.args.self.now.lines.limits (password_in c.args.self.now.passwords) line is) c.put.ensures.puts
+    rw (long_output c.args.self.now.check.limits (password_in c.args.self.now.passwords) line is) c.put.ensures.puts

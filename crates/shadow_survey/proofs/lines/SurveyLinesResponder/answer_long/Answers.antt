@@ -1,6 +1,7 @@
 use Rattle.std.proofs.Common.{rules, ◌≡◌, ◌∙◌, ap, [], length, sym, true, List, ℕ}
 use Rattle.std.specs.Prelude.{nat_lt}
-use Rattle.shadow_survey.specs.Rows.{counted, is_good}
+use Rattle.shadow_survey.specs.Counting.{counted, kind_of}
+use Rattle.shadow_survey.specs.Rows.{is_good}
 use Rattle.shadow_survey.specs.declared.judgement.Judgement.{Judgement}
 use Rattle.shadow_survey.specs.declared.judgement.Judgement.TheVariants.{TooLong}
 use Rattle.shadow_survey.proofs.Surveying.{of_long, row_of}
@@ -23,4 +24,4 @@ returns-clause-after g c = λ line long_line.
     let s = c.args.self.now in
     let long : nat_lt 8192 (length line) ≡ true = search rules in
     c.put_counted.ensures.count
-    ∙ sym (ap (λ (x : List ℕ × Judgement). record s { counts = counted s.counts x.1 }) (of_long s.least line long))
+    ∙ sym (ap (λ (x : List ℕ × Judgement). record s { counts = counted s.counts (kind_of x.1) }) (of_long s.least line long))

@@ -1,0 +1,119 @@
+-- What a stored text is, and what it asks for.
+use Rattle.std.specs.Prelude.{ℕ, Bool, List, length, Option, Some, None, Result, Ok, Err, is_ok, unwrap_or, if◌then◌else◌, codes}
+use Rattle.mcf.specs.Grammar.{mcf}
+use Rattle.phc.specs.Record.{phc_text}
+use Rattle.phc.specs.declared.error.Error as phc_error
+use Rattle.phc.specs.declared.password_hash.PasswordHash.{PasswordHash}
+use Rattle.scheme_list.specs.Schemes.{row_of}
+use Rattle.scheme_list.specs.declared.schemes.Numbers.{Numbers}
+use Rattle.scheme_list.specs.declared.schemes.Numbers.TheVariants.{LnRP, MTP, Rounds}
+use Rattle.scheme_list.specs.declared.schemes.Scheme.{Scheme}
+use Rattle.scheme_list.specs.declared.schemes.Scheme.TheVariants.{Argon2d, Argon2i, Argon2id, Bcrypt, Md5Crypt, Pbkdf2Sha256}
+use Rattle.scheme_list.specs.declared.schemes.Scheme.TheVariants.{Pbkdf2Sha512, Scrypt, ScryptCrypt, Sha256Crypt, Sha512Crypt, Yescrypt}
+use Rattle.phc_kdf.specs.Numbers.{number}
+use Rattle.sha_crypt.specs.Fields.{ShaFields}
+use Rattle.sha_crypt.specs.Records.{record_of}
+use Rattle.sha_crypt.specs.declared.errors.CheckError.{CheckError}
+use Rattle.sha_crypt.specs.declared.errors.Family.{Family}
+use Rattle.sha_crypt.specs.declared.errors.Family.TheVariants.{Sha256, Sha512}
+use Rattle.bcrypt_plain.specs.Text.{text_cost}
+use Rattle.bcrypt_plain.specs.declared.error.BcryptFault.{BcryptFault}
+use Rattle.yescrypt_plain.specs.Text.{scrypt_costs, yescrypt_costs}
+use Rattle.yescrypt_plain.specs.declared.error.TextFault.{TextFault}
+use Rattle.yescrypt_plain.specs.declared.params.ScryptParams.{ScryptParams}
+use Rattle.yescrypt_plain.specs.declared.params.YescryptParams.{YescryptParams}
+use Rattle.any_check.specs.Table.{sha_scheme, text_scheme}
+use Rattle.any_check.specs.declared.kinds.TextCosts.{TextCosts}
+use Rattle.any_check.specs.declared.kinds.TextKind.{TextKind}
+use Rattle.any_check.specs.declared.kinds.TextKind.TheVariants.{NoScheme, Invalid, Costs}
+
+-- three numbers of a scheme
+abbrev pub three : Scheme → ℕ → ℕ → ℕ → TextCosts
+three scheme first second third = record { scheme = scheme; first = first; second = second; third = third }
+
+-- one, and two that it hasn't
+abbrev pub one : Scheme → ℕ → TextCosts
+one scheme first = three scheme first 0 0
+
+-- ---- texts of crypt(3)
+
+-- SHA-crypt: the rounds, 5,000 where none are named
+abbrev pub sha_kind : Family → Result ShaFields CheckError → TextKind
+sha_kind family (Err e) = Invalid
+sha_kind family (Ok f) = Costs (one (sha_scheme family) f.rounds)
+
+-- the same of a text, which is one in the modular crypt format
+abbrev pub sha_text_kind : Family → List ℕ → TextKind
+sha_text_kind family stored = if is_ok (mcf stored) then sha_kind family (record_of family stored) else Invalid
+
+-- bcrypt: the cost
+abbrev pub bcrypt_kind : Result ℕ BcryptFault → TextKind
+bcrypt_kind (Err e) = Invalid
+bcrypt_kind (Ok cost) = Costs (one Bcrypt cost)
+
+-- yescrypt: the binary logarithm of N, r and t
+abbrev pub yescrypt_kind : Result YescryptParams TextFault → TextKind
+yescrypt_kind (Err e) = Invalid
+yescrypt_kind (Ok p) = Costs (three Yescrypt p.ln p.r p.t)
+
+-- scrypt in crypt's own form: the binary logarithm of N, r and p
+abbrev pub scrypt_kind : Result ScryptParams TextFault → TextKind
+scrypt_kind (Err e) = Invalid
+scrypt_kind (Ok p) = Costs (three ScryptCrypt p.ln p.r p.p)
+
+-- ---- records in the PHC string format
+
+-- a number that a record names
+abbrev pub named : PasswordHash → List ℕ → ℕ
+named parsed name = unwrap_or (number parsed name) 0
+
+-- by the numbers of its scheme: scrypt's (RFC 7914), PBKDF2's (RFC 8018), Argon2's (RFC 9106)
+abbrev pub record_costs : Scheme → Numbers → PasswordHash → TextCosts
+record_costs scheme LnRP parsed =
+    three scheme (named parsed (codes "ln")) (named parsed (codes "r")) (named parsed (codes "p"))
+record_costs scheme Rounds parsed = one scheme (named parsed (codes "i"))
+record_costs scheme MTP parsed =
+    three scheme (named parsed (codes "m")) (named parsed (codes "t")) (named parsed (codes "p"))
+record_costs scheme numbers parsed = one scheme 0
+
+-- By which records are taken.
+module _ (accepted : PasswordHash → List ℕ → ℕ → Bool) where
+  -- a record that is taken with its salt, for its hash
+  abbrev pub salted_kind : Scheme → PasswordHash → Option (List ℕ) → Option (List ℕ) → TextKind
+  salted_kind scheme parsed (Some salt) (Some hash) =
+      if accepted parsed salt (length hash) then Costs (record_costs scheme (row_of scheme).numbers parsed) else Invalid
+  salted_kind scheme parsed salt hash = Invalid
+
+  -- the record of a PHC text
+  abbrev pub phc_kind : Scheme → Result PasswordHash phc_error.Error → TextKind
+  phc_kind scheme (Err e) = Invalid
+  phc_kind scheme (Ok parsed) = salted_kind scheme parsed parsed.salt parsed.hash
+
+  -- of a text, which is one in the modular crypt format too
+  abbrev pub record_kind : Scheme → List ℕ → TextKind
+  record_kind scheme stored = if is_ok (mcf stored) then phc_kind scheme (phc_text stored) else Invalid
+
+  -- ---- the table; a text of md5-crypt, whose cost is the same for each, is read no further than its identifier
+
+  abbrev pub row_kind : Scheme → List ℕ → TextKind
+  row_kind Md5Crypt stored = Costs (one Md5Crypt 0)
+  row_kind Sha256Crypt stored = sha_text_kind Sha256 stored
+  row_kind Sha512Crypt stored = sha_text_kind Sha512 stored
+  row_kind Bcrypt stored = bcrypt_kind (text_cost stored)
+  row_kind Yescrypt stored = yescrypt_kind (yescrypt_costs stored)
+  row_kind ScryptCrypt stored = scrypt_kind (scrypt_costs stored)
+  row_kind Scrypt stored = record_kind Scrypt stored
+  row_kind Pbkdf2Sha256 stored = record_kind Pbkdf2Sha256 stored
+  row_kind Pbkdf2Sha512 stored = record_kind Pbkdf2Sha512 stored
+  row_kind Argon2d stored = record_kind Argon2d stored
+  row_kind Argon2i stored = record_kind Argon2i stored
+  row_kind Argon2id stored = record_kind Argon2id stored
+
+  -- by the scheme, if the text has one
+  abbrev pub kind_by : Option Scheme → List ℕ → TextKind
+  kind_by None stored = NoScheme
+  kind_by (Some scheme) stored = row_kind scheme stored
+
+  -- what a stored text is
+  unfoldable pub text_kind : List ℕ → TextKind
+  text_kind stored = kind_by (text_scheme stored) stored

@@ -1,0 +1,235 @@
+//! What a stored text is, and what it asks for.
+
+ghost use Rattle.std.specs.Prelude.{◌≡◌, is_ok, unwrap_or};
+ghost use Rattle.bcrypt_plain.specs.Text.{text_cost};
+ghost use Rattle.mcf.specs.Grammar.{mcf};
+ghost use Rattle.phc.specs.Record.{phc_text};
+ghost use Rattle.scheme_list.specs.Schemes.{row_of};
+ghost use Rattle.phc_kdf.specs.Numbers.{number};
+ghost use Rattle.sha_crypt.specs.Records.{record_of};
+ghost use Rattle.yescrypt_plain.specs.Text.{scrypt_costs, yescrypt_costs};
+ghost use Rattle.any_check.specs.Kinds.{bcrypt_kind, one, phc_kind, record_costs, record_kind, row_kind, salted_kind, scrypt_kind, sha_kind, sha_text_kind, text_kind, three, yescrypt_kind};
+ghost use Rattle.any_check.specs.Table.{sha_scheme};
+
+use crate::scheme_of_text;
+use bcrypt_plain::text_cost;
+use mcf::PasswordHashRef;
+use phc::PasswordHash;
+use scheme_list::{Numbers, Scheme};
+use sha_crypt::{Family, ShaRecord};
+use stored_check::PhcKdf;
+use yescrypt_plain::{scrypt_costs, yescrypt_costs};
+
+/// A scheme and up to three numbers, 0 for each that it hasn't: the rounds of SHA-crypt and PBKDF2; the cost of bcrypt;
+/// `ln`, `r` and `t` of yescrypt; `ln`, `r` and `p` of scrypt; `m`, `t` and `p` of Argon2.
+#[derive(Clone, Copy, Debug, PartialEq, Eq)]
+pub struct TextCosts {
+    pub scheme: Scheme,
+    pub first: u64,
+    pub second: u64,
+    pub third: u64,
+}
+
+/// What a stored text is.
+#[derive(Clone, Copy, Debug, PartialEq, Eq)]
+pub enum TextKind {
+    /// No scheme has its identifier.
+    NoScheme,
+    /// It has a fault.
+    Invalid,
+    /// It asks for these costs. A text of md5-crypt, whose cost is the same for each, is read no further than its identifier.
+    Costs(TextCosts),
+}
+
+/// Three numbers of a scheme.
+pub(crate) fn three(scheme: Scheme, first: u64, second: u64, third: u64) -> TextCosts
+    ensures { result ≡ three scheme first second third }
+{
+    TextCosts {
+        scheme,
+        first,
+        second,
+        third,
+    }
+}
+
+/// One number of a scheme.
+pub(crate) fn one(scheme: Scheme, first: u64) -> TextCosts
+    ensures { result ≡ one scheme first }
+{
+    three(scheme, first, 0, 0)
+}
+
+// A number of a record; 0 where it has none of this name.
+fn number(parsed: &PasswordHash, name: &str) -> u64
+    ensures { result ≡ unwrap_or (number parsed.now name.now) 0 }
+{
+    match parsed.params.get_decimal_named(name) {
+        Some(n) => n as u64,
+        None => 0,
+    }
+}
+
+// The costs of a record, by the numbers of its scheme.
+fn record_costs(scheme: Scheme, numbers: Numbers, parsed: &PasswordHash) -> TextCosts
+    ensures { result ≡ record_costs scheme numbers parsed.now }
+{
+    match numbers {
+        Numbers::LnRP => three(
+            scheme,
+            number(parsed, "ln"),
+            number(parsed, "r"),
+            number(parsed, "p"),
+        ),
+        Numbers::Rounds => one(scheme, number(parsed, "i")),
+        Numbers::MTP => three(
+            scheme,
+            number(parsed, "m"),
+            number(parsed, "t"),
+            number(parsed, "p"),
+        ),
+        Numbers::Nothing | Numbers::Cost | Numbers::LnRT => one(scheme, 0),
+    }
+}
+
+// A record with its salt and hash.
+fn salted_kind<K: PhcKdf>(kdf: &K, scheme: Scheme, parsed: &PasswordHash) -> TextKind
+    ensures { result ≡ salted_kind (K.accepted kdf.now) scheme parsed.now parsed.now.salt parsed.now.hash }
+{
+    let Some(salt) = &parsed.salt else {
+        return TextKind::Invalid;
+    };
+    let Some(hash) = &parsed.hash else {
+        return TextKind::Invalid;
+    };
+    if kdf.accepts(parsed, salt.as_bytes(), hash.len()) {
+        TextKind::Costs(record_costs(scheme, scheme.numbers(), parsed))
+    } else {
+        TextKind::Invalid
+    }
+}
+
+fn phc_kind<K: PhcKdf>(kdf: &K, scheme: Scheme, stored: &str) -> TextKind
+    ensures { result ≡ phc_kind (K.accepted kdf.now) scheme (phc_text stored.now) }
+{
+    match PasswordHash::new(stored) {
+        Ok(parsed) => salted_kind(kdf, scheme, &parsed),
+        Err(_) => TextKind::Invalid,
+    }
+}
+
+// Whether a text is in the modular crypt format.
+fn is_mcf(stored: &str) -> bool
+    ensures { result ≡ is_ok (mcf stored.now) }
+{
+    match PasswordHashRef::new(stored) {
+        Ok(_) => true,
+        Err(_) => false,
+    }
+}
+
+fn record_kind<K: PhcKdf>(kdf: &K, scheme: Scheme, stored: &str) -> TextKind
+    ensures { result ≡ record_kind (K.accepted kdf.now) scheme stored.now }
+{
+    if is_mcf(stored) {
+        phc_kind(kdf, scheme, stored)
+    } else {
+        TextKind::Invalid
+    }
+}
+
+fn sha_scheme(family: Family) -> Scheme
+    ensures { result ≡ sha_scheme family }
+{
+    match family {
+        Family::Sha256 => Scheme::Sha256Crypt,
+        Family::Sha512 => Scheme::Sha512Crypt,
+    }
+}
+
+fn sha_kind(family: Family, stored: &str) -> TextKind
+    ensures { result ≡ sha_kind family (record_of family stored.now) }
+{
+    match ShaRecord::new(stored, family) {
+        Ok(record) => TextKind::Costs(one(sha_scheme(family), record.rounds() as u64)),
+        Err(_) => TextKind::Invalid,
+    }
+}
+
+fn sha_text_kind(family: Family, stored: &str) -> TextKind
+    ensures { result ≡ sha_text_kind family stored.now }
+{
+    if is_mcf(stored) {
+        sha_kind(family, stored)
+    } else {
+        TextKind::Invalid
+    }
+}
+
+fn bcrypt_kind(stored: &str) -> TextKind
+    ensures { result ≡ bcrypt_kind (text_cost stored.now) }
+{
+    match text_cost(stored) {
+        Ok(cost) => TextKind::Costs(one(Scheme::Bcrypt, cost as u64)),
+        Err(_) => TextKind::Invalid,
+    }
+}
+
+fn yescrypt_kind(stored: &str) -> TextKind
+    ensures { result ≡ yescrypt_kind (yescrypt_costs stored.now) }
+{
+    match yescrypt_costs(stored) {
+        Ok(costs) => TextKind::Costs(three(
+            Scheme::Yescrypt,
+            costs.ln as u64,
+            costs.r as u64,
+            costs.t as u64,
+        )),
+        Err(_) => TextKind::Invalid,
+    }
+}
+
+fn scrypt_kind(stored: &str) -> TextKind
+    ensures { result ≡ scrypt_kind (scrypt_costs stored.now) }
+{
+    match scrypt_costs(stored) {
+        Ok(costs) => TextKind::Costs(three(
+            Scheme::ScryptCrypt,
+            costs.ln as u64,
+            costs.r as u64,
+            costs.p as u64,
+        )),
+        Err(_) => TextKind::Invalid,
+    }
+}
+
+// What a text of a scheme is.
+fn row_kind<K: PhcKdf>(kdf: &K, scheme: Scheme, stored: &str) -> TextKind
+    ensures { result ≡ row_kind (K.accepted kdf.now) scheme stored.now }
+{
+    match scheme {
+        Scheme::Md5Crypt => TextKind::Costs(one(Scheme::Md5Crypt, 0)),
+        Scheme::Sha256Crypt => sha_text_kind(Family::Sha256, stored),
+        Scheme::Sha512Crypt => sha_text_kind(Family::Sha512, stored),
+        Scheme::Bcrypt => bcrypt_kind(stored),
+        Scheme::Yescrypt => yescrypt_kind(stored),
+        Scheme::ScryptCrypt => scrypt_kind(stored),
+        Scheme::Scrypt
+        | Scheme::Pbkdf2Sha256
+        | Scheme::Pbkdf2Sha512
+        | Scheme::Argon2d
+        | Scheme::Argon2i
+        | Scheme::Argon2id => record_kind(kdf, scheme, stored),
+    }
+}
+
+/// What a stored text is, and what it asks for: a record by what `kdf` takes. Nothing is hashed, and no memory taken.
+#[tactic(auto, unfolding(crate::specs::Kinds::text_kind))]
+pub fn text_kind<K: PhcKdf>(kdf: &K, stored: &str) -> TextKind
+    ensures kind { result ≡ text_kind (K.accepted kdf.now) stored.now }
+{
+    match scheme_of_text(stored) {
+        None => TextKind::NoScheme,
+        Some(scheme) => row_kind(kdf, scheme, stored),
+    }
+}

@@ -1,2 +1,0 @@
-mod Running
-mod Endings

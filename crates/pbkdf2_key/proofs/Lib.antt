@@ -1,0 +1,4 @@
+pub mod Blocks
+mod Keys
+mod Putting
+mod Vectors
