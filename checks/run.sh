@@ -42,7 +42,7 @@ if [ -e /usr/include/crypt.h ]; then
   python3 crypt3/library.py "$work/crypt"
   # pwcrypt.c is compiled for the sanitizers with the program that calls it. Its null pointers are meant.
   gcc -std=c11 -D_GNU_SOURCE -g -O1 -Wall -Wextra -Werror -fsanitize=address,undefined -fno-sanitize=nonnull-attribute \
-    -fno-sanitize-recover=all crypt3/try.c crypt3/pwcrypt.c ${LIBPWCRYPT_C:-crates/pwcrypt_c/out/libpwcrypt_c.a} \
+    -fno-sanitize-recover=all -I face crypt3/try.c crypt3/pwcrypt.c face/wipe.c ${LIBPWCRYPT_C:-crates/pwcrypt_c/out/libpwcrypt_c.a} \
     "${KIT:-$(dirname "$(rt doc)")}/c/liblibc_c.a" -o "$work/crypt_try" -lpthread
   "$work/crypt_try"
   python3 bench/crypt_differ.py "$work/crypt/lib/libpwcrypt.so.1" 2000

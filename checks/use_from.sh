@@ -77,7 +77,7 @@ has() { # LANGUAGE COMMANDS
   tried=$((tried + 1))
 }
 # The stored text is cut, or the last password is another.
-if has c gcc pkg-config; then try c 's/stored, n, &/stored, n - 1, \&/'; fi
+if has c gcc pkg-config; then try c 's/stored, n)/stored, n - 1)/'; fi
 if has python python3; then try python '$s/correct horse/correct house/'; fi
 if has rust cargo; then try rust '$s/correct horse/correct house/'; fi
 if has sh sh; then try sh '$s/correct horse/correct house/'; fi
