@@ -52,6 +52,12 @@ PY
     "$work/crypt_try"
   done
   python3 "$top/bench/crypt_differ.py" "$work/libpwcrypt.so.1" 100
+  peer=$(ldconfig -p | awk '/libcrypt\.so\.1 .*x86-64/ { print $NF; exit }')
+  versions() { nm -D --defined-only "$1" | awk '$2 == "T" { print $3 }' | LC_ALL=C sort; }
+  versions "$work/libpwcrypt.so.1" >"$work/ours"
+  versions "$peer" >"$work/theirs"
+  [ -s "$work/ours" ] && [ -z "$(LC_ALL=C comm -23 "$work/ours" "$work/theirs")" ] || fail "a symbol of libpwcrypt has another version than libxcrypt's"
+  echo "c_faces.sh: $(wc -l <"$work/ours") symbols of libpwcrypt have libxcrypt's versions"
 else
   echo "c_faces.sh: no <crypt.h>, so crypt(3) was not tried"
 fi

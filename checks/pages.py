@@ -10,7 +10,7 @@ import re
 
 from page_texts import TOP, end, page_texts
 
-ROOTS = ("crates", "docs", "bench", "examples", "bindings", "include", "man", "scale", "packaging", "checks", "crypt3")
+ROOTS = ("crates", "docs", "bench", "examples", "bindings", "include", "man", "scale", "packaging", "checks", "crypt3", "face")
 
 
 def spread(path):

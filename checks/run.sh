@@ -1,7 +1,7 @@
 #!/usr/bin/env bash
 # The repository's own checks, after the prover's. Each ends with a status that isn't 0 where it finds a fault.
 #
-#     checks/run.sh quick    the numbers of the header and of the bindings, what the pages name, the layers, the pictures, dist/ and its
+#     checks/run.sh quick    the numbers of the header and of the bindings, what the pages name, the blocks of README and GUIDE, the layers, the pictures, dist/ and its
 #                            comparison, the faces in C over the libraries of dist/, the built pwtool over each form and option, and what crashes leave of a table of the built
 #                            pwstore, in a minute, without any proof: for each push; it needs strace
 #     checks/run.sh          that, and the C library, its callers, a run under sanitizers, the installation, the programs of README.md
@@ -31,6 +31,7 @@ trap 'rm -rf "$work"' EXIT
 PWCHECK_DIST=1 ./install.sh "$work/dist" >/dev/null
 ("$work/dist/bin/pwcheck" check --count <examples/passwords.txt || true) | cmp - crates/pwcheck/stdout
 echo "install.sh: what dist/ holds, installed, answers as the stored run"
+python3 checks/blocks.py "$work/dist/bin"
 [ "${1:-}" = quick ] && exit 0
 python3 bindings/library.py "$work/lib"
 python3 checks/exports.py "$work/lib"
