@@ -17,6 +17,7 @@ python3 checks/pages.py
 python3 checks/same_numbers.py changed
 python3 checks/layers.py
 python3 bench/pictures.py check
+python3 bench/run.py --check
 python3 checks/dist.py
 checks/verify_try.sh
 if command -v mandoc >/dev/null 2>&1; then
