@@ -20,7 +20,7 @@ headers() { # the folder of node_api.h
 }
 run_php() { php -d ffi.enable=1 "$1"; }
 run_rb() { ruby "$1"; }
-run_go() { mkdir -p "$work/go" && cp "$1" "$work/go/login.go" && (cd "$work/go" && printf 'module login\ngo 1.18\n' >go.mod && HOME=$work GOFLAGS=-mod=mod go run .); }
+run_go() { mkdir -p "$work/login" && cp "$1" "$work/login/login.go" && (cd "$work/login" && printf 'module login\ngo 1.18\n' >go.mod && HOME=$work GOFLAGS=-mod=mod go run .); }
 run_js() { node "$1" "$work/pwcheck.node"; }
 try() { # KIND SED-COMMAND
   local answer
