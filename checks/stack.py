@@ -15,7 +15,7 @@ eight bytes turned around, as SHA-2 and bcrypt load them. The columns of the tab
     key       places with eight bytes of the hash or key itself, where the call does not hand it out
 
 Each is told as stack/registers/data/freed, and 0 stands for 0/0/0/0. With --most it ends with 1 where a call takes more stack, with --clean where
-anything but `key` is found. --peer asks libcrypt.so.1 too. x86-64 and glibc alone.
+anything but `key` is found; in any case where a call takes memory that has no table to keep in it. --peer asks libcrypt.so.1 too. x86-64 and glibc alone.
 """
 import base64
 import ctypes
@@ -286,6 +286,10 @@ def key_of(text):
     return base64.b64decode(field + "=" * (-len(field) % 4))
 
 
+# The calls that may take memory: for a table, or for what they hand out.
+TAKERS = re.compile(r"scrypt|pwcheck_make|argon2|\$7\$|\$y\$|crypt_gensalt_ra|crypt_ra")
+
+
 class Table:
     def __init__(self, most, clean):
         self.most, self.clean, self.bad = most, clean, 0
@@ -306,6 +310,9 @@ class Table:
             if self.clean and column != "key" and any(counts):
                 self.bad += 1
         if self.most and used > self.most:
+            self.bad += 1
+        if left["taken"] and not TAKERS.search(name):
+            print(f"stack.py: {name} takes {left['taken']} bytes of memory", file=sys.stderr)
             self.bad += 1
         freed = ", ".join(str(len(b)) for b in left["freed"][:4]) + (" .." if len(left["freed"]) > 4 else "")
         print(f"| {name} | {used:,} | " + " | ".join(cells) + f" | {answer if abs(answer) < 100 else '-'} | {freed} |", flush=True)
@@ -370,6 +377,7 @@ def check_rows(table, path):
         stored = bytes_in(made[n + "_crypt_text"])
         table.row(f"pwcheck_{n}_check", lib[f"pwcheck_{n}_check"], front + [address(stored), len(stored) - 1], early, digest)
     hm = hmac_states(PASSWORD)
+    table.row("pwcheck_make", lib.pwcheck_make, front + into, [])
     maker("scrypt_text", [4, 1, 1], scrypt_early(SALT))
     maker("bcrypt_text", [4], [])
     maker("yescrypt_text", [12, 32, 0], yescrypt_early(SALT))
@@ -394,6 +402,8 @@ def check_rows(table, path):
         key = b"" if name.startswith(("sha", "$1$")) else key_of(text.decode())
         args = front + [address(stored), len(text)]
         table.row("pwcheck_check_any of " + name.removesuffix("_text"), lib.pwcheck_check_any, args + [address(limits)], secrets[name], key)
+        if name in ("argon2id_text", "bcrypt_text", "sha512_crypt_text"):
+            table.row("pwcheck_check_login of " + name, lib.pwcheck_check_login, args, secrets[name], key)
         if name in ("sha512_crypt_text", "scrypt_text"):
             table.row("pwcheck_check of " + name, lib.pwcheck_check, args, secrets[name], key)
             table.row("pwcheck_check_limited of " + name, lib.pwcheck_check_limited, args + [0xFFFFFFFF, (1 << 64) - 1], secrets[name], key)
