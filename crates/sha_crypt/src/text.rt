@@ -23,8 +23,8 @@ pub(crate) fn family_id(family: Family) -> &'static str
     }
 }
 
-// Appends what names the rounds, where they are written.
-fn push_rounds<const N: usize>(text: &mut ShortBytes<N>, written: bool, rounds: usize)
+/// Appends what names the rounds, `rounds=N$`, where they are written: at most 28 bytes.
+pub fn push_rounds<const N: usize>(text: &mut ShortBytes<N>, written: bool, rounds: usize)
     requires room { length text.old + 28 ≤ N }
     ensures appended { text.new ≡ text.old ++ rounds_part written rounds }
     ensures len { length text.new ≤ length text.old + 28 }
