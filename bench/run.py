@@ -53,6 +53,7 @@ ROWS = [Row(*row) for row in (
     ("made_any.py", "compare", "", 3, None, "texts of `pwtool make`, asked of libxcrypt, hashlib and libargon2"),
     ("made_c.py", "compare", "gcc", 3, None, "texts of the C library, asked of the same"),
     ("made_texts.py", "compare", "rt", 3, None, "texts of SHA-crypt and scrypt, asked of others"),
+    ("maker_texts.py", "compare", "", 2, None, "texts of 21 makers, asked of `pwtool --from`, and damaged ones by their first fault"),
     ("normal_texts.py", "compare", "", 1, None, "`pwcheck normalize` beside its definition"),
     ("welch.py", "compare", "gcc", 5, None, "the time of coders and comparisons on two classes of bytes"),
     ("wrapped_texts.py", "compare", "", 1, "1 20", "`wrapstream unwrap` beside its definition"),
@@ -69,7 +70,7 @@ ROWS = [Row(*row) for row in (
     ("taint.py", "damage", "valgrind gcc", 5, None, "jumps and addresses of the C library that depend on secret bytes"),
 )]
 # Parts of the scripts above.
-PARTS = {"argon2_peer.py", "building.py", "disk_model.py", "libxcrypt.py", "pwstore_model.py", "pictures.py", "run.py"}
+PARTS = {"argon2_peer.py", "building.py", "disk_model.py", "libxcrypt.py", "makers.py", "pwstore_model.py", "pictures.py", "run.py"}
 KINDS = {"times": "Time and memory", "compare": "Ours beside others and beside the definitions", "damage": "Damage, kills, refused memory, secrets"}
 
 
