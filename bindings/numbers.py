@@ -133,14 +133,14 @@ def digits_in_bounds():
 
 
 # The names of the header for the costs that any_make recommends: the call that makes the text, and its number.
-RECOMMENDED = {"(ShaCrypt Sha256)": "SHA256_CRYPT_ROUNDS", "(ShaCrypt Sha512)": "SHA512_CRYPT_ROUNDS", "Bcrypt": "BCRYPT_COST",
+RECOMMENDED = {"Sha256Crypt": "SHA256_CRYPT_ROUNDS", "Sha512Crypt": "SHA512_CRYPT_ROUNDS", "Bcrypt": "BCRYPT_COST",
                "Pbkdf2Sha256": "PBKDF2_SHA256_ROUNDS", "Scrypt": "SCRYPT_", "Yescrypt": "YESCRYPT_", "Argon2id": "ARGON2ID_"}
 
 
 def recommended():
     """What a new text should cost, number by number."""
     text, found = specs("any_make", "Costs"), {}
-    rows = re.findall(r"^recommended (\(\w+ \w+\)|\w+) = cost\.(.*)$", text, re.M)
+    rows = re.findall(r"^recommended (\w+) = Some \(cost\.(.*)\)$", text, re.M)
     need(sorted(scheme for scheme, _ in rows) == sorted(RECOMMENDED), "other schemes have a recommended cost")
     for scheme, cost in rows:
         name = "RECOMMENDED_" + RECOMMENDED[scheme]
@@ -178,7 +178,7 @@ def lengths():
     need(len(sizes) == 1, f"the salts have {sizes} bytes")
     table["SALT_SIZE"] = int(sizes.pop())
     table["TEXT_MAX"] = longest_text(table)
-    table["BCRYPT_PASSWORD_MAX"] = number(costs, "password_length Bcrypt")
+    table["BCRYPT_PASSWORD_MAX"] = number(costs, r"password_length \(cost\.Bcrypt n\)")
     table["PASSWORD_MAX"] = number(stored, "password_max")
     table["WORD_SIZE"] = longest_word() + 1
     return table
@@ -206,11 +206,10 @@ def header_numbers(header):
 
 
 def limits_agree(header):
-    """The limits stand in the header and in the bindings in the order of the definition of `CostLimits`."""
-    struct = re.search(r"pub struct CostLimits \{(.*?)^\}", read("crates", "any_check", "src", "cost.rt"), re.M | re.S).group(1)
+    """The limits stand in the header and in the bindings in the order of the library's own record."""
+    struct = re.search(r"pub struct Limits \{(.*?)^\}", read("crates", "pwcheck_c", "src", "any.rt"), re.M | re.S).group(1)
     wanted = re.findall(r"^ +pub (\w+):", struct, re.M)
     texts = {
-        "pwcheck_c": re.search(r"pub struct Limits \{(.*?)^\}", read("crates", "pwcheck_c", "src", "any.rt"), re.M | re.S),
         "the header": re.search(r"^struct pwcheck_limits \{(.*?)^\};", header, re.M | re.S),
         "Python": re.search(r"_fields_ = \[(.*?)\]", read("bindings", "python", "pwcheck", "__init__.py"), re.S),
         "Rust": re.search(r"pub struct Limits \{(.*?)^\}", read("bindings", "rust", "src", "lib.rs"), re.M | re.S),
