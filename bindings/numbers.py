@@ -135,14 +135,14 @@ def digits_in_bounds():
 
 
 # The names of the header for the costs that any_make recommends: the call that makes the text, and its number.
-RECOMMENDED = {"(ShaCrypt Sha256)": "SHA256_CRYPT_ROUNDS", "(ShaCrypt Sha512)": "SHA512_CRYPT_ROUNDS", "Bcrypt": "BCRYPT_COST",
+RECOMMENDED = {"Sha256Crypt": "SHA256_CRYPT_ROUNDS", "Sha512Crypt": "SHA512_CRYPT_ROUNDS", "Bcrypt": "BCRYPT_COST",
                "Pbkdf2Sha256": "PBKDF2_SHA256_ROUNDS", "Scrypt": "SCRYPT_", "Yescrypt": "YESCRYPT_", "Argon2id": "ARGON2ID_"}
 
 
 def recommended():
     """What a new text should cost, number by number."""
     text, found = specs("any_make", "Costs"), {}
-    rows = re.findall(r"^recommended (\(\w+ \w+\)|\w+) = cost\.(.*)$", text, re.M)
+    rows = re.findall(r"^recommended (\w+) = Some \(cost\.(.*)\)$", text, re.M)
     need(sorted(scheme for scheme, _ in rows) == sorted(RECOMMENDED), "other schemes have a recommended cost")
     for scheme, cost in rows:
         name = "RECOMMENDED_" + RECOMMENDED[scheme]
@@ -180,7 +180,7 @@ def lengths():
     need(len(sizes) == 1, f"the salts have {sizes} bytes")
     table["SALT_SIZE"] = int(sizes.pop())
     table["TEXT_MAX"] = longest_text(table)
-    table["BCRYPT_PASSWORD_MAX"] = number(costs, "password_length Bcrypt")
+    table["BCRYPT_PASSWORD_MAX"] = number(costs, r"password_length \(cost\.Bcrypt n\)")
     table["PASSWORD_MAX"] = number(stored, "password_max")
     table["WORD_SIZE"] = longest_word() + 1
     return table

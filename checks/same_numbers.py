@@ -16,6 +16,21 @@ from page_texts import TOP, end, page_texts
 CLI = "crates/pwtool_cli/src/cli.rt"
 BOUNDS = "crates/pwtool_forms/src/bounds.rt"
 
+# Where each number of an option stands in a record of costs: the family, and its name there.
+NUMBERS = {
+    "sha-rounds": ("sha_crypt", "rounds"), "bcrypt-cost": ("bcrypt", "cost"), "yescrypt-ln": ("yescrypt", "ln"), "yescrypt-r": ("yescrypt", "r"),
+    "yescrypt-t": ("yescrypt", "t"), "pbkdf2-rounds": ("pbkdf2_sha256", "rounds"), "pbkdf2-sha512-rounds": ("pbkdf2_sha512", "rounds"),
+    "scrypt-ln": ("scrypt", "ln"), "scrypt-r": ("scrypt", "r"), "scrypt-p": ("scrypt", "p"), "argon2-memory": ("argon2", "m"),
+    "argon2-passes": ("argon2", "t"), "argon2-lanes": ("argon2", "p"),
+}
+
+
+def in_record(record, name):
+    """The pattern of a number in a record of costs."""
+    family, number_name = NUMBERS[name]
+    return rf"const {record}: .*?\b{family}: Costs \{{[^}}]*?\b{number_name}: ([\d_]+)"
+
+
 # A name, the file and the pattern of the source (or none), the patterns of the pages, and how often a page states it at least.
 FACTS = [
     ("the longest line", ("crates/line_io/src/buffer.rt", r"LINE_MAX: usize = ([\d_]+)"),
@@ -38,8 +53,8 @@ FACTS = [
      [r"rounds are (?:outside )?1,000 to ([\d,]+)", r"rounds of SHA-crypt[^|,]*[|,] ?1,?000 to ([\d,]+)"], 3),
     ("the rounds of SHA-crypt where none are named", ("crates/sha_crypt/src/params.rt", r"ROUNDS_DEFAULT: usize = ([\d_]+)"),
      [r"the rounds \(([\d,]+) where none are named\)", r"SHA-crypt \(([\d,]+) where none are named\)"], 2),
-    ("scrypt's p", (BOUNDS, r"\bscrypt_p: ([\d_]+)"), [r"\b[pP] (?:is )?at most ([\d,]+), `?[rR]"], 3),
-    ("scrypt's r p", (BOUNDS, r"\bscrypt_r: ([\d_]+)"), [r"[rR] (?:\* )?[pP]`? at most ([\d,]+)"], 3),
+    ("scrypt's p", (BOUNDS, in_record("SCHEMES_OWN", "scrypt-p")), [r"\b[pP] (?:is )?at most ([\d,]+), `?[rR]"], 3),
+    ("scrypt's r p", (BOUNDS, in_record("SCHEMES_OWN", "scrypt-r")), [r"[rR] (?:\* )?[pP]`? at most ([\d,]+)"], 3),
     ("the logarithm of scrypt's table", None, [r"128 (?:\* )?[rR] (?:\* )?2\^(?:ln|L)`? (?:is )?at most 2\^(\d+)"], 4),
     ("scrypt's greatest ln", None, [r"[sS]o (?:ln|L) is at most (\d+)"], 4),
     ("scrypt's greatest ln with r = 8", None,
@@ -60,11 +75,11 @@ FACTS = [
      [r"(\d+) \|? ?a file can't be opened", r"It (\d+) a file can't"], 2),
 ]
 for name in ("sha-rounds", "bcrypt-cost", "yescrypt-ln", "scrypt-ln", "pbkdf2-rounds", "pbkdf2-sha512-rounds", "argon2-memory"):
-    FACTS.append((f"--least-{name}", (BOUNDS, r"const LEAST: .*?\b" + name.replace("-", "_") + r": ([\d_]+)"),
+    FACTS.append((f"--least-{name}", (BOUNDS, in_record("LEAST", name)),
                   [r"\| `--least-" + name + r"` N \|[^|]*\| ([\d,]+) \|", r"-least-" + name + r" \(([\d,]+)\)"], 2))
 for name in ("sha-rounds", "bcrypt-cost", "yescrypt-ln", "yescrypt-r", "yescrypt-t", "pbkdf2-rounds", "scrypt-ln", "scrypt-r", "scrypt-p",
              "argon2-memory", "argon2-passes", "argon2-lanes"):
-    FACTS.append((f"--max-{name}", (BOUNDS, r"const SCHEMES_OWN: .*?\b" + name.replace("-", "_") + r": ([\d_]+)"),
+    FACTS.append((f"--max-{name}", (BOUNDS, in_record("SCHEMES_OWN", name)),
                   [r"-max-" + name + r" = N [^|.]*?,? \d+ to ([\d,]+)"], 1))
 
 

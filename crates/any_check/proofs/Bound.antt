@@ -9,7 +9,7 @@ use Rattle.stored_check.proofs.Causes.{fits}
 use Rattle.stored_check.specs.declared.error.StoredError.TheVariants.{PasswordTooLong}
 use Rattle.any_check.specs.Cost.{is_costly, verdict_within, within_may_lack}
 use Rattle.any_check.specs.Table.{IsAnyVerdict, any_may_lack, any_verdict}
-use Rattle.any_check.specs.declared.cost.CostLimits.{CostLimits}
+use Rattle.any_check.specs.declared.numbers.SchemeCosts.{SchemeCosts}
 use Rattle.any_check.specs.declared.error.AnyError.{AnyError}
 use Rattle.any_check.specs.declared.error.AnyError.TheVariants.{Stored, TooCostly}
 
@@ -25,7 +25,7 @@ mcf_of_fault stored e bad = rw bad refl
 
 -- ---- the verdict
 
-module _ (accepted : PasswordHash → List ℕ → ℕ → Bool) (limits : CostLimits) (stored : List ℕ) where
+module _ (accepted : PasswordHash → List ℕ → ℕ → Bool) (limits : SchemeCosts) (stored : List ℕ) where
   module _ (tag : List ℕ → PasswordHash → List ℕ → ℕ → List ℕ) (password : List ℕ) (lack : Bool) where
     abbrev pub Within : Result Bool AnyError → Type 0
     Within r = IsAnyVerdict (verdict_within accepted tag limits password stored) lack r

@@ -24,7 +24,7 @@ use Rattle.yescrypt_plain.specs.declared.error.CheckError.TheVariants as of_cryp
 use Rattle.yescrypt_plain.specs.declared.error.TextFault.{TextFault}
 use Rattle.any_check.specs.Cost.{is_costly, verdict_within}
 use Rattle.any_check.specs.Table.{any_verdict, md5_answer, md5_by, of_bcrypt_check, of_md5, of_scrypt_check, of_stored, of_yescrypt_check, row, scheme_answer, text_scheme}
-use Rattle.any_check.specs.declared.cost.CostLimits.{CostLimits}
+use Rattle.any_check.specs.declared.numbers.SchemeCosts.{SchemeCosts}
 use Rattle.any_check.specs.declared.error.AnyError.{AnyError}
 use Rattle.any_check.specs.declared.error.AnyError.TheVariants.{NoScheme, Stored}
 use Rattle.scheme_list.specs.declared.schemes.Scheme.{Scheme}
@@ -152,7 +152,7 @@ module _ (accepted : PasswordHash → List ℕ → ℕ → Bool) (tag : List ℕ
   within_by true is = sym (any_long is)
   within_by false is = refl
 
-  pub within : (limits : CostLimits) → is_costly accepted limits stored ≡ false
+  pub within : (limits : SchemeCosts) → is_costly accepted limits stored ≡ false
       → verdict_within accepted tag limits password stored ≡ any_verdict accepted tag password stored
   unfolding verdict_within
   within limits cheap = rw cheap (within_by (nat_lt 4096 (length password)) refl)

@@ -9,6 +9,7 @@ use Rattle.scheme_list.specs.declared.schemes.Scheme.{Scheme}
 use Rattle.scheme_list.specs.declared.schemes.Scheme.TheVariants.{Argon2d, Argon2i, Argon2id, Bcrypt, Md5Crypt, Pbkdf2Sha256}
 use Rattle.scheme_list.specs.declared.schemes.Scheme.TheVariants.{Pbkdf2Sha512, Scrypt, ScryptCrypt, Sha256Crypt, Sha512Crypt, Yescrypt}
 use Rattle.phc.specs.declared.password_hash.PasswordHash.{PasswordHash}
+use Rattle.sha_crypt.specs.Records.{family_id}
 use Rattle.sha_crypt.specs.declared.errors.Family.{Family}
 use Rattle.sha_crypt.specs.declared.errors.Family.TheVariants.{Sha256, Sha512}
 use Rattle.stored_check.specs.Verdict.{named_family}
@@ -33,6 +34,12 @@ family_if_sha stored Sha256 h =
 family_if_sha stored Sha512 h =
     ap named_family (same_true (identifier stored) (codes "6")
     (first_of_one (same (identifier stored) (codes "6")) (named stored Sha512Crypt h)))
+
+-- and is read as one of the family
+pub sha_same : (stored : List ℕ) (family : Family) → text_scheme stored ≡ Some (sha_scheme family)
+    → same (identifier stored) (family_id family) ≡ true
+sha_same stored Sha256 h = first_of_one (same (identifier stored) (codes "5")) (named stored Sha256Crypt h)
+sha_same stored Sha512 h = first_of_one (same (identifier stored) (codes "6")) (named stored Sha512Crypt h)
 
 by_tests : (id : List ℕ) (five six : Bool) (family : Family) → same id (codes "5") ≡ five → same id (codes "6") ≡ six
     → (if five then Some Sha256 else (if six then Some Sha512 else None)) ≡ Some family

@@ -4,5 +4,5 @@ pub mod Causes
 mod Taken
 pub mod Known
 mod Bound
-mod Costly
+mod Valid
 mod RecordNames

@@ -26,6 +26,8 @@ use Rattle.bcrypt_plain.specs.Check.{bcrypt_answer}
 use Rattle.bcrypt_plain.specs.declared.error.BcryptError.{BcryptError}
 use Rattle.yescrypt_plain.specs.Check.{IsAnswer, scrypt_answer, yescrypt_answer}
 use Rattle.yescrypt_plain.specs.declared.error.CheckError.{CheckError}
+use Rattle.any_check.specs.Kinds.{md5_by_magic, md5_kind}
+use Rattle.any_check.specs.declared.kinds.TextKind.TheVariants.{Invalid}
 use Rattle.any_check.specs.Table.{IsAnyVerdict, any_may_lack, any_verdict, identifier, is_record, md5_answer, md5_by, of_bcrypt_check}
 use Rattle.any_check.specs.Table.{of_scrypt_check, of_stored, of_yescrypt_check, row, row_may_lack, sha_scheme, text_scheme}
 use Rattle.any_check.specs.declared.error.AnyError.{AnyError}
@@ -44,6 +46,16 @@ module _ (password stored : List ℕ) where
       → md5_answer password (mcf stored) ≡ md5_by o password (parts stored)
   unfolding mcf
   md5_read o valid is = rw valid (ap (λ (m : Option Magic). md5_by m password (parts stored)) is)
+
+module _ (stored : List ℕ) where
+  pub md5_bad_kind : (e : mcf_error.Error) → fault stored ≡ Some e → md5_kind (mcf stored) ≡ Invalid
+  unfolding mcf
+  md5_bad_kind e bad = rw bad refl
+
+  pub md5_read_kind : (o : Option Magic) → fault stored ≡ None → magic_of (parts stored).id ≡ o
+      → md5_kind (mcf stored) ≡ md5_by_magic o (parts stored).fields
+  unfolding mcf
+  md5_read_kind o valid is = rw valid (ap (λ (m : Option Magic). md5_by_magic m (parts stored).fields) is)
 
 -- ---- memory is wanting for no text of SHA-crypt
 

@@ -1,12 +1,15 @@
 -- What a stored text is, and what it asks for.
-use Rattle.std.specs.Prelude.{ℕ, Bool, List, length, Option, Some, None, Result, Ok, Err, is_ok, unwrap_or, if◌then◌else◌, codes}
-use Rattle.mcf.specs.Grammar.{mcf}
+use Rattle.std.specs.Prelude.{ℕ, Bool, true, false, List, length, Option, Some, None, Result, Ok, Err, is_ok, unwrap_or, if◌then◌else◌, codes}
+use Rattle.mcf.specs.Grammar.{Parts, mcf}
+use Rattle.mcf.specs.declared.error.Error as mcf_error
+use Rattle.md5_plain.specs.Verdict.{magic_of, md5_fields}
+use Rattle.md5_plain.specs.declared.magic.Magic.{Magic}
 use Rattle.phc.specs.Record.{phc_text}
 use Rattle.phc.specs.declared.error.Error as phc_error
 use Rattle.phc.specs.declared.password_hash.PasswordHash.{PasswordHash}
 use Rattle.scheme_list.specs.Schemes.{row_of}
-use Rattle.scheme_list.specs.declared.schemes.Numbers.{Numbers}
-use Rattle.scheme_list.specs.declared.schemes.Numbers.TheVariants.{LnRP, MTP, Rounds}
+use Rattle.scheme_list.specs.declared.schemes.CostFamily.{CostFamily}
+use Rattle.scheme_list.specs.declared.schemes.CostFamily.TheVariants as of
 use Rattle.scheme_list.specs.declared.schemes.Scheme.{Scheme}
 use Rattle.scheme_list.specs.declared.schemes.Scheme.TheVariants.{Argon2d, Argon2i, Argon2id, Bcrypt, Md5Crypt, Pbkdf2Sha256}
 use Rattle.scheme_list.specs.declared.schemes.Scheme.TheVariants.{Pbkdf2Sha512, Scrypt, ScryptCrypt, Sha256Crypt, Sha512Crypt, Yescrypt}
@@ -22,25 +25,42 @@ use Rattle.yescrypt_plain.specs.Text.{scrypt_costs, yescrypt_costs}
 use Rattle.yescrypt_plain.specs.declared.error.TextFault.{TextFault}
 use Rattle.yescrypt_plain.specs.declared.params.ScryptParams.{ScryptParams}
 use Rattle.yescrypt_plain.specs.declared.params.YescryptParams.{YescryptParams}
+use Rattle.any_check.specs.Numbers.{no_costs, of_cost, of_ln_r_p, of_ln_r_t, of_m_t_p, of_rounds}
 use Rattle.any_check.specs.Table.{sha_scheme, text_scheme}
-use Rattle.any_check.specs.declared.kinds.TextCosts.{TextCosts}
 use Rattle.any_check.specs.declared.kinds.TextKind.{TextKind}
-use Rattle.any_check.specs.declared.kinds.TextKind.TheVariants.{NoScheme, Invalid, Costs}
+use Rattle.any_check.specs.declared.kinds.TextKind.TheVariants.{NoScheme, Invalid, Valid}
+use Rattle.any_check.specs.declared.numbers.Costs.{Costs}
 
--- three numbers of a scheme
-abbrev pub three : Scheme → ℕ → ℕ → ℕ → TextCosts
-three scheme first second third = record { scheme = scheme; first = first; second = second; third = third }
+-- a text of a scheme that asks for these numbers
+abbrev pub asks : Scheme → Costs → TextKind
+asks scheme costs = Valid (record { scheme = scheme; costs = costs })
 
--- one, and two that it hasn't
-abbrev pub one : Scheme → ℕ → TextCosts
-one scheme first = three scheme first 0 0
+-- the text has no fault
+abbrev pub is_valid : TextKind → Bool
+is_valid NoScheme = false
+is_valid Invalid = false
+is_valid (Valid text) = true
 
 -- ---- texts of crypt(3)
+
+-- md5-crypt: no number; by the fields behind the identifier
+abbrev pub md5_fields_kind : List (List ℕ) → TextKind
+md5_fields_kind fields = if is_ok (md5_fields fields) then asks Md5Crypt no_costs else Invalid
+
+-- by the magic, which the identifiers of this scheme have
+abbrev pub md5_by_magic : Option Magic → List (List ℕ) → TextKind
+md5_by_magic None fields = Invalid
+md5_by_magic (Some magic) fields = md5_fields_kind fields
+
+-- the same of a text, which is one in the modular crypt format
+abbrev pub md5_kind : Result Parts mcf_error.Error → TextKind
+md5_kind (Err e) = Invalid
+md5_kind (Ok p) = md5_by_magic (magic_of p.id) p.fields
 
 -- SHA-crypt: the rounds, 5,000 where none are named
 abbrev pub sha_kind : Family → Result ShaFields CheckError → TextKind
 sha_kind family (Err e) = Invalid
-sha_kind family (Ok f) = Costs (one (sha_scheme family) f.rounds)
+sha_kind family (Ok f) = asks (sha_scheme family) (of_rounds f.rounds)
 
 -- the same of a text, which is one in the modular crypt format
 abbrev pub sha_text_kind : Family → List ℕ → TextKind
@@ -49,17 +69,17 @@ sha_text_kind family stored = if is_ok (mcf stored) then sha_kind family (record
 -- bcrypt: the cost
 abbrev pub bcrypt_kind : Result ℕ BcryptFault → TextKind
 bcrypt_kind (Err e) = Invalid
-bcrypt_kind (Ok cost) = Costs (one Bcrypt cost)
+bcrypt_kind (Ok cost) = asks Bcrypt (of_cost cost)
 
 -- yescrypt: the binary logarithm of N, r and t
 abbrev pub yescrypt_kind : Result YescryptParams TextFault → TextKind
 yescrypt_kind (Err e) = Invalid
-yescrypt_kind (Ok p) = Costs (three Yescrypt p.ln p.r p.t)
+yescrypt_kind (Ok p) = asks Yescrypt (of_ln_r_t p.ln p.r p.t)
 
 -- scrypt in crypt's own form: the binary logarithm of N, r and p
 abbrev pub scrypt_kind : Result ScryptParams TextFault → TextKind
 scrypt_kind (Err e) = Invalid
-scrypt_kind (Ok p) = Costs (three ScryptCrypt p.ln p.r p.p)
+scrypt_kind (Ok p) = asks ScryptCrypt (of_ln_r_p p.ln p.r p.p)
 
 -- ---- records in the PHC string format
 
@@ -68,20 +88,21 @@ abbrev pub named : PasswordHash → List ℕ → ℕ
 named parsed name = unwrap_or (number parsed name) 0
 
 -- by the numbers of its scheme: scrypt's (RFC 7914), PBKDF2's (RFC 8018), Argon2's (RFC 9106)
-abbrev pub record_costs : Scheme → Numbers → PasswordHash → TextCosts
-record_costs scheme LnRP parsed =
-    three scheme (named parsed (codes "ln")) (named parsed (codes "r")) (named parsed (codes "p"))
-record_costs scheme Rounds parsed = one scheme (named parsed (codes "i"))
-record_costs scheme MTP parsed =
-    three scheme (named parsed (codes "m")) (named parsed (codes "t")) (named parsed (codes "p"))
-record_costs scheme numbers parsed = one scheme 0
+abbrev pub record_costs : CostFamily → PasswordHash → Costs
+record_costs of.Scrypt parsed =
+    of_ln_r_p (named parsed (codes "ln")) (named parsed (codes "r")) (named parsed (codes "p"))
+record_costs of.Pbkdf2Sha256 parsed = of_rounds (named parsed (codes "i"))
+record_costs of.Pbkdf2Sha512 parsed = of_rounds (named parsed (codes "i"))
+record_costs of.Argon2 parsed =
+    of_m_t_p (named parsed (codes "m")) (named parsed (codes "t")) (named parsed (codes "p"))
+record_costs family parsed = no_costs
 
 -- By which records are taken.
 module _ (accepted : PasswordHash → List ℕ → ℕ → Bool) where
   -- a record that is taken with its salt, for its hash
   abbrev pub salted_kind : Scheme → PasswordHash → Option (List ℕ) → Option (List ℕ) → TextKind
   salted_kind scheme parsed (Some salt) (Some hash) =
-      if accepted parsed salt (length hash) then Costs (record_costs scheme (row_of scheme).numbers parsed) else Invalid
+      if accepted parsed salt (length hash) then asks scheme (record_costs (row_of scheme).family parsed) else Invalid
   salted_kind scheme parsed salt hash = Invalid
 
   -- the record of a PHC text
@@ -93,10 +114,10 @@ module _ (accepted : PasswordHash → List ℕ → ℕ → Bool) where
   abbrev pub record_kind : Scheme → List ℕ → TextKind
   record_kind scheme stored = if is_ok (mcf stored) then phc_kind scheme (phc_text stored) else Invalid
 
-  -- ---- the table; a text of md5-crypt, whose cost is the same for each, is read no further than its identifier
+  -- ---- the table
 
   abbrev pub row_kind : Scheme → List ℕ → TextKind
-  row_kind Md5Crypt stored = Costs (one Md5Crypt 0)
+  row_kind Md5Crypt stored = md5_kind (mcf stored)
   row_kind Sha256Crypt stored = sha_text_kind Sha256 stored
   row_kind Sha512Crypt stored = sha_text_kind Sha512 stored
   row_kind Bcrypt stored = bcrypt_kind (text_cost stored)

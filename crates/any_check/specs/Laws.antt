@@ -1,5 +1,5 @@
 -- Laws over the definitions.
-use Rattle.std.specs.Prelude.{◌≡◌, ◌≢◌, ◌<◌, ◌≤◌, ℕ, Bool, false, true, List, length, None, Ok, Err, is_ok}
+use Rattle.std.specs.Prelude.{◌≡◌, ◌≢◌, ◌↔◌, ◌<◌, ◌≤◌, ℕ, Bool, false, true, List, length, None, Ok, Err, is_ok}
 use Rattle.phc.specs.declared.password_hash.PasswordHash.{PasswordHash}
 use Rattle.scheme_list.specs.Schemes.{scheme_named}
 use Rattle.phc_kdf.specs.Either.{Accepted, Tag}
@@ -8,9 +8,10 @@ use Rattle.stored_check.specs.Verdict.{verdict}
 use Rattle.stored_check.specs.declared.error.StoredError.TheVariants.{OutOfMemory, PasswordTooLong}
 use Rattle.bcrypt_plain.specs.Check.{has_zero}
 use Rattle.any_check.specs.Cost.{is_costly, verdict_within}
+use Rattle.any_check.specs.Kinds.{is_valid, text_kind}
 use Rattle.any_check.specs.Records as here
 use Rattle.any_check.specs.Table.{any_verdict, is_record, text_scheme}
-use Rattle.any_check.specs.declared.cost.CostLimits.{CostLimits}
+use Rattle.any_check.specs.declared.numbers.SchemeCosts.{SchemeCosts}
 use Rattle.any_check.specs.declared.error.AnyError.TheVariants.{NoScheme, Stored}
 
 -- it takes no record but those whose scheme the table has
@@ -45,7 +46,7 @@ NoWantOfMemory =
 -- below the bound, the verdict is that without one
 abbrev pub WithinNoBound : Type 0
 WithinNoBound =
-    (accepted : Accepted) (tag : Tag) (limits : CostLimits) (password stored : List ℕ)
+    (accepted : Accepted) (tag : Tag) (limits : SchemeCosts) (password stored : List ℕ)
     → is_costly accepted limits stored ≡ false
     → verdict_within accepted tag limits password stored ≡ any_verdict accepted tag password stored
 
@@ -53,6 +54,22 @@ WithinNoBound =
 -- `too-costly`
 abbrev pub CostlyIsValid : Type 0
 CostlyIsValid =
-    (accepted : Accepted) (tag : Tag) (limits : CostLimits) (password stored : List ℕ)
+    (accepted : Accepted) (tag : Tag) (limits : SchemeCosts) (password stored : List ℕ)
     → length password ≤ password_max → has_zero password ≡ false → is_costly accepted limits stored ≡ true
     → is_ok (any_verdict accepted tag password stored) ≡ true
+
+-- the kind of a text tells whether it has a verdict: on each password of at most 4,096 bytes and without a zero byte, exactly
+-- where the text has no fault
+abbrev pub ValidIsVerdict : Type 0
+ValidIsVerdict =
+    (accepted : Accepted) (tag : Tag) (password stored : List ℕ) → length password ≤ password_max
+    → has_zero password ≡ false
+    → is_ok (any_verdict accepted tag password stored) ≡ is_valid (text_kind accepted stored)
+
+-- so the text has no fault exactly where it has a verdict on some password of at most 4,096 bytes
+abbrev pub ValidIsVerdictOnSome : Type 0
+ValidIsVerdictOnSome =
+    (accepted : Accepted) (tag : Tag) (stored : List ℕ)
+    → (is_valid (text_kind accepted stored) ≡ true)
+    ↔ ((password : List ℕ) × (length password ≤ password_max)
+    × (is_ok (any_verdict accepted tag password stored) ≡ true))

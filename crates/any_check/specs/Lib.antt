@@ -1,4 +1,5 @@
 pub mod Table
+pub mod Numbers
 pub mod Kinds
 pub mod Cost
 pub mod Words

@@ -7,7 +7,7 @@ ghost use Rattle.any_check.specs.Table.{IsAnyVerdict, any_may_lack, any_verdict,
 ghost use Rattle.any_check.specs.Cost.{verdict_within, within_may_lack};
 
 use crate::cost::is_costly;
-use crate::{AnyError, CostLimits, Scheme, scheme_of_text};
+use crate::{AnyError, Scheme, SchemeCosts, scheme_of_text};
 use base64ct::Counts;
 use bcrypt_plain::{BcryptError, bcrypt_check};
 use mcf::PasswordHashRef;
@@ -171,7 +171,7 @@ pub fn check_any_within<K: PhcKdf>(
     alloc: Global,
     kdf: &K,
     kept: &CryptKept,
-    limits: &CostLimits,
+    limits: &SchemeCosts,
     password: &str,
     stored: &str,
 ) -> Result<bool, AnyError>

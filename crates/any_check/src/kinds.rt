@@ -3,32 +3,23 @@
 ghost use Rattle.std.specs.Prelude.{◌≡◌, is_ok, unwrap_or};
 ghost use Rattle.bcrypt_plain.specs.Text.{text_cost};
 ghost use Rattle.mcf.specs.Grammar.{mcf};
+ghost use Rattle.mcf.specs.Views.{fields_left};
 ghost use Rattle.phc.specs.Record.{phc_text};
 ghost use Rattle.scheme_list.specs.Schemes.{row_of};
 ghost use Rattle.phc_kdf.specs.Numbers.{number};
 ghost use Rattle.sha_crypt.specs.Records.{record_of};
 ghost use Rattle.yescrypt_plain.specs.Text.{scrypt_costs, yescrypt_costs};
-ghost use Rattle.any_check.specs.Kinds.{bcrypt_kind, one, phc_kind, record_costs, record_kind, row_kind, salted_kind, scrypt_kind, sha_kind, sha_text_kind, text_kind, three, yescrypt_kind};
-ghost use Rattle.any_check.specs.Table.{sha_scheme};
+ghost use Rattle.any_check.specs.Kinds.{asks, bcrypt_kind, md5_fields_kind, md5_kind, phc_kind, record_costs, record_kind, row_kind, salted_kind, scrypt_kind, sha_kind, sha_text_kind, text_kind, yescrypt_kind};
 
-use crate::scheme_of_text;
+use crate::{Costs, NO_COSTS, TextCosts, scheme_of_text, sha_scheme};
 use bcrypt_plain::text_cost;
-use mcf::PasswordHashRef;
+use mcf::{Fields, PasswordHashRef};
+use md5_plain::{are_md5_fields, magic_of};
 use phc::PasswordHash;
-use scheme_list::{Numbers, Scheme};
+use scheme_list::{CostFamily, Scheme};
 use sha_crypt::{Family, ShaRecord};
 use stored_check::PhcKdf;
 use yescrypt_plain::{scrypt_costs, yescrypt_costs};
-
-/// A scheme and up to three numbers, 0 for each that it hasn't: the rounds of SHA-crypt and PBKDF2; the cost of bcrypt;
-/// `ln`, `r` and `t` of yescrypt; `ln`, `r` and `p` of scrypt; `m`, `t` and `p` of Argon2.
-#[derive(Clone, Copy, Debug, PartialEq, Eq)]
-pub struct TextCosts {
-    pub scheme: Scheme,
-    pub first: u64,
-    pub second: u64,
-    pub third: u64,
-}
 
 /// What a stored text is.
 #[derive(Clone, Copy, Debug, PartialEq, Eq)]
@@ -37,27 +28,15 @@ pub enum TextKind {
     NoScheme,
     /// It has a fault.
     Invalid,
-    /// It asks for these costs. A text of md5-crypt, whose cost is the same for each, is read no further than its identifier.
-    Costs(TextCosts),
+    /// It has no fault, and asks for these costs.
+    Valid(TextCosts),
 }
 
-/// Three numbers of a scheme.
-pub(crate) fn three(scheme: Scheme, first: u64, second: u64, third: u64) -> TextCosts
-    ensures { result ≡ three scheme first second third }
+// A text of a scheme that asks for these numbers.
+fn asks(scheme: Scheme, costs: Costs) -> TextKind
+    ensures { result ≡ asks scheme costs }
 {
-    TextCosts {
-        scheme,
-        first,
-        second,
-        third,
-    }
-}
-
-/// One number of a scheme.
-pub(crate) fn one(scheme: Scheme, first: u64) -> TextCosts
-    ensures { result ≡ one scheme first }
-{
-    three(scheme, first, 0, 0)
+    TextKind::Valid(TextCosts { scheme, costs })
 }
 
 // A number of a record; 0 where it has none of this name.
@@ -71,24 +50,29 @@ fn number(parsed: &PasswordHash, name: &str) -> u64
 }
 
 // The costs of a record, by the numbers of its scheme.
-fn record_costs(scheme: Scheme, numbers: Numbers, parsed: &PasswordHash) -> TextCosts
-    ensures { result ≡ record_costs scheme numbers parsed.now }
+fn record_costs(family: CostFamily, parsed: &PasswordHash) -> Costs
+    ensures { result ≡ record_costs family parsed.now }
 {
-    match numbers {
-        Numbers::LnRP => three(
-            scheme,
-            number(parsed, "ln"),
-            number(parsed, "r"),
-            number(parsed, "p"),
-        ),
-        Numbers::Rounds => one(scheme, number(parsed, "i")),
-        Numbers::MTP => three(
-            scheme,
-            number(parsed, "m"),
-            number(parsed, "t"),
-            number(parsed, "p"),
-        ),
-        Numbers::Nothing | Numbers::Cost | Numbers::LnRT => one(scheme, 0),
+    match family {
+        CostFamily::Scrypt => {
+            Costs::of_ln_r_p(
+                number(parsed, "ln"),
+                number(parsed, "r"),
+                number(parsed, "p"),
+            )
+        }
+        CostFamily::Pbkdf2Sha256 | CostFamily::Pbkdf2Sha512 => Costs::of_rounds(number(
+            parsed, "i",
+        )),
+        CostFamily::Argon2 => {
+            Costs::of_m_t_p(
+                number(parsed, "m"),
+                number(parsed, "t"),
+                number(parsed, "p"),
+            )
+        }
+        CostFamily::Md5Crypt | CostFamily::ShaCrypt | CostFamily::Bcrypt | CostFamily::Yescrypt =>
+            NO_COSTS,
     }
 }
 
@@ -103,7 +87,7 @@ fn salted_kind<K: PhcKdf>(kdf: &K, scheme: Scheme, parsed: &PasswordHash) -> Tex
         return TextKind::Invalid;
     };
     if kdf.accepts(parsed, salt.as_bytes(), hash.len()) {
-        TextKind::Costs(record_costs(scheme, scheme.numbers(), parsed))
+        asks(scheme, record_costs(scheme.family(), parsed))
     } else {
         TextKind::Invalid
     }
@@ -138,20 +122,11 @@ fn record_kind<K: PhcKdf>(kdf: &K, scheme: Scheme, stored: &str) -> TextKind
     }
 }
 
-fn sha_scheme(family: Family) -> Scheme
-    ensures { result ≡ sha_scheme family }
-{
-    match family {
-        Family::Sha256 => Scheme::Sha256Crypt,
-        Family::Sha512 => Scheme::Sha512Crypt,
-    }
-}
-
 fn sha_kind(family: Family, stored: &str) -> TextKind
     ensures { result ≡ sha_kind family (record_of family stored.now) }
 {
     match ShaRecord::new(stored, family) {
-        Ok(record) => TextKind::Costs(one(sha_scheme(family), record.rounds() as u64)),
+        Ok(record) => asks(sha_scheme(family), Costs::of_rounds(record.rounds() as u64)),
         Err(_) => TextKind::Invalid,
     }
 }
@@ -166,11 +141,33 @@ fn sha_text_kind(family: Family, stored: &str) -> TextKind
     }
 }
 
+fn md5_fields_kind(fields: Fields<'_>) -> TextKind
+    ensures { result ≡ md5_fields_kind (fields_left fields.entry) }
+{
+    if are_md5_fields(fields) {
+        asks(Scheme::Md5Crypt, NO_COSTS)
+    } else {
+        TextKind::Invalid
+    }
+}
+
+fn md5_kind(stored: &str) -> TextKind
+    ensures { result ≡ md5_kind (mcf stored.now) }
+{
+    match PasswordHashRef::new(stored) {
+        Err(_) => TextKind::Invalid,
+        Ok(text) => match magic_of(text.id()) {
+            Some(_) => md5_fields_kind(text.fields()),
+            None => TextKind::Invalid,
+        },
+    }
+}
+
 fn bcrypt_kind(stored: &str) -> TextKind
     ensures { result ≡ bcrypt_kind (text_cost stored.now) }
 {
     match text_cost(stored) {
-        Ok(cost) => TextKind::Costs(one(Scheme::Bcrypt, cost as u64)),
+        Ok(cost) => asks(Scheme::Bcrypt, Costs::of_cost(cost as u64)),
         Err(_) => TextKind::Invalid,
     }
 }
@@ -179,12 +176,10 @@ fn yescrypt_kind(stored: &str) -> TextKind
     ensures { result ≡ yescrypt_kind (yescrypt_costs stored.now) }
 {
     match yescrypt_costs(stored) {
-        Ok(costs) => TextKind::Costs(three(
+        Ok(costs) => asks(
             Scheme::Yescrypt,
-            costs.ln as u64,
-            costs.r as u64,
-            costs.t as u64,
-        )),
+            Costs::of_ln_r_t(costs.ln as u64, costs.r as u64, costs.t as u64),
+        ),
         Err(_) => TextKind::Invalid,
     }
 }
@@ -193,12 +188,10 @@ fn scrypt_kind(stored: &str) -> TextKind
     ensures { result ≡ scrypt_kind (scrypt_costs stored.now) }
 {
     match scrypt_costs(stored) {
-        Ok(costs) => TextKind::Costs(three(
+        Ok(costs) => asks(
             Scheme::ScryptCrypt,
-            costs.ln as u64,
-            costs.r as u64,
-            costs.p as u64,
-        )),
+            Costs::of_ln_r_p(costs.ln as u64, costs.r as u64, costs.p as u64),
+        ),
         Err(_) => TextKind::Invalid,
     }
 }
@@ -208,7 +201,7 @@ fn row_kind<K: PhcKdf>(kdf: &K, scheme: Scheme, stored: &str) -> TextKind
     ensures { result ≡ row_kind (K.accepted kdf.now) scheme stored.now }
 {
     match scheme {
-        Scheme::Md5Crypt => TextKind::Costs(one(Scheme::Md5Crypt, 0)),
+        Scheme::Md5Crypt => md5_kind(stored),
         Scheme::Sha256Crypt => sha_text_kind(Family::Sha256, stored),
         Scheme::Sha512Crypt => sha_text_kind(Family::Sha512, stored),
         Scheme::Bcrypt => bcrypt_kind(stored),

@@ -1,6 +1,6 @@
 //! Laws over the definitions.
 
-ghost use Rattle.any_check.specs.Laws.{CostlyIsValid, FirstCauses, NoWantOfMemory, OfCheckStored, TakesRecordsHere, WithinNoBound};
+ghost use Rattle.any_check.specs.Laws.{CostlyIsValid, FirstCauses, NoWantOfMemory, OfCheckStored, TakesRecordsHere, ValidIsVerdict, ValidIsVerdictOnSome, WithinNoBound};
 
 /// Where `check_stored` has a verdict, `check_any` has the same, if the derivation takes no record but those of the table;
 /// and that of [`record_kdf`](crate::record_kdf) takes no others.
@@ -27,4 +27,11 @@ pub fn within_no_bound()
 /// A text that is answered by `TooCostly` has a verdict without the bound: no fault of the text hides behind it.
 pub fn costly_is_valid()
     ensures valid { CostlyIsValid }
+{}
+
+/// The kind of a text tells whether [`check_any`](crate::check_any) has a verdict on it: on each password of at most 4,096
+/// bytes without a zero byte, and so on some password, exactly where the text has no fault.
+pub fn valid_is_verdict()
+    ensures each { ValidIsVerdict }
+    ensures some { ValidIsVerdictOnSome }
 {}

@@ -6,7 +6,7 @@ ghost use Rattle.pbkdf2_key.specs.declared.profile.Pbkdf2Hash.TheVariants.{Sha25
 ghost use Rattle.any_check.specs.Given.{given_may_lack, given_verdict};
 ghost use Rattle.any_check.specs.Table.{IsAnyVerdict};
 
-use crate::{AnyError, CostLimits, check_any, check_any_within};
+use crate::{AnyError, SchemeCosts, check_any, check_any_within};
 use argon2_plain::Argon2Kept;
 use pbkdf2_key::{Pbkdf2Hash, Pbkdf2Plain};
 use phc::Ident;
@@ -55,7 +55,7 @@ pub fn record_kdf(alloc: Global) -> RecordKdf
 #[derive(Drop)]
 pub struct AnyCheck {
     pub alloc: Global,
-    pub limits: Option<CostLimits>,
+    pub limits: Option<SchemeCosts>,
     pub kdf: RecordKdf,
     pub kept: CryptKept,
     pub ghost first: { kdf.first ≡ codes "scrypt" },
@@ -67,7 +67,7 @@ pub struct AnyCheck {
 
 impl AnyCheck {
     /// No table is kept yet.
-    pub fn new(alloc: Global, limits: Option<CostLimits>) -> AnyCheck
+    pub fn new(alloc: Global, limits: Option<SchemeCosts>) -> AnyCheck
         ensures limits { result.limits ≡ limits }
     {
         AnyCheck {

@@ -1,7 +1,8 @@
 //! Texts that outside programs made: openssl, glibc's and libxcrypt's crypt, Python's hashlib and the program argon2.
 
 use any_check::{
-    AnyError, CostLimits, Scheme, any_word, check_any, check_any_within, record_kdf, scheme_of_text,
+    AnyError, Costs, NO_COSTS, PlainRecords, Scheme, SchemeCosts, TextKind, any_word, check_any,
+    check_any_within, record_kdf, scheme_of_text, text_kind,
 };
 use bcrypt_plain::BcryptFault;
 use md5_plain::Md5Fault;
@@ -130,20 +131,42 @@ fn words(rt: HostRuntime) {
 }
 
 // The least bound under which each text gets its verdict.
-pub fn least() -> CostLimits {
-    CostLimits {
-        sha_rounds: 5_000,
-        bcrypt_cost: 5,
-        yescrypt_ln: 10,
-        yescrypt_r: 8,
-        yescrypt_t: 2,
-        pbkdf2_rounds: 1_000,
-        scrypt_ln: 6,
-        scrypt_r: 8,
-        scrypt_p: 2,
-        argon2_memory: 128,
-        argon2_passes: 2,
-        argon2_lanes: 2,
+pub fn least() -> SchemeCosts {
+    SchemeCosts {
+        sha_crypt: Costs {
+            rounds: 5_000,
+            ..NO_COSTS
+        },
+        bcrypt: Costs {
+            cost: 5,
+            ..NO_COSTS
+        },
+        yescrypt: Costs {
+            ln: 10,
+            r: 8,
+            t: 2,
+            ..NO_COSTS
+        },
+        pbkdf2_sha256: Costs {
+            rounds: 1_000,
+            ..NO_COSTS
+        },
+        pbkdf2_sha512: Costs {
+            rounds: 1_000,
+            ..NO_COSTS
+        },
+        scrypt: Costs {
+            ln: 6,
+            r: 8,
+            p: 2,
+            ..NO_COSTS
+        },
+        argon2: Costs {
+            m: 128,
+            t: 2,
+            p: 2,
+            ..NO_COSTS
+        },
     }
 }
 
@@ -157,19 +180,14 @@ fn bounds_reached(rt: HostRuntime) {
         let answer = check_any_within(rt.alloc(), &kdf, &kept, &least(), "Secret", stored);
         assert!(rt; word_of(&answer) == "mismatch", "{stored}");
     }
-    let none = CostLimits {
-        sha_rounds: 0,
-        bcrypt_cost: 0,
-        yescrypt_ln: 0,
-        yescrypt_r: 0,
-        yescrypt_t: 0,
-        pbkdf2_rounds: 0,
-        scrypt_ln: 0,
-        scrypt_r: 0,
-        scrypt_p: 0,
-        argon2_memory: 0,
-        argon2_passes: 0,
-        argon2_lanes: 0,
+    let none = SchemeCosts {
+        sha_crypt: NO_COSTS,
+        bcrypt: NO_COSTS,
+        yescrypt: NO_COSTS,
+        scrypt: NO_COSTS,
+        pbkdf2_sha256: NO_COSTS,
+        pbkdf2_sha512: NO_COSTS,
+        argon2: NO_COSTS,
     };
     for (stored, word) in FAULTS {
         let answer = check_any_within(rt.alloc(), &kdf, &kept, &none, "secret", stored);
@@ -184,99 +202,99 @@ fn bounds_passed(rt: HostRuntime) {
     for (number, low) in [
         (
             2usize,
-            CostLimits {
-                sha_rounds: 4_999,
+            SchemeCosts {
+                sha_crypt: Costs::of_rounds(4_999),
                 ..least()
             },
         ),
         (
             4,
-            CostLimits {
-                sha_rounds: 4_999,
+            SchemeCosts {
+                sha_crypt: Costs::of_rounds(4_999),
                 ..least()
             },
         ),
         (
             6,
-            CostLimits {
-                bcrypt_cost: 4,
+            SchemeCosts {
+                bcrypt: Costs::of_cost(4),
                 ..least()
             },
         ),
         (
             7,
-            CostLimits {
-                scrypt_r: 7,
+            SchemeCosts {
+                scrypt: Costs::of_ln_r_p(6, 7, 2),
                 ..least()
             },
         ),
         (
             14,
-            CostLimits {
-                scrypt_ln: 5,
+            SchemeCosts {
+                scrypt: Costs::of_ln_r_p(5, 8, 2),
                 ..least()
             },
         ),
         (
             14,
-            CostLimits {
-                scrypt_p: 1,
+            SchemeCosts {
+                scrypt: Costs::of_ln_r_p(6, 8, 1),
                 ..least()
             },
         ),
         (
             12,
-            CostLimits {
-                yescrypt_ln: 9,
+            SchemeCosts {
+                yescrypt: Costs::of_ln_r_t(9, 8, 2),
                 ..least()
             },
         ),
         (
             12,
-            CostLimits {
-                yescrypt_r: 7,
+            SchemeCosts {
+                yescrypt: Costs::of_ln_r_t(10, 7, 2),
                 ..least()
             },
         ),
         (
             13,
-            CostLimits {
-                yescrypt_t: 1,
+            SchemeCosts {
+                yescrypt: Costs::of_ln_r_t(10, 8, 1),
                 ..least()
             },
         ),
         (
             8,
-            CostLimits {
-                pbkdf2_rounds: 999,
+            SchemeCosts {
+                pbkdf2_sha256: Costs::of_rounds(999),
                 ..least()
             },
         ),
         (
             15,
-            CostLimits {
-                pbkdf2_rounds: 998,
+            SchemeCosts {
+                pbkdf2_sha512: Costs::of_rounds(998),
                 ..least()
             },
         ),
         (
             11,
-            CostLimits {
-                argon2_memory: 127,
+            SchemeCosts {
+                argon2: Costs::of_m_t_p(127, 2, 2),
                 ..least()
             },
         ),
         (
             10,
-            CostLimits {
-                argon2_passes: 1,
+            SchemeCosts {
+                argon2: Costs::of_m_t_p(128, 1, 2),
                 ..least()
             },
         ),
         (
             10,
-            CostLimits {
-                argon2_lanes: 1,
+            SchemeCosts {
+                argon2: Costs::of_m_t_p(128, 2, 1),
                 ..least()
             },
         ),
@@ -285,7 +303,7 @@ fn bounds_passed(rt: HostRuntime) {
             let answer = check_any_within(rt.alloc(), &kdf, &kept, &low, "secret", stored);
             if i == number {
                 assert!(rt; word_of(&answer) == "too-costly", "{stored}");
-            } else if number != 2 && number != 4 && number != 15 {
+            } else if number != 2 && number != 4 {
                 assert!(rt; word_of(&answer) == "match", "{stored}");
             }
         }
@@ -410,5 +428,18 @@ fn nothing_is_hashed(rt: HostRuntime) {
             let answer = check_any_within(rt.alloc(), &kdf, &kept, &least(), "secret", stored);
             assert!(rt; answer == Err(AnyError::TooCostly), "{stored}");
         }
+    }
+}
+
+// Each text has a verdict exactly where its kind is valid.
+#[test]
+fn kinds(rt: HostRuntime) {
+    for stored in TEXTS {
+        let valid = matches!(text_kind(&PlainRecords, stored), TextKind::Valid(_));
+        assert!(rt; valid, "{stored}");
+    }
+    for (stored, word) in FAULTS {
+        let valid = matches!(text_kind(&PlainRecords, stored), TextKind::Valid(_));
+        assert!(rt; !valid, "{stored} {word}");
     }
 }

@@ -8,13 +8,13 @@ use Rattle.any_check.specs.Table.{any_verdict, is_record, row, stored_row, text_
 use Rattle.any_check.specs.declared.error.AnyError.{AnyError}
 use Rattle.any_check.proofs.Families.{record_stored}
 use Rattle.scheme_list.specs.declared.schemes.Scheme.{Scheme}
-use Rattle.any_make.specs.Costs.{scheme_of, takes_zero}
+use Rattle.any_make.specs.Costs.{takes_zero}
 use Rattle.any_make.specs.Made.{hash_text}
 use Rattle.any_make.specs.declared.scheme.MakeCost.{MakeCost}
 
 -- the scheme takes the bytes of a password
 abbrev pub TakesBytes : MakeCost → List ℕ → Type 0
-TakesBytes c password = (takes_zero (scheme_of c) ≡ true) ⊎ (has_zero password ≡ false)
+TakesBytes c password = (takes_zero c ≡ true) ⊎ (has_zero password ≡ false)
 
 abbrev pub judged : Bool → Result Bool AnyError
 judged b = Ok b

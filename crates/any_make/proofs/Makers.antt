@@ -13,7 +13,7 @@ use Rattle.pieces.specs.Faults.{value_or_fault}
 use Rattle.pieces.proofs.FaultLaws.{err_ok, value_found}
 use Rattle.yescrypt_plain.specs.Made as yescrypt
 use Rattle.yescrypt_plain.specs.declared.params.YescryptParams.{YescryptParams}
-use Rattle.any_make.specs.Costs.{is_taken, password_length, salt_length, scheme_of, takes_zero}
+use Rattle.any_make.specs.Costs.{is_taken, password_length, salt_length, takes_zero}
 use Rattle.any_make.specs.Made.{make_fault}
 use Rattle.any_make.specs.declared.error.MakeFault.TheVariants.{NotUtf8, ZeroByte}
 use Rattle.any_make.specs.declared.scheme.MakeCost.{MakeCost}
@@ -52,21 +52,21 @@ yescrypt_is password salt c text h =
 pub not_text : (bs : List ℕ) → (IsUtf8 bs → ⊥) → is_utf8 bs ≡ false
 not_text bs other = elim (cases_Bool (is_utf8 bs)) [ inl e ↦ absurd (other (IsUtf8-from_is_utf8 bs e)) | inr e ↦ e ]
 
-module _ (c : MakeCost) (password salt : List ℕ) (taken : is_taken c ≡ true) (size : length salt ≡ salt_length (scheme_of c))
-    (short : length password ≤ password_length (scheme_of c)) where
-  size_test : (length salt == salt_length (scheme_of c)) ≡ true
+module _ (c : MakeCost) (password salt : List ℕ) (taken : is_taken c ≡ true) (size : length salt ≡ salt_length c)
+    (short : length password ≤ password_length c) where
+  size_test : (length salt == salt_length c) ≡ true
   size_test = grind (arith, nat_tests, size)
 
-  short_test : nat_le (length password) (password_length (scheme_of c)) ≡ true
+  short_test : nat_le (length password) (password_length c) ≡ true
   short_test = grind (arith, nat_tests, short)
 
   pub text_fault : is_utf8 password ≡ false → make_fault c password salt ≡ Some NotUtf8
   text_fault other = rw (taken, size_test, short_test, other) refl
 
-  pub zero_fault : is_utf8 password ≡ true → takes_zero (scheme_of c) ≡ false → has_zero password ≡ true
+  pub zero_fault : is_utf8 password ≡ true → takes_zero c ≡ false → has_zero password ≡ true
       → make_fault c password salt ≡ Some ZeroByte
   zero_fault text takes has = rw (taken, size_test, short_test, text, takes, has) refl
 
-  pub unfaulted : is_utf8 password ≡ true → (takes_zero (scheme_of c) || not (has_zero password)) ≡ true
+  pub unfaulted : is_utf8 password ≡ true → (takes_zero c || not (has_zero password)) ≡ true
       → make_fault c password salt ≡ None
   unfaulted text bytes = rw (taken, size_test, short_test, text, bytes) refl

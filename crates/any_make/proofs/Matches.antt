@@ -1,9 +1,9 @@
 -- The laws: the text that is made of a password matches it, and which others match it.
-use Rattle.std.proofs.Common.{◌≡◌, ℕ, ◌≤◌, Bool, true, false, List, [], ◌∷◌, length, refl, sym, ap, ◌∙◌, arith, inl, inr}
-use Rattle.std.proofs.Common.{None, Ok}
+use Rattle.std.proofs.Common.{◌≡◌, ℕ, ◌≤◌, Bool, true, false, List, [], ◌∷◌, length, refl, sym, ap, subst, ◌∙◌, arith, inl, inr}
+use Rattle.std.proofs.Common.{None, Some, Ok}
 use Rattle.std.specs.Prelude.{◌||◌, ◌⊎◌, ◌==◌, not, nat_le, Option}
 use Rattle.std.specs.Str.{is_utf8}
-use Rattle.std.proofs.lemmas.Bool.{and_parts}
+use Rattle.std.proofs.lemmas.Bool.{and_parts, false≢true}
 use Rattle.std.proofs.lemmas.Bool.Decides.{nat_tests}
 use Rattle.base64ct.specs.Encoding.{EachBelow}
 use Rattle.bcrypt_plain.specs.Check.{has_zero}
@@ -12,15 +12,15 @@ use Rattle.pieces.proofs.FaultLaws.{first_none, unless_none, value_found}
 use Rattle.sha_crypt.specs.declared.errors.Family.TheVariants.{Sha256, Sha512}
 use Rattle.any_check.specs.Records.{accepted, tag}
 use Rattle.any_check.specs.Table.{any_verdict}
-use Rattle.any_make.specs.Costs.{is_taken, password_length, salt_length, scheme_of, takes_zero}
+use Rattle.any_make.specs.Costs.{is_taken, password_length, recommended, salt_length, scheme_of, takes_zero}
 use Rattle.any_make.specs.Laws.{MadeMatches, NamedBack, OthersJudged, RecommendedTaken}
 use Rattle.any_make.specs.Made.{hash_text, made, make_fault}
 use Rattle.any_make.specs.declared.error.MakeFault.{MakeFault}
 use Rattle.any_make.specs.declared.error.MakeFault.TheVariants.{Cost, NotUtf8, PasswordTooLong, Salt, ZeroByte}
 use Rattle.any_make.specs.declared.scheme.MakeCost.{MakeCost}
 use Rattle.any_make.specs.declared.scheme.MakeCost.TheVariants as cost
-use Rattle.any_make.specs.declared.scheme.MakeScheme.{MakeScheme}
-use Rattle.any_make.specs.declared.scheme.MakeScheme.TheVariants as scheme
+use Rattle.scheme_list.specs.declared.schemes.Scheme.{Scheme}
+use Rattle.scheme_list.specs.declared.schemes.Scheme.TheVariants as scheme
 use Rattle.any_make.proofs.BcryptVerdicts.{bcrypt_judged}
 use Rattle.any_make.proofs.Judged.{IsJudged, TakesBytes, judged}
 use Rattle.any_make.proofs.RecordsJudged.{argon2_judged, pbkdf2_judged, scrypt_judged}
@@ -36,31 +36,31 @@ takes_bytes false true h = absurd cc
 
 pub record IsTaken (c : MakeCost) (password salt : List ℕ) : Type 0 where
   pub cost : is_taken c ≡ true
-  pub salt_size : length salt ≡ salt_length (scheme_of c)
-  pub short : length password ≤ password_length (scheme_of c)
+  pub salt_size : length salt ≡ salt_length c
+  pub short : length password ≤ password_length c
   pub text : is_utf8 password ≡ true
   pub bytes : TakesBytes c password
 
 pub no_fault : (c : MakeCost) (password salt : List ℕ) → make_fault c password salt ≡ None → IsTaken c password salt
 no_fault c password salt h =
-    let of_zero : Option MakeFault = unless (takes_zero (scheme_of c) || not (has_zero password)) ZeroByte in
+    let of_zero : Option MakeFault = unless (takes_zero c || not (has_zero password)) ZeroByte in
     let of_text : Option MakeFault = unless (is_utf8 password) NotUtf8 in
-    let of_long : Option MakeFault = unless (nat_le (length password) (password_length (scheme_of c))) PasswordTooLong in
-    let of_salt : Option MakeFault = unless (length salt == salt_length (scheme_of c)) Salt in
+    let of_long : Option MakeFault = unless (nat_le (length password) (password_length c)) PasswordTooLong in
+    let of_salt : Option MakeFault = unless (length salt == salt_length c) Salt in
     let one = first_none (unless (is_taken c) Cost) (of_salt ∷ of_long ∷ of_text ∷ of_zero ∷ []) h in
     let two = first_none of_salt (of_long ∷ of_text ∷ of_zero ∷ []) one.1 in
     let three = first_none of_long (of_text ∷ of_zero ∷ []) two.1 in
     let four = first_none of_text (of_zero ∷ []) three.1 in
     let five = first_none of_zero [] four.1 in
-    let salt_test = unless_none (length salt == salt_length (scheme_of c)) Salt two.0 in
-    let long_test = unless_none (nat_le (length password) (password_length (scheme_of c))) PasswordTooLong three.0 in
+    let salt_test = unless_none (length salt == salt_length c) Salt two.0 in
+    let long_test = unless_none (nat_le (length password) (password_length c)) PasswordTooLong three.0 in
     record {
       cost = unless_none (is_taken c) Cost one.0;
       salt_size = grind (arith, nat_tests, salt_test);
       short = grind (arith, nat_tests, long_test);
       text = unless_none (is_utf8 password) NotUtf8 four.0;
-      bytes = takes_bytes (takes_zero (scheme_of c)) (has_zero password)
-          (unless_none (takes_zero (scheme_of c) || not (has_zero password)) ZeroByte five.0);
+      bytes = takes_bytes (takes_zero c) (has_zero password)
+          (unless_none (takes_zero c || not (has_zero password)) ZeroByte five.0);
     }
 
 -- the text of what is taken
@@ -71,17 +71,17 @@ made_is c password salt text h =
     let found = value_found (hash_text c password salt) text (make_fault c password salt) h in
     (no_fault c password salt found.0, found.1)
 
-short_enough : (s : MakeScheme) (n : ℕ) → n ≤ password_length s → n ≤ 4096
-short_enough (scheme.ShaCrypt family) n h = h
-short_enough scheme.Scrypt n h = h
-short_enough scheme.Bcrypt n h = omega (arith, h)
-short_enough scheme.Yescrypt n h = h
-short_enough scheme.Argon2id n h = h
-short_enough scheme.Pbkdf2Sha256 n h = h
+short_enough : (c : MakeCost) (n : ℕ) → n ≤ password_length c → n ≤ 4096
+short_enough (cost.ShaCrypt family rounds) n h = h
+short_enough (cost.Scrypt c) n h = h
+short_enough (cost.Bcrypt cost) n h = omega (arith, h)
+short_enough (cost.Yescrypt c) n h = h
+short_enough (cost.Argon2id c) n h = h
+short_enough (cost.Pbkdf2Sha256 rounds) n h = h
 
 -- ---- each scheme
 
-pub is_judged : (c : MakeCost) (password salt : List ℕ) → is_taken c ≡ true → length salt ≡ salt_length (scheme_of c)
+pub is_judged : (c : MakeCost) (password salt : List ℕ) → is_taken c ≡ true → length salt ≡ salt_length c
     → EachBelow 256 salt → IsJudged c password salt
 is_judged (cost.ShaCrypt family n) password salt taken size below =
     let parts = and_parts (nat_le 1000 n) (nat_le n 999999999) taken in
@@ -108,7 +108,7 @@ made_matches c password salt text below h =
     let taken = all.0 in
     ap (any_verdict accepted tag password) (sym all.1)
     ∙ own_text c password salt (is_judged c password salt taken.cost taken.salt_size below)
-    (short_enough (scheme_of c) (length password) taken.short) taken.bytes
+    (short_enough c (length password) taken.short) taken.bytes
 
 judged_once : (a b : Bool) → judged a ≡ judged b → a ≡ b
 judged_once a b h = cc
@@ -130,20 +130,37 @@ others_judged c password salt text asked below h short bytes =
       ),
     )
 
+taken_by : (s : Scheme) (c : MakeCost) → (scheme_of c ≡ s) × (is_taken c ≡ true) → (d : MakeCost) → Some c ≡ Some d
+    → (scheme_of d ≡ s) × (is_taken d ≡ true)
+taken_by s c h d is =
+    let same : c ≡ d = cc in subst (λ (e : MakeCost). (scheme_of e ≡ s) × (is_taken e ≡ true)) same h
+
 pub recommended_taken : RecommendedTaken
-recommended_taken (scheme.ShaCrypt Sha256) = (refl, refl)
-recommended_taken (scheme.ShaCrypt Sha512) = (refl, refl)
-recommended_taken scheme.Scrypt = (refl, refl)
-recommended_taken scheme.Bcrypt = (refl, refl)
-recommended_taken scheme.Yescrypt = (refl, refl)
-recommended_taken scheme.Argon2id = (refl, refl)
-recommended_taken scheme.Pbkdf2Sha256 = (refl, refl)
+recommended_taken scheme.Sha256Crypt = (refl, taken_by scheme.Sha256Crypt (cost.ShaCrypt Sha256 535000) (refl, refl))
+recommended_taken scheme.Sha512Crypt = (refl, taken_by scheme.Sha512Crypt (cost.ShaCrypt Sha512 656000) (refl, refl))
+recommended_taken scheme.Bcrypt = (refl, taken_by scheme.Bcrypt (cost.Bcrypt 12) (refl, refl))
+recommended_taken scheme.Yescrypt =
+    (refl, taken_by scheme.Yescrypt (cost.Yescrypt (record { ln = 12; r = 32; t = 0 })) (refl, refl))
+recommended_taken scheme.Scrypt = (refl, taken_by scheme.Scrypt (cost.Scrypt (record { ln = 17; r = 8; p = 1 })) (refl, refl))
+recommended_taken scheme.Pbkdf2Sha256 = (refl, taken_by scheme.Pbkdf2Sha256 (cost.Pbkdf2Sha256 600000) (refl, refl))
+recommended_taken scheme.Argon2id =
+    (refl, taken_by scheme.Argon2id (cost.Argon2id (record { memory = 65536; passes = 3; lanes = 4 })) (refl, refl))
+recommended_taken scheme.Md5Crypt = (refl, λ c h. absurd cc)
+recommended_taken scheme.ScryptCrypt = (refl, λ c h. absurd cc)
+recommended_taken scheme.Pbkdf2Sha512 = (refl, λ c h. absurd cc)
+recommended_taken scheme.Argon2d = (refl, λ c h. absurd cc)
+recommended_taken scheme.Argon2i = (refl, λ c h. absurd cc)
 
 pub named_back : NamedBack
-named_back (scheme.ShaCrypt Sha256) = refl
-named_back (scheme.ShaCrypt Sha512) = refl
-named_back scheme.Scrypt = refl
-named_back scheme.Bcrypt = refl
-named_back scheme.Yescrypt = refl
-named_back scheme.Argon2id = refl
-named_back scheme.Pbkdf2Sha256 = refl
+named_back scheme.Sha256Crypt h = refl
+named_back scheme.Sha512Crypt h = refl
+named_back scheme.Bcrypt h = refl
+named_back scheme.Yescrypt h = refl
+named_back scheme.Scrypt h = refl
+named_back scheme.Pbkdf2Sha256 h = refl
+named_back scheme.Argon2id h = refl
+named_back scheme.Md5Crypt h = absurd (false≢true h)
+named_back scheme.ScryptCrypt h = absurd (false≢true h)
+named_back scheme.Pbkdf2Sha512 h = absurd (false≢true h)
+named_back scheme.Argon2d h = absurd (false≢true h)
+named_back scheme.Argon2i h = absurd (false≢true h)

@@ -1,5 +1,5 @@
 -- What a text may cost, what it costs where nothing else is said, and how long its salt is.
-use Rattle.std.specs.Prelude.{ℕ, Bool, true, false, ◌&&◌, nat_le}
+use Rattle.std.specs.Prelude.{ℕ, Bool, true, false, ◌&&◌, nat_le, Option, Some, None}
 use Rattle.argon2_plain.specs.Bounds as argon2
 use Rattle.bcrypt_plain.specs.Text.{is_cost}
 use Rattle.scrypt_plain.specs.Bounds as scrypt
@@ -9,12 +9,13 @@ use Rattle.phc_kdf.specs.Limits.{password_max}
 use Rattle.yescrypt_plain.specs.Params as yescrypt
 use Rattle.any_make.specs.declared.scheme.MakeCost.{MakeCost}
 use Rattle.any_make.specs.declared.scheme.MakeCost.TheVariants as cost
-use Rattle.any_make.specs.declared.scheme.MakeScheme.{MakeScheme}
-use Rattle.any_make.specs.declared.scheme.MakeScheme.TheVariants.{Argon2id, Bcrypt, Pbkdf2Sha256, Scrypt, ShaCrypt, Yescrypt}
+use Rattle.any_check.specs.Table.{sha_scheme}
+use Rattle.scheme_list.specs.declared.schemes.Scheme.{Scheme}
+use Rattle.scheme_list.specs.declared.schemes.Scheme.TheVariants.{Argon2id, Bcrypt, Pbkdf2Sha256, Scrypt, Sha256Crypt, Sha512Crypt, Yescrypt}
 
 -- the scheme whose text a cost is for
-abbrev pub scheme_of : MakeCost → MakeScheme
-scheme_of (cost.ShaCrypt family rounds) = ShaCrypt family
+abbrev pub scheme_of : MakeCost → Scheme
+scheme_of (cost.ShaCrypt family rounds) = sha_scheme family
 scheme_of (cost.Scrypt c) = Scrypt
 scheme_of (cost.Bcrypt n) = Bcrypt
 scheme_of (cost.Yescrypt c) = Yescrypt
@@ -37,48 +38,38 @@ is_taken (cost.Pbkdf2Sha256 rounds) = nat_le 1 rounds && nat_le rounds 10000000
 -- yescrypt: N = 2^12, r = 32, t = 0, which libxcrypt 4.4 sets by default (`$y$j9T$`).
 -- Argon2id: 64 MiB, three passes, four lanes (RFC 9106, section 4, second recommended option).
 -- PBKDF2: 600,000 rounds (OWASP, the same sheet, "PBKDF2", with HMAC-SHA-256).
-abbrev pub recommended : MakeScheme → MakeCost
-recommended (ShaCrypt Sha256) = cost.ShaCrypt Sha256 535000
-recommended (ShaCrypt Sha512) = cost.ShaCrypt Sha512 656000
-recommended Scrypt = cost.Scrypt (record { ln = 17; r = 8; p = 1 })
-recommended Bcrypt = cost.Bcrypt 12
-recommended Yescrypt = cost.Yescrypt (record { ln = 12; r = 32; t = 0 })
-recommended Argon2id = cost.Argon2id (record { memory = 65536; passes = 3; lanes = 4 })
-recommended Pbkdf2Sha256 = cost.Pbkdf2Sha256 600000
+-- None for a scheme of which no texts are made.
+abbrev pub recommended : Scheme → Option MakeCost
+recommended Sha256Crypt = Some (cost.ShaCrypt Sha256 535000)
+recommended Sha512Crypt = Some (cost.ShaCrypt Sha512 656000)
+recommended Scrypt = Some (cost.Scrypt (record { ln = 17; r = 8; p = 1 }))
+recommended Bcrypt = Some (cost.Bcrypt 12)
+recommended Yescrypt = Some (cost.Yescrypt (record { ln = 12; r = 32; t = 0 }))
+recommended Argon2id = Some (cost.Argon2id (record { memory = 65536; passes = 3; lanes = 4 }))
+recommended Pbkdf2Sha256 = Some (cost.Pbkdf2Sha256 600000)
+recommended scheme = None
 
 -- The bytes of a salt: 128 bits (NIST SP 800-132, section 5.1; RFC 9106, section 4), but for SHA-crypt, whose 16 characters
 -- of six bits stand for 96 (Drepper, "Unix crypt using SHA-256 and SHA-512").
-abbrev pub salt_length : MakeScheme → ℕ
-salt_length (ShaCrypt family) = 12
-salt_length Scrypt = 16
-salt_length Bcrypt = 16
-salt_length Yescrypt = 16
-salt_length Argon2id = 16
-salt_length Pbkdf2Sha256 = 16
+abbrev pub salt_length : MakeCost → ℕ
+salt_length (cost.ShaCrypt family rounds) = 12
+salt_length c = 16
 
 -- the most bytes of a password: of bcrypt those that count
-abbrev pub password_length : MakeScheme → ℕ
-password_length (ShaCrypt family) = password_max
-password_length Scrypt = password_max
-password_length Bcrypt = 72
-password_length Yescrypt = password_max
-password_length Argon2id = password_max
-password_length Pbkdf2Sha256 = password_max
+abbrev pub password_length : MakeCost → ℕ
+password_length (cost.Bcrypt n) = 72
+password_length c = password_max
 
 -- A password may have a zero byte, but for the schemes of crypt(3), which takes a password that ends at the first.
-abbrev pub takes_zero : MakeScheme → Bool
-takes_zero (ShaCrypt family) = false
-takes_zero Scrypt = true
-takes_zero Bcrypt = false
-takes_zero Yescrypt = false
-takes_zero Argon2id = true
-takes_zero Pbkdf2Sha256 = true
+abbrev pub takes_zero : MakeCost → Bool
+takes_zero (cost.ShaCrypt family rounds) = false
+takes_zero (cost.Bcrypt n) = false
+takes_zero (cost.Yescrypt c) = false
+takes_zero c = true
 
 -- the key takes a table
-abbrev pub needs_memory : MakeScheme → Bool
-needs_memory (ShaCrypt family) = false
-needs_memory Scrypt = true
-needs_memory Bcrypt = false
-needs_memory Yescrypt = true
-needs_memory Argon2id = true
-needs_memory Pbkdf2Sha256 = false
+abbrev pub needs_memory : MakeCost → Bool
+needs_memory (cost.Scrypt c) = true
+needs_memory (cost.Yescrypt c) = true
+needs_memory (cost.Argon2id c) = true
+needs_memory c = false

@@ -10,7 +10,7 @@ use Rattle.phc.specs.Record.{record_text}
 use Rattle.pieces.specs.Faults.{first_fault, unless, value_or_fault}
 use Rattle.sha_crypt.specs.Simple.{made_text}
 use Rattle.yescrypt_plain.specs.Made.{yescrypt_hash_text}
-use Rattle.any_make.specs.Costs.{is_taken, needs_memory, password_length, salt_length, scheme_of, takes_zero}
+use Rattle.any_make.specs.Costs.{is_taken, needs_memory, password_length, salt_length, takes_zero}
 use Rattle.any_make.specs.Records.{argon2_key, argon2_record, pbkdf2_key, pbkdf2_record, scrypt_key, scrypt_record}
 use Rattle.any_make.specs.declared.error.MakeFault.{MakeFault}
 use Rattle.any_make.specs.declared.error.MakeFault.TheVariants.{BufferShort, Cost, NotUtf8, OutOfMemory, PasswordTooLong, Salt, ZeroByte}
@@ -35,10 +35,10 @@ hash_text (cost.Pbkdf2Sha256 rounds) password salt =
 abbrev pub make_fault : MakeCost → List ℕ → List ℕ → Option MakeFault
 make_fault c password salt =
     first_fault
-    (unless (is_taken c) Cost ∷ unless (length salt == salt_length (scheme_of c)) Salt
-    ∷ unless (nat_le (length password) (password_length (scheme_of c))) PasswordTooLong
+    (unless (is_taken c) Cost ∷ unless (length salt == salt_length c) Salt
+    ∷ unless (nat_le (length password) (password_length c)) PasswordTooLong
     ∷ unless (is_utf8 password) NotUtf8
-    ∷ unless (takes_zero (scheme_of c) || not (has_zero password)) ZeroByte ∷ [])
+    ∷ unless (takes_zero c || not (has_zero password)) ZeroByte ∷ [])
 
 -- the text, or that cause
 unfoldable pub made : MakeCost → List ℕ → List ℕ → Result (List ℕ) MakeFault
@@ -49,7 +49,7 @@ made c password salt = value_or_fault (hash_text c password salt) (make_fault c 
 -- a cause is the one that is expected; or memory was refused, where a text would have been made and its key takes a table
 abbrev pub IsMakeFault : MakeCost → Result (List ℕ) MakeFault → MakeFault → Type 0
 IsMakeFault c expected e =
-    (expected ≡ Err e) ⊎ ((e ≡ OutOfMemory) × (is_ok expected ≡ true) × (needs_memory (scheme_of c) ≡ true))
+    (expected ≡ Err e) ⊎ ((e ≡ OutOfMemory) × (is_ok expected ≡ true) × (needs_memory c ≡ true))
 
 -- the first n bytes of a buffer that was old and is new are the text, and the others are as they were
 abbrev pub IsWritten : Result (List ℕ) MakeFault → List ℕ → List ℕ → ℕ → Type 0

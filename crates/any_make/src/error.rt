@@ -5,7 +5,7 @@
 pub enum MakeFault {
     /// The scheme does not take the cost ([`MakeCost::is_taken`](crate::MakeCost::is_taken)).
     Cost,
-    /// The salt has not as many bytes as [`MakeScheme::salt_length`](crate::MakeScheme::salt_length) tells.
+    /// The salt has not as many bytes as [`MakeCost::salt_length`](crate::MakeCost::salt_length) tells.
     Salt,
     /// The password has more than 4,096 bytes; for bcrypt, of which no more count, more than 72.
     PasswordTooLong,
@@ -22,8 +22,8 @@ pub enum MakeFault {
 /// Why a name stands for no scheme of which texts are made.
 #[derive(Clone, Copy, Debug, PartialEq, Eq)]
 pub enum NameFault {
-    /// The name is `md5-crypt`: its 1,000 rounds of MD5 are too weak for new texts.
+    /// Texts of the scheme are weak whatever they ask for: those of `md5-crypt`, with its 1,000 rounds of MD5.
     Weak,
-    /// No scheme has the name.
+    /// No scheme has the name, or none of its texts are made.
     Unknown,
 }

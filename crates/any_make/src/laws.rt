@@ -13,7 +13,8 @@ pub fn others_judged()
     ensures judged { OthersJudged }
 {}
 
-/// The recommended cost of each scheme is taken, and each scheme is found by its name.
+/// A cost is recommended for each scheme of which texts are made, and for no other; it is taken. Each of them is found by its
+/// name.
 pub fn schemes()
     ensures recommended { RecommendedTaken }
     ensures named { NamedBack }

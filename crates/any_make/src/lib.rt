@@ -2,7 +2,7 @@
 //! is handed in, and `any_check` answers it with a match for this password.
 //!
 //! The definition is a table from cost to text (`specs/Made.antt`), each row the scheme's own definition. md5-crypt has no row:
-//! its texts are read for migration alone. [`run_make`] writes the text of the first line of a source. Only the keys of scrypt, Argon2id and yescrypt take memory, a table for each call.
+//! its texts are read for migration alone. Of which schemes texts are made, `scheme_list` says. [`run_make`] writes the text of the first line of a source. Only the keys of scrypt, Argon2id and yescrypt take memory, a table for each call.
 #![tactic(auto)]
 
 mod error;
@@ -18,6 +18,7 @@ mod texts;
 pub use error::{MakeFault, NameFault};
 pub use line::{MakeEnd, run_make};
 pub use make::{made_text, make_text};
-pub use names::{scheme_name, scheme_named};
-pub use scheme::{Argon2Cost, MakeCost, MakeScheme};
+pub use names::scheme_named;
+pub use scheme::{Argon2Cost, MakeCost, recommended};
+pub use scheme_list::Scheme;
 pub use texts::TEXT_MAX;

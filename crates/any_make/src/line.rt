@@ -63,7 +63,7 @@ fn write_text<K: Sink>(
 ///
 /// The line ends with a line feed, which is no part of it, or with the source; no other line is read, though at most 16,384
 /// bytes behind the first may be taken from the source. The salt has
-/// [`MakeScheme::salt_length`](crate::MakeScheme::salt_length) bytes. Nothing is written before the text is made.
+/// [`MakeCost::salt_length`] bytes. Nothing is written before the text is made.
 pub fn run_make<S: Source, K: Sink>(
     alloc: Global,
     cost: MakeCost,

@@ -5,7 +5,7 @@ ghost use Rattle.std.specs.Str.{is_utf8};
 ghost use Rattle.any_check.specs.Records.{accepted, tag};
 ghost use Rattle.any_check.specs.Table.{any_verdict};
 ghost use Rattle.bcrypt_plain.specs.Check.{has_zero};
-ghost use Rattle.any_make.specs.Costs.{is_taken, password_length, salt_length, scheme_of, takes_zero};
+ghost use Rattle.any_make.specs.Costs.{is_taken, password_length, salt_length, takes_zero};
 ghost use Rattle.any_make.specs.Made.{IsMakeFault, IsRefusal, IsWritten, made, make_fault};
 
 use crate::texts::{TEXT_MAX, hash_text};
@@ -35,24 +35,23 @@ fn is_text(password: &[u8]) -> bool
 fn make_fault(cost: MakeCost, password: &[u8], salt: &[u8]) -> Option<MakeFault>
     ensures fault { result ≡ make_fault cost password.now salt.now }
     ensures cost { IsNone result → is_taken cost ≡ true }
-    ensures salt { IsNone result → length salt.now ≡ salt_length (scheme_of cost) }
-    ensures password { IsNone result → length password.now ≤ password_length (scheme_of cost) }
-    ensures zero { IsNone result → (takes_zero (scheme_of cost) ≡ true) ⊎ (has_zero password.now ≡ false) }
+    ensures salt { IsNone result → length salt.now ≡ salt_length cost }
+    ensures password { IsNone result → length password.now ≤ password_length cost }
+    ensures zero { IsNone result → (takes_zero cost ≡ true) ⊎ (has_zero password.now ≡ false) }
 {
-    let scheme = cost.scheme();
     if !cost.is_taken() {
         return Some(MakeFault::Cost);
     }
-    if salt.len() != scheme.salt_length() {
+    if salt.len() != cost.salt_length() {
         return Some(MakeFault::Salt);
     }
-    if password.len() > scheme.password_length() {
+    if password.len() > cost.password_length() {
         return Some(MakeFault::PasswordTooLong);
     }
     if !is_text(password) {
         return Some(MakeFault::NotUtf8);
     }
-    if !scheme.takes_zero() && has_zero(password) {
+    if !cost.takes_zero() && has_zero(password) {
         return Some(MakeFault::ZeroByte);
     }
     None
@@ -63,7 +62,7 @@ fn make_fault(cost: MakeCost, password: &[u8], salt: &[u8]) -> Option<MakeFault>
 /// # Errors
 ///
 /// The first of [`MakeFault`] but `BufferShort`; `OutOfMemory` only where the key takes a table
-/// ([`MakeScheme::needs_memory`](crate::MakeScheme::needs_memory)).
+/// ([`MakeCost::needs_memory`]).
 #[tactic(auto, unfolding(crate::specs::Made::made))]
 pub fn made_text(
     alloc: Global,
@@ -87,7 +86,7 @@ pub fn made_text(
 /// Writes the text of a password, a cost and a salt to the front of `out`, and tells its length: at most 123 bytes, for which
 /// [`TEXT_MAX`] is room. What stands behind it stays.
 ///
-/// The salt has [`MakeScheme::salt_length`](crate::MakeScheme::salt_length) bytes, which should come from a generator that no
+/// The salt has [`MakeCost::salt_length`] bytes, which should come from a generator that no
 /// one can foresee, and be used once. `any_check` answers the text with a match for this password, for every salt.
 ///
 /// # Errors

@@ -1,67 +1,30 @@
-//! The names of the schemes.
+//! The scheme that a name stands for.
 
 ghost use Rattle.std.specs.Prelude.{◌≡◌};
-ghost use Rattle.any_make.specs.Names.{no_scheme, other_scheme, scheme_name, scheme_named};
+ghost use Rattle.scheme_list.specs.Schemes.{scheme_of_name};
+ghost use Rattle.any_make.specs.Names.{made_scheme, scheme_named};
 
-use crate::{MakeScheme, NameFault};
-use sha_crypt::Family;
+use crate::NameFault;
+use scheme_list::{Scheme, scheme_of_name};
 
-/// The name of a scheme, as `shadow_survey` tells it.
-pub fn scheme_name(scheme: MakeScheme) -> &'static str
-    ensures name { result.now ≡ scheme_name scheme }
+// The scheme, if texts of it are made.
+fn made_scheme(scheme: Option<Scheme>) -> Result<Scheme, NameFault>
+    ensures { result ≡ made_scheme scheme }
 {
     match scheme {
-        MakeScheme::ShaCrypt(Family::Sha256) => "sha256-crypt",
-        MakeScheme::ShaCrypt(Family::Sha512) => "sha512-crypt",
-        MakeScheme::Scrypt => "scrypt",
-        MakeScheme::Bcrypt => "bcrypt",
-        MakeScheme::Yescrypt => "yescrypt",
-        MakeScheme::Argon2id => "argon2id",
-        MakeScheme::Pbkdf2Sha256 => "pbkdf2-sha256",
+        Some(scheme) if scheme.is_weak() => Err(NameFault::Weak),
+        Some(scheme) if scheme.is_made() => Ok(scheme),
+        _ => Err(NameFault::Unknown),
     }
 }
 
-fn no_scheme(name: &str) -> NameFault
-    ensures { Err result ≡ no_scheme name.now }
-{
-    if name == "md5-crypt" {
-        NameFault::Weak
-    } else {
-        NameFault::Unknown
-    }
-}
-
-fn other_scheme(name: &str) -> Result<MakeScheme, NameFault>
-    ensures { result ≡ other_scheme name.now }
-{
-    if name == "scrypt" {
-        Ok(MakeScheme::Scrypt)
-    } else if name == "bcrypt" {
-        Ok(MakeScheme::Bcrypt)
-    } else if name == "yescrypt" {
-        Ok(MakeScheme::Yescrypt)
-    } else if name == "argon2id" {
-        Ok(MakeScheme::Argon2id)
-    } else if name == "pbkdf2-sha256" {
-        Ok(MakeScheme::Pbkdf2Sha256)
-    } else {
-        Err(no_scheme(name))
-    }
-}
-
-/// The scheme of a name.
+/// The scheme of a name, of which texts are made.
 ///
 /// # Errors
 ///
-/// `Weak` for `md5-crypt`, of which no texts are made; else `Unknown`.
-pub fn scheme_named(name: &str) -> Result<MakeScheme, NameFault>
+/// `Weak` for `md5-crypt`, whose texts are weak whatever they ask for; else `Unknown`.
+pub fn scheme_named(name: &str) -> Result<Scheme, NameFault>
     ensures scheme { result ≡ scheme_named name.now }
 {
-    if name == "sha256-crypt" {
-        Ok(MakeScheme::ShaCrypt(Family::Sha256))
-    } else if name == "sha512-crypt" {
-        Ok(MakeScheme::ShaCrypt(Family::Sha512))
-    } else {
-        other_scheme(name)
-    }
+    made_scheme(scheme_of_name(name))
 }

@@ -4,27 +4,12 @@ ghost use Rattle.std.specs.Prelude.{◌≡◌, ◌≤◌};
 ghost use Rattle.any_make.specs.Costs.{is_taken, needs_memory, password_length, recommended, salt_length, scheme_of, takes_zero};
 ghost use Rattle.any_make.specs.Records.{argon2_params};
 
+use any_check::sha_scheme;
 use argon2_plain::{Params, Variant};
+use scheme_list::Scheme;
 use sha_crypt::{Family, ROUNDS_MAX, ROUNDS_MIN};
 use stored_check::PASSWORD_MAX;
 use yescrypt_plain::{ScryptParams, YescryptParams};
-
-/// A scheme of which texts are made.
-#[derive(Clone, Copy, Debug, PartialEq, Eq)]
-pub enum MakeScheme {
-    /// SHA-crypt: `$5$[rounds=N$]salt$hash` or `$6$..`.
-    ShaCrypt(Family),
-    /// scrypt as a record: `$scrypt$ln=L,r=R,p=P$salt$hash`.
-    Scrypt,
-    /// bcrypt: `$2b$cost$salt-and-hash`.
-    Bcrypt,
-    /// yescrypt: `$y$parameters$salt$hash`.
-    Yescrypt,
-    /// Argon2id as a record: `$argon2id$v=19$m=M,t=T,p=P$salt$hash`.
-    Argon2id,
-    /// PBKDF2 with HMAC-SHA-256 as a record: `$pbkdf2-sha256$i=N,l=32$salt$hash`.
-    Pbkdf2Sha256,
-}
 
 /// What a text of Argon2id costs (RFC 9106, section 3.1).
 #[derive(Clone, Copy, Debug, PartialEq, Eq)]
@@ -54,69 +39,28 @@ pub enum MakeCost {
     Pbkdf2Sha256(u32),
 }
 
-impl MakeScheme {
-    /// What a text costs where nothing else is said: today's recommendation, with its source in `specs/Costs.antt`.
-    pub fn recommended(self) -> MakeCost
-        ensures cost { result ≡ recommended self }
-    {
-        match self {
-            MakeScheme::ShaCrypt(Family::Sha256) => MakeCost::ShaCrypt(Family::Sha256, 535_000),
-            MakeScheme::ShaCrypt(Family::Sha512) => MakeCost::ShaCrypt(Family::Sha512, 656_000),
-            MakeScheme::Scrypt => MakeCost::Scrypt(ScryptParams { ln: 17, r: 8, p: 1 }),
-            MakeScheme::Bcrypt => MakeCost::Bcrypt(12),
-            MakeScheme::Yescrypt => MakeCost::Yescrypt(YescryptParams {
-                ln: 12,
-                r: 32,
-                t: 0,
-            }),
-            MakeScheme::Argon2id => MakeCost::Argon2id(Argon2Cost {
-                memory: 65_536,
-                passes: 3,
-                lanes: 4,
-            }),
-            MakeScheme::Pbkdf2Sha256 => MakeCost::Pbkdf2Sha256(600_000),
-        }
-    }
-
-    /// The bytes of a salt: 12 of SHA-crypt, 16 of every other scheme.
-    pub fn salt_length(self) -> usize
-        ensures length { result ≡ salt_length self }
-        ensures most { result ≤ 16 }
-    {
-        match self {
-            MakeScheme::ShaCrypt(_) => 12,
-            _ => 16,
-        }
-    }
-
-    /// The most bytes of a password: 72 of bcrypt, 4,096 of every other scheme.
-    pub fn password_length(self) -> usize
-        ensures length { result ≡ password_length self }
-    {
-        match self {
-            MakeScheme::Bcrypt => 72,
-            _ => PASSWORD_MAX,
-        }
-    }
-
-    /// Whether a password may have a zero byte: not where the scheme is one of crypt(3).
-    pub fn takes_zero(self) -> bool
-        ensures takes { result ≡ takes_zero self }
-    {
-        match self {
-            MakeScheme::ShaCrypt(_) | MakeScheme::Bcrypt | MakeScheme::Yescrypt => false,
-            _ => true,
-        }
-    }
-
-    /// Whether the key takes a table: of scrypt, yescrypt and Argon2id.
-    pub fn needs_memory(self) -> bool
-        ensures needs { result ≡ needs_memory self }
-    {
-        match self {
-            MakeScheme::Scrypt | MakeScheme::Yescrypt | MakeScheme::Argon2id => true,
-            _ => false,
-        }
+/// What a text costs where nothing else is said: today's recommendation, with its source in `specs/Costs.antt`. None for a
+/// scheme of which no texts are made.
+pub fn recommended(scheme: Scheme) -> Option<MakeCost>
+    ensures cost { result ≡ recommended scheme }
+{
+    match scheme {
+        Scheme::Sha256Crypt => Some(MakeCost::ShaCrypt(Family::Sha256, 535_000)),
+        Scheme::Sha512Crypt => Some(MakeCost::ShaCrypt(Family::Sha512, 656_000)),
+        Scheme::Scrypt => Some(MakeCost::Scrypt(ScryptParams { ln: 17, r: 8, p: 1 })),
+        Scheme::Bcrypt => Some(MakeCost::Bcrypt(12)),
+        Scheme::Yescrypt => Some(MakeCost::Yescrypt(YescryptParams {
+            ln: 12,
+            r: 32,
+            t: 0,
+        })),
+        Scheme::Argon2id => Some(MakeCost::Argon2id(Argon2Cost {
+            memory: 65_536,
+            passes: 3,
+            lanes: 4,
+        })),
+        Scheme::Pbkdf2Sha256 => Some(MakeCost::Pbkdf2Sha256(600_000)),
+        _ => None,
     }
 }
 
@@ -136,16 +80,16 @@ impl Argon2Cost {
 
 impl MakeCost {
     /// The scheme whose text this is for.
-    pub fn scheme(self) -> MakeScheme
+    pub fn scheme(self) -> Scheme
         ensures scheme { result ≡ scheme_of self }
     {
         match self {
-            MakeCost::ShaCrypt(family, _) => MakeScheme::ShaCrypt(family),
-            MakeCost::Scrypt(_) => MakeScheme::Scrypt,
-            MakeCost::Bcrypt(_) => MakeScheme::Bcrypt,
-            MakeCost::Yescrypt(_) => MakeScheme::Yescrypt,
-            MakeCost::Argon2id(_) => MakeScheme::Argon2id,
-            MakeCost::Pbkdf2Sha256(_) => MakeScheme::Pbkdf2Sha256,
+            MakeCost::ShaCrypt(family, _) => sha_scheme(family),
+            MakeCost::Scrypt(_) => Scheme::Scrypt,
+            MakeCost::Bcrypt(_) => Scheme::Bcrypt,
+            MakeCost::Yescrypt(_) => Scheme::Yescrypt,
+            MakeCost::Argon2id(_) => Scheme::Argon2id,
+            MakeCost::Pbkdf2Sha256(_) => Scheme::Pbkdf2Sha256,
         }
     }
 
@@ -162,6 +106,47 @@ impl MakeCost {
             MakeCost::Yescrypt(cost) => yescrypt_plain::in_bounds(cost),
             MakeCost::Argon2id(cost) => cost.params().are_in_bounds(),
             MakeCost::Pbkdf2Sha256(rounds) => 1 <= rounds && rounds <= 10_000_000,
+        }
+    }
+
+    /// The bytes of a salt: 12 of SHA-crypt, 16 of every other scheme.
+    pub fn salt_length(self) -> usize
+        ensures length { result ≡ salt_length self }
+        ensures most { result ≤ 16 }
+    {
+        match self {
+            MakeCost::ShaCrypt(..) => 12,
+            _ => 16,
+        }
+    }
+
+    /// The most bytes of a password: 72 of bcrypt, 4,096 of every other scheme.
+    pub fn password_length(self) -> usize
+        ensures length { result ≡ password_length self }
+    {
+        match self {
+            MakeCost::Bcrypt(_) => 72,
+            _ => PASSWORD_MAX,
+        }
+    }
+
+    /// Whether a password may have a zero byte: not where the scheme is one of crypt(3).
+    pub fn takes_zero(self) -> bool
+        ensures takes { result ≡ takes_zero self }
+    {
+        match self {
+            MakeCost::ShaCrypt(..) | MakeCost::Bcrypt(_) | MakeCost::Yescrypt(_) => false,
+            _ => true,
+        }
+    }
+
+    /// Whether the key takes a table: of scrypt, yescrypt and Argon2id.
+    pub fn needs_memory(self) -> bool
+        ensures needs { result ≡ needs_memory self }
+    {
+        match self {
+            MakeCost::Scrypt(_) | MakeCost::Yescrypt(_) | MakeCost::Argon2id(_) => true,
+            _ => false,
         }
     }
 }

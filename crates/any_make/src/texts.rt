@@ -5,7 +5,7 @@ ghost use Rattle.bcrypt_plain.specs.Check.{has_zero};
 ghost use Rattle.bcrypt_plain.specs.Made as bcrypt;
 ghost use Rattle.bcrypt_plain.specs.Text.{is_cost};
 ghost use Rattle.yescrypt_plain.specs.Made.{yescrypt_hash_text};
-ghost use Rattle.any_make.specs.Costs.{is_taken, needs_memory, password_length, salt_length, scheme_of, takes_zero};
+ghost use Rattle.any_make.specs.Costs.{is_taken, needs_memory, password_length, salt_length, takes_zero};
 ghost use Rattle.any_make.specs.Made.{hash_text};
 
 use crate::MakeCost;
@@ -59,11 +59,11 @@ pub(crate) fn hash_text(
     salt: &[u8],
 ) -> Result<ShortBytes<TEXT_MAX>, AllocError>
     requires cost { is_taken cost ≡ true }
-    requires salt { length salt.now ≡ salt_length (scheme_of cost) }
-    requires password { length password.now ≤ password_length (scheme_of cost) }
-    requires zero { (takes_zero (scheme_of cost) ≡ true) ⊎ (has_zero password.now ≡ false) }
+    requires salt { length salt.now ≡ salt_length cost }
+    requires password { length password.now ≤ password_length cost }
+    requires zero { (takes_zero cost ≡ true) ⊎ (has_zero password.now ≡ false) }
     ensures text { IfOk result (λ text. text ≡ hash_text cost password.now salt.now) }
-    ensures memory { needs_memory (scheme_of cost) ≡ false → IsOk result }
+    ensures memory { needs_memory cost ≡ false → IsOk result }
 {
     match cost {
         MakeCost::ShaCrypt(family, rounds) => Ok(sha_text(family, password, salt, rounds)),

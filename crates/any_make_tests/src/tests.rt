@@ -3,8 +3,8 @@
 
 use any_check::{check_any, record_kdf};
 use any_make::{
-    Argon2Cost, MakeCost, MakeEnd, MakeFault, MakeScheme, NameFault, TEXT_MAX, made_text,
-    make_text, run_make, scheme_name, scheme_named,
+    Argon2Cost, MakeCost, MakeEnd, MakeFault, NameFault, Scheme, TEXT_MAX, made_text, make_text,
+    recommended, run_make, scheme_named,
 };
 use line_io::{MemorySink, MemorySource};
 use sha_crypt::Family;
@@ -375,8 +375,7 @@ fn long_passwords(rt: HostRuntime) {
         argon2(8, 1, 1),
         MakeCost::Pbkdf2Sha256(1),
     ] {
-        let scheme = cost.scheme();
-        let salt = &SALT[..scheme.salt_length()];
+        let salt = &SALT[..cost.salt_length()];
         let made = make_text(rt.alloc(), cost, &long, salt, &mut out);
         assert!(rt; made == Err(MakeFault::PasswordTooLong), "{cost:?}");
         let made = make_text(rt.alloc(), cost, &long[1..], salt, &mut out);
@@ -422,56 +421,60 @@ fn zero_bytes(rt: HostRuntime) {
 #[test]
 fn schemes(rt: HostRuntime) {
     for (scheme, cost, salt, needs) in [
+        (Scheme::Sha256Crypt, sha256(535_000), 12, false),
         (
-            MakeScheme::ShaCrypt(Family::Sha256),
-            sha256(535_000),
-            12,
-            false,
-        ),
-        (
-            MakeScheme::ShaCrypt(Family::Sha512),
+            Scheme::Sha512Crypt,
             MakeCost::ShaCrypt(Family::Sha512, 656_000),
             12,
             false,
         ),
-        (MakeScheme::Scrypt, scrypt(17, 8, 1), 16, true),
-        (MakeScheme::Bcrypt, MakeCost::Bcrypt(12), 16, false),
-        (MakeScheme::Yescrypt, yescrypt(12, 32, 0), 16, true),
-        (MakeScheme::Argon2id, argon2(65_536, 3, 4), 16, true),
+        (Scheme::Scrypt, scrypt(17, 8, 1), 16, true),
+        (Scheme::Bcrypt, MakeCost::Bcrypt(12), 16, false),
+        (Scheme::Yescrypt, yescrypt(12, 32, 0), 16, true),
+        (Scheme::Argon2id, argon2(65_536, 3, 4), 16, true),
         (
-            MakeScheme::Pbkdf2Sha256,
+            Scheme::Pbkdf2Sha256,
             MakeCost::Pbkdf2Sha256(600_000),
             16,
             false,
         ),
     ] {
         assert!(rt;
-            scheme.recommended() == cost && cost.scheme() == scheme,
+            recommended(scheme) == Some(cost) && cost.scheme() == scheme,
             "{scheme:?}"
         );
         assert!(rt; cost.is_taken(), "{scheme:?}");
-        let numbers = (scheme.salt_length(), scheme.needs_memory());
+        let numbers = (cost.salt_length(), cost.needs_memory());
         assert!(rt; numbers.0 == salt && numbers.1 == needs, "{scheme:?}");
-        assert!(rt;
-            scheme_named(scheme_name(scheme)) == Ok(scheme),
-            "{scheme:?}"
-        );
+        assert!(rt; scheme_named(scheme.name()) == Ok(scheme), "{scheme:?}");
+    }
+}
+
+#[test]
+fn schemes_without_texts(rt: HostRuntime) {
+    for scheme in [
+        Scheme::Md5Crypt,
+        Scheme::ScryptCrypt,
+        Scheme::Pbkdf2Sha512,
+        Scheme::Argon2d,
+        Scheme::Argon2i,
+    ] {
+        assert!(rt; recommended(scheme) == None, "{scheme:?}");
     }
 }
 
 #[test]
 fn names(rt: HostRuntime) {
     for (name, scheme) in [
-        ("sha256-crypt", MakeScheme::ShaCrypt(Family::Sha256)),
-        ("sha512-crypt", MakeScheme::ShaCrypt(Family::Sha512)),
-        ("scrypt", MakeScheme::Scrypt),
-        ("bcrypt", MakeScheme::Bcrypt),
-        ("yescrypt", MakeScheme::Yescrypt),
-        ("argon2id", MakeScheme::Argon2id),
-        ("pbkdf2-sha256", MakeScheme::Pbkdf2Sha256),
+        ("sha256-crypt", Scheme::Sha256Crypt),
+        ("sha512-crypt", Scheme::Sha512Crypt),
+        ("scrypt", Scheme::Scrypt),
+        ("bcrypt", Scheme::Bcrypt),
+        ("yescrypt", Scheme::Yescrypt),
+        ("argon2id", Scheme::Argon2id),
+        ("pbkdf2-sha256", Scheme::Pbkdf2Sha256),
     ] {
         assert!(rt; scheme_named(name) == Ok(scheme), "{name}");
-        assert!(rt; scheme_name(scheme) == name, "{name}");
     }
 }
 
@@ -486,6 +489,9 @@ fn no_names(rt: HostRuntime) {
         "argon2i",
         "scrypt ",
         "sha256",
+        "scrypt-crypt",
+        "pbkdf2-sha512",
+        "argon2d",
     ] {
         assert!(rt; scheme_named(name) == Err(NameFault::Unknown), "{name}");
     }

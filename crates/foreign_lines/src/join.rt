@@ -2,7 +2,7 @@
 
 use crate::lines::ForeignLines;
 use crate::parts::LineForm;
-use any_check::{AnyCheck, CostLimits};
+use any_check::{AnyCheck, SchemeCosts};
 use foreign_text::Foreign;
 use line_io::{Sink, Source};
 use line_program::run_lines;
@@ -18,7 +18,7 @@ use std::alloc::Global;
 pub struct ForeignJoin {
     pub alloc: Global,
     pub foreign: Foreign,
-    pub limits: Option<CostLimits>,
+    pub limits: Option<SchemeCosts>,
 }
 
 impl Joining for ForeignJoin {

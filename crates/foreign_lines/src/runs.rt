@@ -9,7 +9,7 @@ ghost use Rattle.foreign_lines.specs.Runs.{foreign_rules, foreign_user_rules};
 
 use crate::lines::ForeignLines;
 use crate::parts::LineForm;
-use any_check::CostLimits;
+use any_check::SchemeCosts;
 use foreign_text::Foreign;
 use line_io::{Sink, Source};
 use line_program::{run_ended, run_lines};
@@ -25,7 +25,7 @@ use std::alloc::Global;
 pub fn run_foreign<S: Source, K: Sink>(
     alloc: Global,
     foreign: Foreign,
-    limits: Option<CostLimits>,
+    limits: Option<SchemeCosts>,
     source: &mut S,
     sink: &mut K,
     max: u64,
@@ -47,7 +47,7 @@ pub fn run_foreign<S: Source, K: Sink>(
 pub fn run_foreign_users<S: Source, K: Sink>(
     alloc: Global,
     foreign: Foreign,
-    limits: Option<CostLimits>,
+    limits: Option<SchemeCosts>,
     source: &mut S,
     sink: &mut K,
     max: u64,

@@ -1,31 +1,53 @@
 //! Lines of foreign texts. The texts are Django's and passlib's, of the password `secret`.
 
-use any_check::CostLimits;
+use any_check::{Costs, NO_COSTS, SchemeCosts};
 use foreign_lines::{
     ForeignJoin, ForeignLines, LineForm, run_foreign, run_foreign_survey, run_foreign_users,
 };
 use foreign_text::Foreign;
 use line_io::{MemorySink, MemorySource};
 use shadow_check::{JoinEnd, run_join, run_join_fewer};
-use shadow_survey::{Format, LeastCosts, SurveyLines};
+use shadow_survey::{Format, SurveyLines};
 use std::hash::RandomState;
 use std::test::Fail;
 
 // The bounds that each text below reaches, but for that on PBKDF2.
-fn rounds_below(most: u32) -> CostLimits {
-    CostLimits {
-        sha_rounds: 5_000,
-        bcrypt_cost: 4,
-        yescrypt_ln: 2,
-        yescrypt_r: 1,
-        yescrypt_t: 0,
-        pbkdf2_rounds: most,
-        scrypt_ln: 1,
-        scrypt_r: 1,
-        scrypt_p: 1,
-        argon2_memory: 64,
-        argon2_passes: 1,
-        argon2_lanes: 1,
+fn rounds_below(most: u64) -> SchemeCosts {
+    SchemeCosts {
+        sha_crypt: Costs {
+            rounds: 5_000,
+            ..NO_COSTS
+        },
+        bcrypt: Costs {
+            cost: 4,
+            ..NO_COSTS
+        },
+        yescrypt: Costs {
+            ln: 2,
+            r: 1,
+            t: 0,
+            ..NO_COSTS
+        },
+        pbkdf2_sha256: Costs {
+            rounds: most,
+            ..NO_COSTS
+        },
+        pbkdf2_sha512: Costs {
+            rounds: most,
+            ..NO_COSTS
+        },
+        scrypt: Costs {
+            ln: 1,
+            r: 1,
+            p: 1,
+            ..NO_COSTS
+        },
+        argon2: Costs {
+            m: 64,
+            t: 1,
+            p: 1,
+            ..NO_COSTS
+        },
     }
 }
 
@@ -228,14 +250,29 @@ fn texts_with_colons(rt: HostRuntime) -> Result<(), Fail> {
     Ok(())
 }
 
-const LEAST: LeastCosts = LeastCosts {
-    sha_rounds: 1_000,
-    bcrypt_cost: 10,
-    yescrypt_ln: 12,
-    scrypt_ln: 14,
-    pbkdf2_rounds: 600_000,
-    pbkdf2_sha512_rounds: 210_000,
-    argon2_memory: 19_456,
+const LEAST: SchemeCosts = SchemeCosts {
+    sha_crypt: Costs {
+        rounds: 1_000,
+        ..NO_COSTS
+    },
+    bcrypt: Costs {
+        cost: 10,
+        ..NO_COSTS
+    },
+    yescrypt: Costs { ln: 12, ..NO_COSTS },
+    scrypt: Costs { ln: 14, ..NO_COSTS },
+    pbkdf2_sha256: Costs {
+        rounds: 600_000,
+        ..NO_COSTS
+    },
+    pbkdf2_sha512: Costs {
+        rounds: 210_000,
+        ..NO_COSTS
+    },
+    argon2: Costs {
+        m: 19_456,
+        ..NO_COSTS
+    },
 };
 
 #[test]

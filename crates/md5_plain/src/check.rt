@@ -1,9 +1,9 @@
 //! The verdict on the fields of a text.
 
-ghost use Rattle.std.specs.Prelude.{◌≡◌, ◌≤◌, Ok, length};
+ghost use Rattle.std.specs.Prelude.{◌≡◌, ◌≤◌, Ok, is_ok, length};
 ghost use Rattle.mcf.specs.Views.{fields_left};
 ghost use Rattle.phc_kdf.specs.Limits.{password_max};
-ghost use Rattle.md5_plain.specs.Verdict.{checked_fields, fields_verdict, md5_verdict, split_fields};
+ghost use Rattle.md5_plain.specs.Verdict.{checked_fields, fields_verdict, md5_fields, md5_verdict, split_fields};
 ghost use Rattle.md5_plain.specs.Views.{as_form, fields_of};
 
 use crate::{MAP_MD5, Magic, Md5Fault, md5_crypt};
@@ -70,5 +70,24 @@ pub fn md5_verdict(magic: Magic, password: &[u8], fields: Fields<'_>) -> Result<
     match split_fields(fields) {
         Err(e) => Err(e),
         Ok(parts) => check_parts(magic, password, parts),
+    }
+}
+
+// Whether the salt is short enough, and the hash is the hash field of some digest.
+fn are_valid(parts: Md5Text<'_>) -> bool
+    ensures { result ≡ is_ok (checked_fields (Ok (fields_of parts.entry))) }
+{
+    parts.salt.len() <= SALT_MAX && field_bytes::<16>(parts.hash.as_bytes()).is_some()
+}
+
+/// Whether the fields that follow an identifier have no fault: whether [`md5_verdict`] is a verdict, whatever the password.
+/// Nothing is hashed.
+#[tactic(auto, unfolding(crate::specs::Verdict::md5_fields))]
+pub fn are_md5_fields(fields: Fields<'_>) -> bool
+    ensures valid { result ≡ is_ok (md5_fields (fields_left fields.entry)) }
+{
+    match split_fields(fields) {
+        Err(_) => false,
+        Ok(parts) => are_valid(parts),
     }
 }

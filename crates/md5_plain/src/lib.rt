@@ -16,7 +16,7 @@ pub mod laws;
 mod magic;
 mod turns;
 
-pub use check::md5_verdict;
+pub use check::{are_md5_fields, md5_verdict};
 pub use error::Md5Fault;
 pub use field::{MAP_MD5, decode_md5, encode_md5};
 use magic::magic_text;

@@ -37,12 +37,10 @@ use Rattle.any_check.specs.Table.{any_verdict, is_record, of_stored, sha_scheme,
 use Rattle.any_check.proofs.Families.{sha_stored}
 use Rattle.any_check.specs.Cost.{verdict_within}
 use Rattle.any_check.proofs.Causes.{within}
-use Rattle.any_make.specs.Costs.{is_taken, password_length, scheme_of}
+use Rattle.any_make.specs.Costs.{is_taken, password_length}
 use Rattle.any_make.specs.Made.{hash_text}
 use Rattle.any_make.specs.Records.{argon2_record, pbkdf2_record, scrypt_record}
 use Rattle.any_make.specs.declared.scheme.Argon2Cost.{Argon2Cost}
-use Rattle.any_make.specs.declared.scheme.MakeScheme.{MakeScheme}
-use Rattle.any_make.specs.declared.scheme.MakeScheme.TheVariants as make
 use Rattle.yescrypt_plain.specs.declared.params.ScryptParams.{ScryptParams}
 use Rattle.any_make.specs.declared.scheme.MakeCost.{MakeCost}
 use Rattle.any_make.specs.declared.scheme.MakeCost.TheVariants as cost
@@ -251,20 +249,20 @@ made_ascii (cost.Pbkdf2Sha256 n) password salt taken short is =
 
 -- ---- the law
 
-short_enough : (s : MakeScheme) (n : ℕ) → n ≤ password_length s → n ≤ 4096
-short_enough (make.ShaCrypt family) n h = h
-short_enough make.Scrypt n h = h
-short_enough make.Bcrypt n h = omega (arith, h)
-short_enough make.Yescrypt n h = h
-short_enough make.Argon2id n h = h
-short_enough make.Pbkdf2Sha256 n h = h
+short_enough : (c : MakeCost) (n : ℕ) → n ≤ password_length c → n ≤ 4096
+short_enough (cost.ShaCrypt family rounds) n h = h
+short_enough (cost.Scrypt c) n h = h
+short_enough (cost.Bcrypt cost) n h = omega (arith, h)
+short_enough (cost.Yescrypt c) n h = h
+short_enough (cost.Argon2id c) n h = h
+short_enough (cost.Pbkdf2Sha256 rounds) n h = h
 
 pub any_matches : MadeMatches
 unfolding any_answer
 any_matches limits c password salt text below h cheap =
     let all = made_is c password salt text h in
     let taken = all.0 in
-    let short : length password ≤ 4096 = short_enough (scheme_of c) (length password) taken.short in
+    let short : length password ≤ 4096 = short_enough c (length password) taken.short in
     let verdict : any_verdict accepted tag password text ≡ Ok true = made_matches c password salt text below h in
     let own : any_verdict accepted tag password (hash_text c password salt) ≡ Ok true =
     ap (any_verdict accepted tag password) all.1 ∙ verdict in

@@ -6,8 +6,9 @@ use Rattle.bcrypt_plain.specs.declared.error.BcryptFault.TheVariants as of_bcryp
 use Rattle.yescrypt_plain.specs.declared.error.TextFault.{TextFault}
 use Rattle.yescrypt_plain.specs.declared.error.TextFault.TheVariants as of_text
 use Rattle.any_check.specs.Given.{given_may_lack, given_verdict}
+use Rattle.any_check.specs.Numbers.{of_cost, of_ln_r_p, of_ln_r_t, of_m_t_p, of_rounds}
 use Rattle.any_check.specs.Words.{any_word}
-use Rattle.any_check.specs.declared.cost.CostLimits.{CostLimits}
+use Rattle.any_check.specs.declared.numbers.SchemeCosts.{SchemeCosts}
 use Rattle.any_check.specs.declared.error.AnyError.{AnyError}
 use Rattle.any_check.specs.declared.error.AnyError.TheVariants as of_any
 use Rattle.pwcheck_c.specs.Verdicts.{are_text}
@@ -58,21 +59,16 @@ cause_answer (Err of_any.TooCostly) = OverCost
 
 -- ---- a password and a stored text
 
--- the bounds under the names of `any_check`
-abbrev pub bounds_of : Limits → CostLimits
+-- the bounds by the families of `any_check`: one on PBKDF2 with either hash function
+abbrev pub bounds_of : Limits → SchemeCosts
 bounds_of l = record {
-  sha_rounds = l.sha_rounds;
-  bcrypt_cost = l.bcrypt_cost;
-  yescrypt_ln = l.yescrypt_ln;
-  yescrypt_r = l.yescrypt_r;
-  yescrypt_t = l.yescrypt_t;
-  pbkdf2_rounds = l.pbkdf2_rounds;
-  scrypt_ln = l.scrypt_ln;
-  scrypt_r = l.scrypt_r;
-  scrypt_p = l.scrypt_p;
-  argon2_memory = l.argon2_memory;
-  argon2_passes = l.argon2_passes;
-  argon2_lanes = l.argon2_lanes;
+  sha_crypt = of_rounds l.sha_rounds;
+  bcrypt = of_cost l.bcrypt_cost;
+  yescrypt = of_ln_r_t l.yescrypt_ln l.yescrypt_r l.yescrypt_t;
+  scrypt = of_ln_r_p l.scrypt_ln l.scrypt_r l.scrypt_p;
+  pbkdf2_sha256 = of_rounds l.pbkdf2_rounds;
+  pbkdf2_sha512 = of_rounds l.pbkdf2_rounds;
+  argon2 = of_m_t_p l.argon2_memory l.argon2_passes l.argon2_lanes;
 }
 
 -- the verdict on two texts, or the first cause that there is none

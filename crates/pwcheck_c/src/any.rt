@@ -6,7 +6,7 @@ ghost use Rattle.pwcheck_c.specs.AnyAnswers.{IsAnyAnswer, IsTextAnswer, bcrypt_c
 
 use crate::answer::Answer;
 use crate::check::text_of;
-use any_check::{AnyCheck, AnyError, CostLimits};
+use any_check::{AnyCheck, AnyError, Costs, SchemeCosts};
 use bcrypt_plain::BcryptFault;
 use std::alloc::Global;
 use stored_check::StoredError;
@@ -30,23 +30,30 @@ pub struct Limits {
     pub argon2_lanes: u32,
 }
 
-// The bounds under the names of `any_check`.
-fn bounds_of(limits: &Limits) -> CostLimits
+// The bounds by the families of `any_check`.
+fn bounds_of(limits: &Limits) -> SchemeCosts
     ensures { result ≡ bounds_of limits.now }
 {
-    CostLimits {
-        sha_rounds: limits.sha_rounds as usize,
-        bcrypt_cost: limits.bcrypt_cost,
-        yescrypt_ln: limits.yescrypt_ln,
-        yescrypt_r: limits.yescrypt_r,
-        yescrypt_t: limits.yescrypt_t,
-        pbkdf2_rounds: limits.pbkdf2_rounds,
-        scrypt_ln: limits.scrypt_ln,
-        scrypt_r: limits.scrypt_r,
-        scrypt_p: limits.scrypt_p,
-        argon2_memory: limits.argon2_memory,
-        argon2_passes: limits.argon2_passes,
-        argon2_lanes: limits.argon2_lanes,
+    SchemeCosts {
+        sha_crypt: Costs::of_rounds(limits.sha_rounds as u64),
+        bcrypt: Costs::of_cost(limits.bcrypt_cost as u64),
+        yescrypt: Costs::of_ln_r_t(
+            limits.yescrypt_ln as u64,
+            limits.yescrypt_r as u64,
+            limits.yescrypt_t as u64,
+        ),
+        scrypt: Costs::of_ln_r_p(
+            limits.scrypt_ln as u64,
+            limits.scrypt_r as u64,
+            limits.scrypt_p as u64,
+        ),
+        pbkdf2_sha256: Costs::of_rounds(limits.pbkdf2_rounds as u64),
+        pbkdf2_sha512: Costs::of_rounds(limits.pbkdf2_rounds as u64),
+        argon2: Costs::of_m_t_p(
+            limits.argon2_memory as u64,
+            limits.argon2_passes as u64,
+            limits.argon2_lanes as u64,
+        ),
     }
 }
 

@@ -3,7 +3,7 @@
 ghost use Rattle.std.specs.Prelude.{◌≡◌, ◌⊎◌, Ok, false, take, true};
 ghost use Rattle.any_check.specs.Records.{accepted, tag};
 ghost use Rattle.any_check.specs.Table.{any_verdict};
-ghost use Rattle.any_make.specs.Costs.{needs_memory, scheme_of};
+ghost use Rattle.any_make.specs.Costs.{needs_memory};
 ghost use Rattle.any_make.specs.Made.{made};
 ghost use Rattle.pwcheck_c.specs.Made.{IsMade, IsMadeOrLacks, argon2id_cost, fault_status, yescrypt_cost};
 ghost use Rattle.pwcheck_c.specs.Statuses.{status_done};
@@ -39,7 +39,7 @@ fn make(
     len: &mut usize,
 ) -> i32
     ensures made { IsMadeOrLacks (made cost password.now salt.now) out.old out.new len.old len.new result }
-    ensures memory { needs_memory (scheme_of cost) ≡ false
+    ensures memory { needs_memory cost ≡ false
         → IsMade (made cost password.now salt.now) out.old out.new len.old len.new result }
     ensures matches { result ≡ status_done → any_verdict accepted tag password.now (take len.new out.new) ≡ Ok true }
 {

@@ -1,46 +1,95 @@
-//! The bound on cost that the command line gives.
+//! The bound on cost that the command line gives, and the least cost that isn't weak.
 
-use any_check::CostLimits;
+use any_check::{Costs, NO_COSTS, SchemeCosts};
 use clap::ArgMatches;
-use shadow_survey::LeastCosts;
 
 /// The most that each scheme takes: no valid text is above it.
-const SCHEMES_OWN: CostLimits = CostLimits {
-    sha_rounds: 999_999_999,
-    bcrypt_cost: 31,
-    yescrypt_ln: 23,
-    yescrypt_r: 524_287,
-    yescrypt_t: 1_024,
-    pbkdf2_rounds: 10_000_000,
-    scrypt_ln: 24,
-    scrypt_r: 131_072,
-    scrypt_p: 1_024,
-    argon2_memory: 2_097_152,
-    argon2_passes: 2_097_152,
-    argon2_lanes: 262_144,
+const SCHEMES_OWN: SchemeCosts = SchemeCosts {
+    sha_crypt: Costs {
+        rounds: 999_999_999,
+        ..NO_COSTS
+    },
+    bcrypt: Costs {
+        cost: 31,
+        ..NO_COSTS
+    },
+    yescrypt: Costs {
+        ln: 23,
+        r: 524_287,
+        t: 1_024,
+        ..NO_COSTS
+    },
+    scrypt: Costs {
+        ln: 24,
+        r: 131_072,
+        p: 1_024,
+        ..NO_COSTS
+    },
+    pbkdf2_sha256: Costs {
+        rounds: 10_000_000,
+        ..NO_COSTS
+    },
+    pbkdf2_sha512: Costs {
+        rounds: 10_000_000,
+        ..NO_COSTS
+    },
+    argon2: Costs {
+        m: 2_097_152,
+        t: 2_097_152,
+        p: 262_144,
+        ..NO_COSTS
+    },
 };
 
-// The number of an option, or the scheme's own.
-fn number(matches: &ArgMatches<'_>, option: &str, most: u32) -> u32 {
-    matches.get_one::<u32>(option).unwrap_or(most)
+// The number of an option, or this one.
+fn number(matches: &ArgMatches<'_>, option: &str, number: u64) -> u64 {
+    match matches.get_one::<u32>(option) {
+        Some(n) => n as u64,
+        None => number,
+    }
+}
+
+// The numbers of yescrypt, of scrypt and of Argon2 that the command line allows.
+fn most_of_yescrypt(matches: &ArgMatches<'_>, own: &Costs) -> Costs {
+    Costs::of_ln_r_t(
+        number(matches, "max-yescrypt-ln", own.ln),
+        number(matches, "max-yescrypt-r", own.r),
+        number(matches, "max-yescrypt-t", own.t),
+    )
+}
+
+fn most_of_scrypt(matches: &ArgMatches<'_>, own: &Costs) -> Costs {
+    Costs::of_ln_r_p(
+        number(matches, "max-scrypt-ln", own.ln),
+        number(matches, "max-scrypt-r", own.r),
+        number(matches, "max-scrypt-p", own.p),
+    )
+}
+
+fn most_of_argon2(matches: &ArgMatches<'_>, own: &Costs) -> Costs {
+    Costs::of_m_t_p(
+        number(matches, "max-argon2-memory", own.m),
+        number(matches, "max-argon2-passes", own.t),
+        number(matches, "max-argon2-lanes", own.p),
+    )
+}
+
+// Rounds, as an option gives them.
+fn rounds(matches: &ArgMatches<'_>, option: &str, otherwise: &Costs) -> Costs {
+    Costs::of_rounds(number(matches, option, otherwise.rounds))
 }
 
 /// The bound of the command line; none where each number is the scheme's own.
-pub fn bound_of(matches: &ArgMatches<'_>) -> Option<CostLimits> {
+pub fn bound_of(matches: &ArgMatches<'_>) -> Option<SchemeCosts> {
     let own = &SCHEMES_OWN;
-    let limits = CostLimits {
-        sha_rounds: number(matches, "max-sha-rounds", own.sha_rounds as u32) as usize,
-        bcrypt_cost: number(matches, "max-bcrypt-cost", own.bcrypt_cost),
-        yescrypt_ln: number(matches, "max-yescrypt-ln", own.yescrypt_ln),
-        yescrypt_r: number(matches, "max-yescrypt-r", own.yescrypt_r),
-        yescrypt_t: number(matches, "max-yescrypt-t", own.yescrypt_t),
-        pbkdf2_rounds: number(matches, "max-pbkdf2-rounds", own.pbkdf2_rounds),
-        scrypt_ln: number(matches, "max-scrypt-ln", own.scrypt_ln),
-        scrypt_r: number(matches, "max-scrypt-r", own.scrypt_r),
-        scrypt_p: number(matches, "max-scrypt-p", own.scrypt_p),
-        argon2_memory: number(matches, "max-argon2-memory", own.argon2_memory),
-        argon2_passes: number(matches, "max-argon2-passes", own.argon2_passes),
-        argon2_lanes: number(matches, "max-argon2-lanes", own.argon2_lanes),
+    let limits = SchemeCosts {
+        sha_crypt: rounds(matches, "max-sha-rounds", &own.sha_crypt),
+        bcrypt: Costs::of_cost(number(matches, "max-bcrypt-cost", own.bcrypt.cost)),
+        yescrypt: most_of_yescrypt(matches, &own.yescrypt),
+        scrypt: most_of_scrypt(matches, &own.scrypt),
+        pbkdf2_sha256: rounds(matches, "max-pbkdf2-rounds", &own.pbkdf2_sha256),
+        pbkdf2_sha512: rounds(matches, "max-pbkdf2-rounds", &own.pbkdf2_sha512),
+        argon2: most_of_argon2(matches, &own.argon2),
     };
     if limits == SCHEMES_OWN {
         return None;
@@ -49,37 +98,52 @@ pub fn bound_of(matches: &ArgMatches<'_>) -> Option<CostLimits> {
 }
 
 /// The least costs that aren't weak, where the command line gives none.
-const LEAST: LeastCosts = LeastCosts {
-    sha_rounds: 5_000,
-    bcrypt_cost: 10,
-    yescrypt_ln: 12,
-    scrypt_ln: 14,
-    pbkdf2_rounds: 600_000,
-    pbkdf2_sha512_rounds: 210_000,
-    argon2_memory: 19_456,
+const LEAST: SchemeCosts = SchemeCosts {
+    sha_crypt: Costs {
+        rounds: 5_000,
+        ..NO_COSTS
+    },
+    bcrypt: Costs {
+        cost: 10,
+        ..NO_COSTS
+    },
+    yescrypt: Costs { ln: 12, ..NO_COSTS },
+    scrypt: Costs { ln: 14, ..NO_COSTS },
+    pbkdf2_sha256: Costs {
+        rounds: 600_000,
+        ..NO_COSTS
+    },
+    pbkdf2_sha512: Costs {
+        rounds: 210_000,
+        ..NO_COSTS
+    },
+    argon2: Costs {
+        m: 19_456,
+        ..NO_COSTS
+    },
 };
 
-// The number of an option, or this one.
-fn least(matches: &ArgMatches<'_>, option: &str, number: u64) -> u64 {
-    match matches.get_one::<u32>(option) {
-        Some(n) => n as u64,
-        None => number,
+// The least binary logarithm of N.
+fn least_ln(matches: &ArgMatches<'_>, option: &str, otherwise: &Costs) -> Costs {
+    Costs {
+        ln: number(matches, option, otherwise.ln),
+        ..NO_COSTS
     }
 }
 
 /// The least costs that aren't weak, as the command line gives them.
-pub fn least_of(matches: &ArgMatches<'_>) -> LeastCosts {
-    LeastCosts {
-        sha_rounds: least(matches, "least-sha-rounds", LEAST.sha_rounds),
-        bcrypt_cost: least(matches, "least-bcrypt-cost", LEAST.bcrypt_cost),
-        yescrypt_ln: least(matches, "least-yescrypt-ln", LEAST.yescrypt_ln),
-        scrypt_ln: least(matches, "least-scrypt-ln", LEAST.scrypt_ln),
-        pbkdf2_rounds: least(matches, "least-pbkdf2-rounds", LEAST.pbkdf2_rounds),
-        pbkdf2_sha512_rounds: least(
-            matches,
-            "least-pbkdf2-sha512-rounds",
-            LEAST.pbkdf2_sha512_rounds,
-        ),
-        argon2_memory: least(matches, "least-argon2-memory", LEAST.argon2_memory),
+pub fn least_of(matches: &ArgMatches<'_>) -> SchemeCosts {
+    let least = &LEAST;
+    SchemeCosts {
+        sha_crypt: rounds(matches, "least-sha-rounds", &least.sha_crypt),
+        bcrypt: Costs::of_cost(number(matches, "least-bcrypt-cost", least.bcrypt.cost)),
+        yescrypt: least_ln(matches, "least-yescrypt-ln", &least.yescrypt),
+        scrypt: least_ln(matches, "least-scrypt-ln", &least.scrypt),
+        pbkdf2_sha256: rounds(matches, "least-pbkdf2-rounds", &least.pbkdf2_sha256),
+        pbkdf2_sha512: rounds(matches, "least-pbkdf2-sha512-rounds", &least.pbkdf2_sha512),
+        argon2: Costs {
+            m: number(matches, "least-argon2-memory", least.argon2.m),
+            ..NO_COSTS
+        },
     }
 }

@@ -5,7 +5,7 @@ ghost use Rattle.line_program.specs.Outcome.{Outcome, RunTold};
 ghost use Rattle.shadow_check.specs.Lines.{any_line_rules};
 ghost use Rattle.shadow_check.specs.Users.{user_line_rules};
 
-use any_check::CostLimits;
+use any_check::SchemeCosts;
 use line_io::{INPUT_MAX, Sink, Source};
 use shadow_check::{run_any, run_users};
 use std::alloc::Global;
@@ -16,7 +16,7 @@ use std::alloc::Global;
 /// `too-costly`. Statuses and memory are those of [`run_any`].
 pub fn check_lines<S: Source, K: Sink>(
     alloc: Global,
-    limits: Option<CostLimits>,
+    limits: Option<SchemeCosts>,
     source: &mut S,
     sink: &mut K,
 ) -> u8
@@ -30,7 +30,7 @@ pub fn check_lines<S: Source, K: Sink>(
 /// those of [`run_users`].
 pub fn check_users<S: Source, K: Sink>(
     alloc: Global,
-    limits: Option<CostLimits>,
+    limits: Option<SchemeCosts>,
     source: &mut S,
     sink: &mut K,
 ) -> u8

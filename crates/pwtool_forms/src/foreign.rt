@@ -11,7 +11,7 @@ ghost use Rattle.shadow_check.specs.JoinOutcome.{JoinOutcome, status_of};
 ghost use Rattle.foreign_lines.specs.Rules.{foreign_state};
 ghost use Rattle.foreign_lines.specs.Runs.{foreign_joined_rules, foreign_rules, foreign_user_rules};
 
-use any_check::CostLimits;
+use any_check::SchemeCosts;
 use foreign_lines::{
     ForeignJoin, ForeignLines, run_foreign, run_foreign_survey, run_foreign_users,
 };
@@ -29,7 +29,7 @@ use std::hash::RandomState;
 pub fn check_foreign<S: Source, K: Sink>(
     alloc: Global,
     foreign: Foreign,
-    limits: Option<CostLimits>,
+    limits: Option<SchemeCosts>,
     source: &mut S,
     sink: &mut K,
 ) -> u8
@@ -43,7 +43,7 @@ pub fn check_foreign<S: Source, K: Sink>(
 pub fn check_foreign_users<S: Source, K: Sink>(
     alloc: Global,
     foreign: Foreign,
-    limits: Option<CostLimits>,
+    limits: Option<SchemeCosts>,
     source: &mut S,
     sink: &mut K,
 ) -> u8
@@ -75,7 +75,7 @@ pub fn join_foreign<P: Source, T: Source, K: Sink>(
     alloc: Global,
     keys: RandomState,
     foreign: Foreign,
-    limits: Option<CostLimits>,
+    limits: Option<SchemeCosts>,
     passwords: &mut P,
     texts: &mut T,
     sink: &mut K,
@@ -101,7 +101,7 @@ pub fn join_foreign_fewer<U: Source, P: Source, T: Source, K: Sink>(
     alloc: Global,
     keys: RandomState,
     foreign: Foreign,
-    limits: Option<CostLimits>,
+    limits: Option<SchemeCosts>,
     users: &mut U,
     passwords: &mut P,
     texts: &mut T,

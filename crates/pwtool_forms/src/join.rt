@@ -8,7 +8,7 @@ ghost use Rattle.shadow_check.specs.Join.{joined_rules};
 ghost use Rattle.shadow_check.specs.JoinOutcome.{JoinOutcome, status_of};
 ghost use Rattle.shadow_check.specs.NoText.{NoTextOutcome};
 
-use any_check::CostLimits;
+use any_check::SchemeCosts;
 use line_io::{INPUT_MAX, Sink, Source};
 use shadow_check::{JoinEnd, TextJoin, run_join, run_join_fewer, run_no_text};
 use std::alloc::Global;
@@ -20,7 +20,7 @@ use std::hash::RandomState;
 pub fn join_files<P: Source, T: Source, K: Sink>(
     alloc: Global,
     keys: RandomState,
-    limits: Option<CostLimits>,
+    limits: Option<SchemeCosts>,
     passwords: &mut P,
     texts: &mut T,
     sink: &mut K,
@@ -43,7 +43,7 @@ pub fn join_files<P: Source, T: Source, K: Sink>(
 pub fn join_fewer<U: Source, P: Source, T: Source, K: Sink>(
     alloc: Global,
     keys: RandomState,
-    limits: Option<CostLimits>,
+    limits: Option<SchemeCosts>,
     users: &mut U,
     passwords: &mut P,
     texts: &mut T,

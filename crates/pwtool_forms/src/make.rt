@@ -6,8 +6,9 @@ ghost use Rattle.pwtool_forms.specs.Make.{end_status};
 
 use crate::fault::say;
 use crate::status::BAD_WORDS;
+use any_check::CostFamily;
 use any_make::{
-    Argon2Cost, MakeCost, MakeEnd, MakeFault, MakeScheme, NameFault, run_make, scheme_named,
+    Argon2Cost, MakeCost, MakeEnd, MakeFault, NameFault, recommended, run_make, scheme_named,
 };
 use clap::ArgMatches;
 use line_io::{StdSink, StdSource};
@@ -57,31 +58,34 @@ const OPTIONS: [&str; 9] = [
     "rounds", "cost", "ln", "r", "p", "t", "memory", "passes", "lanes",
 ];
 
-// Whether an option names a cost of a scheme.
-fn is_option_of(scheme: MakeScheme, option: &str) -> bool {
-    match scheme {
-        MakeScheme::ShaCrypt(_) | MakeScheme::Pbkdf2Sha256 => option == "rounds",
-        MakeScheme::Scrypt => option == "ln" || option == "r" || option == "p",
-        MakeScheme::Bcrypt => option == "cost",
-        MakeScheme::Yescrypt => option == "ln" || option == "r" || option == "t",
-        MakeScheme::Argon2id => option == "memory" || option == "passes" || option == "lanes",
+// Whether an option names a cost of a family of schemes.
+fn is_option_of(family: CostFamily, option: &str) -> bool {
+    match family {
+        CostFamily::Md5Crypt => false,
+        CostFamily::ShaCrypt | CostFamily::Pbkdf2Sha256 | CostFamily::Pbkdf2Sha512 => {
+            option == "rounds"
+        }
+        CostFamily::Scrypt => option == "ln" || option == "r" || option == "p",
+        CostFamily::Bcrypt => option == "cost",
+        CostFamily::Yescrypt => option == "ln" || option == "r" || option == "t",
+        CostFamily::Argon2 => option == "memory" || option == "passes" || option == "lanes",
     }
 }
 
 // The option that is given though it names no cost of the scheme.
-fn other_option(matches: &ArgMatches<'_>, scheme: MakeScheme) -> Option<&'static str> {
+fn other_option(matches: &ArgMatches<'_>, family: CostFamily) -> Option<&'static str> {
     for option in OPTIONS {
-        if matches.get_one::<u32>(option).is_some() && !is_option_of(scheme, option) {
+        if matches.get_one::<u32>(option).is_some() && !is_option_of(family, option) {
             return Some(option);
         }
     }
     None
 }
 
-// The scheme that is named; what is said where there is none tells why.
-fn scheme_of(rt: &HostRuntime, name: &str) -> Option<MakeScheme> {
+// The recommended cost of the scheme that is named; what is said where there is none tells why.
+fn recommended_of(rt: &HostRuntime, name: &str) -> Option<MakeCost> {
     match scheme_named(name) {
-        Ok(scheme) => Some(scheme),
+        Ok(scheme) => recommended(scheme),
         Err(NameFault::Weak) => {
             let _ = eprintln!(rt;
                 "pwtool: {name}: no text of it is made, as 1,000 rounds of MD5 are too weak"
@@ -151,7 +155,7 @@ const SALT_MAX: usize = 16;
 // Makes the text of the first line of standard input, with a salt from the system's random source.
 fn make(rt: &HostRuntime, cost: MakeCost) -> u8 {
     let mut bytes = [0; SALT_MAX];
-    let salt = &mut bytes[..cost.scheme().salt_length()];
+    let salt = &mut bytes[..cost.salt_length()];
     if rt.fill_bytes(salt).is_err() {
         say(rt, "the system gives no random bytes");
         return READ_FAULT;
@@ -164,14 +168,14 @@ fn make(rt: &HostRuntime, cost: MakeCost) -> u8 {
 /// Makes the text of the password on standard input, and gives the status.
 pub fn make_form(rt: &HostRuntime, matches: &ArgMatches<'_>) -> u8 {
     let name = matches.get_str("SCHEME").unwrap_or("");
-    let Some(scheme) = scheme_of(rt, name) else {
+    let Some(recommended) = recommended_of(rt, name) else {
         return BAD_WORDS;
     };
-    if let Some(option) = other_option(matches, scheme) {
+    if let Some(option) = other_option(matches, recommended.scheme().family()) {
         let _ = eprintln!(rt; "pwtool: --{option}: it is no cost of {name}");
         return BAD_WORDS;
     }
-    let cost = cost_of(matches, scheme.recommended());
+    let cost = cost_of(matches, recommended);
     if !cost.is_taken() {
         let _ = eprintln!(rt;
             "pwtool: {name}: it doesn't take the cost: 'pwtool make --help' has the ranges"

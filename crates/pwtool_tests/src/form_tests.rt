@@ -1,15 +1,14 @@
 //! What of the command line reaches the runs, its options and their defaults, over readers and writers in memory; what goes
 //! through a tally; and that each cause is said.
 
-use any_check::CostLimits;
-use any_make::{MakeCost, MakeEnd, MakeFault, scheme_named};
+use any_check::{Costs, NO_COSTS, SchemeCosts};
+use any_make::{MakeCost, MakeEnd, MakeFault, recommended, scheme_named};
 use pwtool_cli::{command, table_form};
 use pwtool_forms::bounds::{bound_of, least_of};
 use pwtool_forms::form::{answer, survey, survey_of};
 use pwtool_forms::make::{cost_of, told};
 use pwtool_forms::reports;
 use pwtool_forms::tally::{Counts, Tally};
-use shadow_survey::LeastCosts;
 use std::cell::Cell;
 use std::fmt::Display;
 use std::hash::{BuildHasher, RandomState};
@@ -195,7 +194,10 @@ fn costs_of_make(rt: HostRuntime) -> Result<(), Fail> {
         let Ok(scheme) = scheme_named(matches.get_str("SCHEME").unwrap_or("")) else {
             panic!(rt; "a scheme is named")
         };
-        let given = numbers_of(cost_of(matches, scheme.recommended()));
+        let Some(cost) = recommended(scheme) else {
+            panic!(rt; "texts of it are made")
+        };
+        let given = numbers_of(cost_of(matches, cost));
         assert!(rt; given == numbers, "{words:?}: {given:?}");
     }
     Ok(())
@@ -329,19 +331,14 @@ fn bounds_by_options(rt: HostRuntime) -> Result<(), Fail> {
         "--max-argon2-lanes",
         "15",
     ];
-    let limits = CostLimits {
-        sha_rounds: 1_001,
-        bcrypt_cost: 5,
-        yescrypt_ln: 6,
-        yescrypt_r: 7,
-        yescrypt_t: 8,
-        pbkdf2_rounds: 9,
-        scrypt_ln: 10,
-        scrypt_r: 11,
-        scrypt_p: 12,
-        argon2_memory: 13,
-        argon2_passes: 14,
-        argon2_lanes: 15,
+    let limits = SchemeCosts {
+        sha_crypt: Costs::of_rounds(1_001),
+        bcrypt: Costs::of_cost(5),
+        yescrypt: Costs::of_ln_r_t(6, 7, 8),
+        pbkdf2_sha256: Costs::of_rounds(9),
+        pbkdf2_sha512: Costs::of_rounds(9),
+        scrypt: Costs::of_ln_r_p(10, 11, 12),
+        argon2: Costs::of_m_t_p(13, 14, 15),
     };
     let Ok(matches) = command(rt.alloc())?.try_get_matches_from(&words) else {
         panic!(rt; "the words are of a form")
@@ -375,14 +372,14 @@ fn least_costs_by_options(rt: HostRuntime) -> Result<(), Fail> {
         "--csv",
         "--json",
     ];
-    let least = LeastCosts {
-        sha_rounds: 1,
-        bcrypt_cost: 2,
-        yescrypt_ln: 3,
-        scrypt_ln: 4,
-        pbkdf2_rounds: 5,
-        pbkdf2_sha512_rounds: 7,
-        argon2_memory: 6,
+    let least = SchemeCosts {
+        sha_crypt: Costs::of_rounds(1),
+        bcrypt: Costs::of_cost(2),
+        yescrypt: Costs { ln: 3, ..NO_COSTS },
+        scrypt: Costs { ln: 4, ..NO_COSTS },
+        pbkdf2_sha256: Costs::of_rounds(5),
+        pbkdf2_sha512: Costs::of_rounds(7),
+        argon2: Costs { m: 6, ..NO_COSTS },
     };
     let Ok(matches) = command(rt.alloc())?.try_get_matches_from(&words) else {
         panic!(rt; "the words are of a form")

@@ -1,38 +1,75 @@
 //! Each form over sources and sinks in memory, which have ample memory: the answer and the whole output. The texts are
 //! openssl's, of the password `secret`.
 
-use any_check::CostLimits;
+use any_check::{Costs, NO_COSTS, SchemeCosts};
 use line_io::{MemorySink, MemorySource};
 use pwtool_forms::{check_lines, check_users, join_fewer, join_files, survey_lines, tell_no_text};
 use shadow_check::JoinEnd;
-use shadow_survey::{Format, LeastCosts, SurveyLines};
+use shadow_survey::{Format, SurveyLines};
 use std::hash::RandomState;
 use std::test::Fail;
 
 // The least bound of each scheme.
-const LIMITS: CostLimits = CostLimits {
-    sha_rounds: 1_000,
-    bcrypt_cost: 4,
-    yescrypt_ln: 2,
-    yescrypt_r: 1,
-    yescrypt_t: 0,
-    pbkdf2_rounds: 1,
-    scrypt_ln: 1,
-    scrypt_r: 1,
-    scrypt_p: 1,
-    argon2_memory: 8,
-    argon2_passes: 1,
-    argon2_lanes: 1,
+const LIMITS: SchemeCosts = SchemeCosts {
+    sha_crypt: Costs {
+        rounds: 1_000,
+        ..NO_COSTS
+    },
+    bcrypt: Costs {
+        cost: 4,
+        ..NO_COSTS
+    },
+    yescrypt: Costs {
+        ln: 2,
+        r: 1,
+        t: 0,
+        ..NO_COSTS
+    },
+    pbkdf2_sha256: Costs {
+        rounds: 1,
+        ..NO_COSTS
+    },
+    pbkdf2_sha512: Costs {
+        rounds: 1,
+        ..NO_COSTS
+    },
+    scrypt: Costs {
+        ln: 1,
+        r: 1,
+        p: 1,
+        ..NO_COSTS
+    },
+    argon2: Costs {
+        m: 8,
+        t: 1,
+        p: 1,
+        ..NO_COSTS
+    },
 };
 
-const LEAST: LeastCosts = LeastCosts {
-    sha_rounds: 5_000,
-    bcrypt_cost: 10,
-    yescrypt_ln: 12,
-    scrypt_ln: 14,
-    pbkdf2_rounds: 600_000,
-    pbkdf2_sha512_rounds: 210_000,
-    argon2_memory: 19_456,
+const LEAST: SchemeCosts = SchemeCosts {
+    sha_crypt: Costs {
+        rounds: 5_000,
+        ..NO_COSTS
+    },
+    bcrypt: Costs {
+        cost: 10,
+        ..NO_COSTS
+    },
+    yescrypt: Costs { ln: 12, ..NO_COSTS },
+    scrypt: Costs { ln: 14, ..NO_COSTS },
+    pbkdf2_sha256: Costs {
+        rounds: 600_000,
+        ..NO_COSTS
+    },
+    pbkdf2_sha512: Costs {
+        rounds: 210_000,
+        ..NO_COSTS
+    },
+    argon2: Costs {
+        m: 19_456,
+        ..NO_COSTS
+    },
 };
 
 const LINES: &[u8] = b"secret\t$1$abcdefgh$cHJi5PXp/ki/ktXzqlk6I1\n\
@@ -48,7 +85,7 @@ const TEXTS: &[u8] = b"root:!:19000:0:99999:7:::\n\
 const PASSWORDS: &[u8] = b"bob:secret\nann:secret\neve:secret\n";
 
 // Whether lines begin with a user, the bound, what is written for the two lines, and the status.
-const BOUNDS: [(bool, Option<CostLimits>, &[u8], u8); 4] = [
+const BOUNDS: [(bool, Option<SchemeCosts>, &[u8], u8); 4] = [
     (false, None, b"match\nmatch\n", 0),
     (false, Some(LIMITS), b"match\ntoo-costly\n", 1),
     (true, None, b"ann\tmatch\neve\tmatch\n", 0),
@@ -93,7 +130,7 @@ fn rows_of_a_survey(rt: HostRuntime) {
 }
 
 // The bound, and what is written for the users of the texts.
-const JOINED: [(Option<CostLimits>, &[u8]); 2] = [
+const JOINED: [(Option<SchemeCosts>, &[u8]); 2] = [
     (None, b"root\tlocked\nann\tmatch\neve\tmatch\n"),
     (Some(LIMITS), b"root\tlocked\nann\tmatch\neve\ttoo-costly\n"),
 ];

@@ -1,9 +1,9 @@
 -- The schemes of stored texts, one row each, and which of them an identifier names.
-use Rattle.std.specs.Prelude.{ℕ, Bool, true, false, List, [], ◌∷◌, nat_eq, Option, Some, None, if◌then◌else◌, codes}
+use Rattle.std.specs.Prelude.{ℕ, Bool, true, false, List, [], ◌∷◌, ◌++◌, nat_eq, Option, Some, None, if◌then◌else◌, codes}
 use Rattle.std.specs.Cmp.Lexicographic.{pointwise}
-use Rattle.std.specs.List.{list_any}
-use Rattle.scheme_list.specs.declared.schemes.Numbers.{Numbers}
-use Rattle.scheme_list.specs.declared.schemes.Numbers.TheVariants.{Cost, LnRP, LnRT, MTP, Nothing, Rounds}
+use Rattle.std.specs.List.{list_any, starts_with}
+use Rattle.scheme_list.specs.declared.schemes.CostFamily.{CostFamily}
+use Rattle.scheme_list.specs.declared.schemes.CostFamily.TheVariants as of
 use Rattle.scheme_list.specs.declared.schemes.Scheme.{Scheme}
 use Rattle.scheme_list.specs.declared.schemes.Scheme.TheVariants.{Argon2d, Argon2i, Argon2id, Bcrypt, Md5Crypt, Pbkdf2Sha256}
 use Rattle.scheme_list.specs.declared.schemes.Scheme.TheVariants.{Pbkdf2Sha512, Scrypt, ScryptCrypt, Sha256Crypt, Sha512Crypt, Yescrypt}
@@ -16,36 +16,71 @@ pub record Row : Type 0 where
   pub identifiers : List (List ℕ)
   -- its name
   pub name : List ℕ
-  -- the numbers that its texts ask for
-  pub numbers : Numbers
+  -- which numbers its texts ask for
+  pub family : CostFamily
   -- its texts are records in the PHC string format
   pub is_record : Bool
   -- its texts are weak whatever they ask for
   pub is_weak : Bool
+  -- texts of it are made of new passwords
+  pub is_made : Bool
+  -- the prefixes of its settings, where it is a method of crypt(3) (crypt(5))
+  pub prefixes : List (List ℕ)
 
--- a text of crypt(3), and a record
-abbrev crypt : List (List ℕ) → List ℕ → Numbers → Row
-crypt identifiers name numbers =
-    record { identifiers = identifiers; name = name; numbers = numbers; is_record = false; is_weak = false }
+-- a method of crypt(3) with one prefix, and a record; of neither texts are made
+abbrev crypt : List ℕ → List ℕ → CostFamily → Row
+crypt identifier name family = record {
+  identifiers = identifier ∷ [];
+  name = name;
+  family = family;
+  is_record = false;
+  is_weak = false;
+  is_made = false;
+  prefixes = (36 ∷ (identifier ++ 36 ∷ [])) ∷ [];
+}
 
-abbrev phc : List ℕ → Numbers → Row
-phc name numbers =
-    record { identifiers = name ∷ []; name = name; numbers = numbers; is_record = true; is_weak = false }
+abbrev phc : List ℕ → CostFamily → Row
+phc name family = record {
+  identifiers = name ∷ [];
+  name = name;
+  family = family;
+  is_record = true;
+  is_weak = false;
+  is_made = false;
+  prefixes = [];
+}
 
--- md5-crypt's 1,000 rounds are too few; `apr1` is of Apache's htpasswd; `2` and `2x` are bcrypt's obsolete identifiers
+-- the same of which texts are made
+abbrev made : Row → Row
+made row = record row { is_made = true }
+
+-- md5-crypt's 1,000 rounds are too few; `apr1` is of Apache's htpasswd
+abbrev md5_row : Row
+md5_row = record (crypt (codes "1") (codes "md5-crypt") of.Md5Crypt) {
+  identifiers = codes "1" ∷ codes "apr1" ∷ [];
+  is_weak = true;
+}
+
+-- `2` and `2x` are bcrypt's obsolete identifiers
+abbrev bcrypt_row : Row
+bcrypt_row = record (made (crypt (codes "2b") (codes "bcrypt") of.Bcrypt)) {
+  identifiers = codes "2a" ∷ codes "2b" ∷ codes "2y" ∷ codes "2" ∷ codes "2x" ∷ [];
+  prefixes = codes "$2a$" ∷ codes "$2b$" ∷ codes "$2y$" ∷ [];
+}
+
 abbrev pub row_of : Scheme → Row
-row_of Md5Crypt = record (crypt (codes "1" ∷ codes "apr1" ∷ []) (codes "md5-crypt") Nothing) { is_weak = true }
-row_of Sha256Crypt = crypt (codes "5" ∷ []) (codes "sha256-crypt") Rounds
-row_of Sha512Crypt = crypt (codes "6" ∷ []) (codes "sha512-crypt") Rounds
-row_of Bcrypt = crypt (codes "2a" ∷ codes "2b" ∷ codes "2y" ∷ codes "2" ∷ codes "2x" ∷ []) (codes "bcrypt") Cost
-row_of Yescrypt = crypt (codes "y" ∷ []) (codes "yescrypt") LnRT
-row_of ScryptCrypt = crypt (codes "7" ∷ []) (codes "scrypt-crypt") LnRP
-row_of Scrypt = phc (codes "scrypt") LnRP
-row_of Pbkdf2Sha256 = phc (codes "pbkdf2-sha256") Rounds
-row_of Pbkdf2Sha512 = phc (codes "pbkdf2-sha512") Rounds
-row_of Argon2d = phc (codes "argon2d") MTP
-row_of Argon2i = phc (codes "argon2i") MTP
-row_of Argon2id = phc (codes "argon2id") MTP
+row_of Md5Crypt = md5_row
+row_of Sha256Crypt = made (crypt (codes "5") (codes "sha256-crypt") of.ShaCrypt)
+row_of Sha512Crypt = made (crypt (codes "6") (codes "sha512-crypt") of.ShaCrypt)
+row_of Bcrypt = bcrypt_row
+row_of Yescrypt = made (crypt (codes "y") (codes "yescrypt") of.Yescrypt)
+row_of ScryptCrypt = crypt (codes "7") (codes "scrypt-crypt") of.Scrypt
+row_of Scrypt = made (phc (codes "scrypt") of.Scrypt)
+row_of Pbkdf2Sha256 = made (phc (codes "pbkdf2-sha256") of.Pbkdf2Sha256)
+row_of Pbkdf2Sha512 = phc (codes "pbkdf2-sha512") of.Pbkdf2Sha512
+row_of Argon2d = phc (codes "argon2d") of.Argon2
+row_of Argon2i = phc (codes "argon2i") of.Argon2
+row_of Argon2id = made (phc (codes "argon2id") of.Argon2)
 
 -- ---- the schemes in the order in which they are told
 
@@ -69,7 +104,7 @@ place Argon2d = 9
 place Argon2i = 10
 place Argon2id = 11
 
--- ---- which scheme has an identifier, or a name
+-- ---- which scheme has an identifier, a name, or a prefix
 
 -- two texts are the same
 abbrev pub same : List ℕ → List ℕ → Bool
@@ -83,6 +118,10 @@ has_identifier identifier scheme = list_any (same identifier) (row_of scheme).id
 abbrev pub has_name : List ℕ → Scheme → Bool
 has_name name scheme = same name (row_of scheme).name
 
+-- a setting of crypt(3) begins with one of the scheme's prefixes
+abbrev pub has_prefix : List ℕ → Scheme → Bool
+has_prefix setting scheme = list_any (λ (prefix : List ℕ). starts_with nat_eq setting prefix) (row_of scheme).prefixes
+
 -- the first scheme of which something holds
 abbrev pub look_up : (Scheme → Bool) → List Scheme → Option Scheme
 look_up holds [] = None
@@ -91,3 +130,11 @@ look_up holds (scheme ∷ others) = if holds scheme then Some scheme else look_u
 -- the scheme of an identifier, if one has it
 abbrev pub scheme_named : List ℕ → Option Scheme
 scheme_named identifier = look_up (has_identifier identifier) schemes
+
+-- the scheme of a name, if one has it
+abbrev pub scheme_of_name : List ℕ → Option Scheme
+scheme_of_name name = look_up (has_name name) schemes
+
+-- the scheme whose method answers a setting, if there is one
+abbrev pub method_of : List ℕ → Option Scheme
+method_of setting = look_up (has_prefix setting) schemes

@@ -1,11 +1,16 @@
-//! The schemes of stored texts: one enumeration, and one table from the identifier of a text to its scheme.
+//! The schemes of stored texts: one enumeration, and one table with a row for each.
 //!
-//! What a text of a scheme is, and how it is checked, is the scheme's own crate's. The table is `specs/Schemes.antt`. To add a
-//! scheme: a variant of [`Scheme`], a row for each of its identifiers, and an arm in each function here.
+//! A row has the identifiers, the name, the numbers that a text asks for, and whether texts of it are made, are weak, and are
+//! answered by crypt(3). What a text of a scheme is, and how it is checked, is the scheme's own crate's. The table is
+//! `specs/Schemes.antt`. To add a scheme: a variant of [`Scheme`], its row, and an arm in each function here.
 #![tactic(auto)]
 
 mod identifiers;
+mod methods;
+mod names;
 mod schemes;
 
 pub use identifiers::scheme_named;
-pub use schemes::{Numbers, SCHEME_COUNT, SCHEMES, Scheme};
+pub use methods::method_of;
+pub use names::scheme_of_name;
+pub use schemes::{CostFamily, SCHEME_COUNT, SCHEMES, Scheme};

@@ -47,21 +47,25 @@ pub const SCHEMES: [Scheme; SCHEME_COUNT] = [
     Scheme::Argon2id,
 ];
 
-/// The numbers that a text of a scheme asks for, by the names of its standard. A text is weak by the first of them.
+/// The schemes whose texts ask for the same numbers. A bound on cost, and the least cost that isn't weak, is one for each.
 #[derive(Clone, Copy, Debug, PartialEq, Eq)]
-pub enum Numbers {
-    /// None: each text costs the same.
-    Nothing,
+pub enum CostFamily {
+    /// No number: each text costs the same.
+    Md5Crypt,
     /// The rounds.
-    Rounds,
-    /// The cost of bcrypt, the binary logarithm of the number of its turns.
-    Cost,
-    /// The binary logarithm of N, r and t of yescrypt.
-    LnRT,
-    /// The binary logarithm of N, r and p of scrypt.
-    LnRP,
-    /// `m`, the memory in KiB, `t`, the passes over it, and `p`, the lanes of Argon2.
-    MTP,
+    ShaCrypt,
+    /// The cost, the binary logarithm of the number of turns.
+    Bcrypt,
+    /// The binary logarithm of N, r and t.
+    Yescrypt,
+    /// The binary logarithm of N, r and p.
+    Scrypt,
+    /// The rounds.
+    Pbkdf2Sha256,
+    /// The rounds.
+    Pbkdf2Sha512,
+    /// `m`, the memory in KiB, `t`, the passes over it, and `p`, the lanes.
+    Argon2,
 }
 
 impl Scheme {
@@ -103,18 +107,19 @@ impl Scheme {
         }
     }
 
-    /// The numbers that its texts ask for.
-    pub fn numbers(self) -> Numbers
-        ensures numbers { result ≡ (row_of self).numbers }
+    /// Which numbers its texts ask for.
+    pub fn family(self) -> CostFamily
+        ensures family { result ≡ (row_of self).family }
     {
         match self {
-            Scheme::Md5Crypt => Numbers::Nothing,
-            Scheme::Sha256Crypt | Scheme::Sha512Crypt => Numbers::Rounds,
-            Scheme::Bcrypt => Numbers::Cost,
-            Scheme::Yescrypt => Numbers::LnRT,
-            Scheme::ScryptCrypt | Scheme::Scrypt => Numbers::LnRP,
-            Scheme::Pbkdf2Sha256 | Scheme::Pbkdf2Sha512 => Numbers::Rounds,
-            Scheme::Argon2d | Scheme::Argon2i | Scheme::Argon2id => Numbers::MTP,
+            Scheme::Md5Crypt => CostFamily::Md5Crypt,
+            Scheme::Sha256Crypt | Scheme::Sha512Crypt => CostFamily::ShaCrypt,
+            Scheme::Bcrypt => CostFamily::Bcrypt,
+            Scheme::Yescrypt => CostFamily::Yescrypt,
+            Scheme::ScryptCrypt | Scheme::Scrypt => CostFamily::Scrypt,
+            Scheme::Pbkdf2Sha256 => CostFamily::Pbkdf2Sha256,
+            Scheme::Pbkdf2Sha512 => CostFamily::Pbkdf2Sha512,
+            Scheme::Argon2d | Scheme::Argon2i | Scheme::Argon2id => CostFamily::Argon2,
         }
     }
 
@@ -123,5 +128,25 @@ impl Scheme {
         ensures weak { result ≡ (row_of self).is_weak }
     {
         matches!(self, Scheme::Md5Crypt)
+    }
+
+    /// Whether texts of it are made of new passwords.
+    pub fn is_made(self) -> bool
+        ensures made { result ≡ (row_of self).is_made }
+    {
+        match self {
+            Scheme::Sha256Crypt
+            | Scheme::Sha512Crypt
+            | Scheme::Bcrypt
+            | Scheme::Yescrypt
+            | Scheme::Scrypt
+            | Scheme::Pbkdf2Sha256
+            | Scheme::Argon2id => true,
+            Scheme::Md5Crypt
+            | Scheme::ScryptCrypt
+            | Scheme::Pbkdf2Sha512
+            | Scheme::Argon2d
+            | Scheme::Argon2i => false,
+        }
     }
 }

@@ -1,89 +1,102 @@
 //! Identifiers, names, numbers and places.
 
-use scheme_list::{Numbers, SCHEMES, Scheme, scheme_named};
+use scheme_list::{CostFamily, SCHEMES, Scheme, method_of, scheme_named, scheme_of_name};
 
 #[derive(Clone, Copy)]
 struct Row {
     id: &'static str,
     scheme: Scheme,
     name: &'static str,
-    numbers: Numbers,
+    family: CostFamily,
+    is_made: bool,
 }
 
-// A row for each scheme, in their order: an identifier of its texts, its name as `pwtool survey` tells it, and the numbers
-// that its texts ask for.
+// A row for each scheme, in their order: an identifier of its texts, its name as `pwtool survey` tells it, the schemes whose
+// texts ask for the same numbers, and whether `pwtool make` makes texts of it.
 const ROWS: [Row; 12] = [
     Row {
         id: "1",
         scheme: Scheme::Md5Crypt,
         name: "md5-crypt",
-        numbers: Numbers::Nothing,
+        family: CostFamily::Md5Crypt,
+        is_made: false,
     },
     Row {
         id: "5",
         scheme: Scheme::Sha256Crypt,
         name: "sha256-crypt",
-        numbers: Numbers::Rounds,
+        family: CostFamily::ShaCrypt,
+        is_made: true,
     },
     Row {
         id: "6",
         scheme: Scheme::Sha512Crypt,
         name: "sha512-crypt",
-        numbers: Numbers::Rounds,
+        family: CostFamily::ShaCrypt,
+        is_made: true,
     },
     Row {
         id: "2b",
         scheme: Scheme::Bcrypt,
         name: "bcrypt",
-        numbers: Numbers::Cost,
+        family: CostFamily::Bcrypt,
+        is_made: true,
     },
     Row {
         id: "y",
         scheme: Scheme::Yescrypt,
         name: "yescrypt",
-        numbers: Numbers::LnRT,
+        family: CostFamily::Yescrypt,
+        is_made: true,
     },
     Row {
         id: "7",
         scheme: Scheme::ScryptCrypt,
         name: "scrypt-crypt",
-        numbers: Numbers::LnRP,
+        family: CostFamily::Scrypt,
+        is_made: false,
     },
     Row {
         id: "scrypt",
         scheme: Scheme::Scrypt,
         name: "scrypt",
-        numbers: Numbers::LnRP,
+        family: CostFamily::Scrypt,
+        is_made: true,
     },
     Row {
         id: "pbkdf2-sha256",
         scheme: Scheme::Pbkdf2Sha256,
         name: "pbkdf2-sha256",
-        numbers: Numbers::Rounds,
+        family: CostFamily::Pbkdf2Sha256,
+        is_made: true,
     },
     Row {
         id: "pbkdf2-sha512",
         scheme: Scheme::Pbkdf2Sha512,
         name: "pbkdf2-sha512",
-        numbers: Numbers::Rounds,
+        family: CostFamily::Pbkdf2Sha512,
+        is_made: false,
     },
     Row {
         id: "argon2d",
         scheme: Scheme::Argon2d,
         name: "argon2d",
-        numbers: Numbers::MTP,
+        family: CostFamily::Argon2,
+        is_made: false,
     },
     Row {
         id: "argon2i",
         scheme: Scheme::Argon2i,
         name: "argon2i",
-        numbers: Numbers::MTP,
+        family: CostFamily::Argon2,
+        is_made: false,
     },
     Row {
         id: "argon2id",
         scheme: Scheme::Argon2id,
         name: "argon2id",
-        numbers: Numbers::MTP,
+        family: CostFamily::Argon2,
+        is_made: true,
     },
 ];
 
@@ -92,7 +105,9 @@ fn a_row_for_each_scheme(rt: HostRuntime) {
     for row in ROWS {
         assert!(rt; scheme_named(row.id) == Some(row.scheme), "{}", row.id);
         assert!(rt; row.scheme.name() == row.name, "{}", row.id);
-        assert!(rt; row.scheme.numbers() == row.numbers, "{}", row.id);
+        assert!(rt; scheme_of_name(row.name) == Some(row.scheme), "{}", row.id);
+        assert!(rt; row.scheme.family() == row.family, "{}", row.id);
+        assert!(rt; row.scheme.is_made() == row.is_made, "{}", row.id);
         assert!(rt; row.scheme.is_weak() == (row.id == "1"), "{}", row.id);
     }
 }
@@ -117,5 +132,39 @@ fn other_identifiers(rt: HostRuntime) {
     }
     for id in ["", "0", "3", "2c", "55", "Y", "sha1", "argon2", "scrypt "] {
         assert!(rt; scheme_named(id) == None, "{id}");
+    }
+}
+
+// The prefixes of crypt(3), and other beginnings.
+const PREFIXES: [(&[u8], Option<Scheme>); 16] = [
+    (b"$1$", Some(Scheme::Md5Crypt)),
+    (b"$5$rounds=1000$", Some(Scheme::Sha256Crypt)),
+    (b"$6$salt", Some(Scheme::Sha512Crypt)),
+    (b"$2a$05$", Some(Scheme::Bcrypt)),
+    (b"$2b$", Some(Scheme::Bcrypt)),
+    (b"$2y$10$", Some(Scheme::Bcrypt)),
+    (b"$y$j9T$", Some(Scheme::Yescrypt)),
+    (b"$7$", Some(Scheme::ScryptCrypt)),
+    (b"", None),
+    (b"$", None),
+    (b"$1", None),
+    (b"$2x$", None),
+    (b"$apr1$", None),
+    (b"$scrypt$", None),
+    (b"$argon2id$", None),
+    (b"x$1$", None),
+];
+
+#[test]
+fn methods_of_crypt(rt: HostRuntime) {
+    for (setting, method) in PREFIXES {
+        assert!(rt; method_of(setting) == method, "{setting:?}");
+    }
+}
+
+#[test]
+fn other_names(rt: HostRuntime) {
+    for name in ["", "md5", "Bcrypt", "scrypt-crypt ", "argon2", "sha512"] {
+        assert!(rt; scheme_of_name(name) == None, "{name}");
     }
 }

@@ -5,11 +5,11 @@ use Rattle.shadow_fields.specs.Fields.{has_user, user_of}
 use Rattle.shadow_fields.specs.Passwords.{password_of}
 use Rattle.shadow_fields.specs.Wanted.{has_line, wanted_password}
 use Rattle.shadow_fields.proofs.LoadedWanted.{has_line_of}
-use Rattle.any_check.specs.declared.cost.CostLimits.{CostLimits}
+use Rattle.any_check.specs.declared.numbers.SchemeCosts.{SchemeCosts}
 use Rattle.shadow_check.specs.Join.{joined_output}
 use Rattle.shadow_check.specs.Laws.{FewerAnswersAlike}
 
-by_cases : (limits : Option CostLimits) (texts passwords : List (List ℕ)) (line : List ℕ) (long user : Bool)
+by_cases : (limits : Option SchemeCosts) (texts passwords : List (List ℕ)) (line : List ℕ) (long user : Bool)
     → nat_lt 8192 (length line) ≡ long → has_user line ≡ user
     → (long ≡ false → user ≡ true → has_line texts (user_of line) ≡ true)
     → joined_output limits (wanted_password (has_line texts) passwords) line ≡ joined_output limits (password_of passwords) line

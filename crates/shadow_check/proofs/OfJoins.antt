@@ -3,7 +3,7 @@ use Rattle.std.proofs.Common.{◌≡◌, ◌≢◌, ℕ, Bool, true, false, List
 use Rattle.std.specs.Prelude.{nat_lt, codes}
 use Rattle.stored_check.specs.declared.error.StoredError.TheVariants.{OutOfMemory}
 use Rattle.shadow_fields.specs.Fields.{has_user, text_of_line, user_of}
-use Rattle.any_check.specs.declared.cost.CostLimits.{CostLimits}
+use Rattle.any_check.specs.declared.numbers.SchemeCosts.{SchemeCosts}
 use Rattle.any_check.specs.declared.error.AnyError.{AnyError}
 use Rattle.any_check.specs.declared.error.AnyError.TheVariants.{Stored}
 use Rattle.shadow_check.specs.Join.{is_join_match, join_may_lack, join_word, joined_is_good}
@@ -18,7 +18,7 @@ checked_known r known = λ h. known cc
 
 -- ---- a line
 
-module _ (limits : Option CostLimits) (find : List ℕ → Option (List ℕ)) (l : List ℕ) where
+module _ (limits : Option SchemeCosts) (find : List ℕ → Option (List ℕ)) (l : List ℕ) where
   pub long_output : nat_lt 8192 (length l) ≡ true → joined_output limits find l ≡ codes "toolong" ++ 10 ∷ []
   unfolding joined_output
   long_output long = rw long refl

@@ -3,10 +3,10 @@ use Rattle.std.proofs.Common.{◌≡◌, ℕ, true, false, List, [], ◌∷◌, 
 use Rattle.std.specs.Prelude.{nat_lt, codes}
 use Rattle.shadow_fields.specs.Fields.{has_user, rest_of, user_of}
 use Rattle.shadow_check.specs.Lines.{line_is_good, line_may_lack, line_output}
-use Rattle.any_check.specs.declared.cost.CostLimits.{CostLimits}
+use Rattle.any_check.specs.declared.numbers.SchemeCosts.{SchemeCosts}
 use Rattle.shadow_check.specs.Users.{user_is_good, user_may_lack, user_output}
 
-module _ (limits : Option CostLimits) (l : List ℕ) where
+module _ (limits : Option SchemeCosts) (l : List ℕ) where
   pub long_output : nat_lt 8192 (length l) ≡ true → user_output limits l ≡ codes "toolong" ++ 10 ∷ []
   unfolding user_output
   long_output long = rw long refl

@@ -7,43 +7,43 @@ use Rattle.line_io.specs.Limits.{line_max}
 use Rattle.shadow_fields.specs.Fields.{has_user, is_locked, text_of_line, user_of}
 use Rattle.any_check.specs.Given.{given_may_lack, given_verdict}
 use Rattle.any_check.specs.Words.{any_word}
-use Rattle.any_check.specs.declared.cost.CostLimits.{CostLimits}
+use Rattle.any_check.specs.declared.numbers.SchemeCosts.{SchemeCosts}
 use Rattle.shadow_check.specs.declared.answer.JoinAnswer.{JoinAnswer}
 use Rattle.shadow_check.specs.declared.answer.JoinAnswer.TheVariants.{Checked, Empty, Locked, NoPassword, NotText}
 
 -- ---- the answer to a stored text and to the user's password, if there is one
 
 -- by both, where the password is UTF-8
-abbrev pub text_answer : Option CostLimits → List ℕ → List ℕ → JoinAnswer
+abbrev pub text_answer : Option SchemeCosts → List ℕ → List ℕ → JoinAnswer
 text_answer limits password text = if is_utf8 text then Checked (given_verdict limits password text) else NotText
 
 -- by both
-abbrev pub both_answer : Option CostLimits → List ℕ → List ℕ → JoinAnswer
+abbrev pub both_answer : Option SchemeCosts → List ℕ → List ℕ → JoinAnswer
 both_answer limits password text = if is_utf8 password then text_answer limits password text else NotText
 
 -- by the password
-abbrev pub password_answer : Option CostLimits → Option (List ℕ) → List ℕ → JoinAnswer
+abbrev pub password_answer : Option SchemeCosts → Option (List ℕ) → List ℕ → JoinAnswer
 password_answer limits None text = NoPassword
 password_answer limits (Some password) text = both_answer limits password text
 
 -- the first that holds: no text, a locked one, no password, one of the two is no UTF-8; else the verdict
-unfoldable pub join_answer : Option CostLimits → Option (List ℕ) → List ℕ → JoinAnswer
+unfoldable pub join_answer : Option SchemeCosts → Option (List ℕ) → List ℕ → JoinAnswer
 join_answer limits password text =
     if length text == 0 then Empty else if is_locked text then Locked else password_answer limits password text
 
 -- memory may be wanting for both
-abbrev pub text_may_lack : Option CostLimits → List ℕ → List ℕ → Bool
+abbrev pub text_may_lack : Option SchemeCosts → List ℕ → List ℕ → Bool
 text_may_lack limits password text = if is_utf8 text then given_may_lack limits password text else false
 
-abbrev pub both_may_lack : Option CostLimits → List ℕ → List ℕ → Bool
+abbrev pub both_may_lack : Option SchemeCosts → List ℕ → List ℕ → Bool
 both_may_lack limits password text = if is_utf8 password then text_may_lack limits password text else false
 
-abbrev pub password_may_lack : Option CostLimits → Option (List ℕ) → List ℕ → Bool
+abbrev pub password_may_lack : Option SchemeCosts → Option (List ℕ) → List ℕ → Bool
 password_may_lack limits None text = false
 password_may_lack limits (Some password) text = both_may_lack limits password text
 
 -- memory may be wanting for a stored text and a password
-unfoldable pub join_may_lack : Option CostLimits → Option (List ℕ) → List ℕ → Bool
+unfoldable pub join_may_lack : Option SchemeCosts → Option (List ℕ) → List ℕ → Bool
 join_may_lack limits password text =
     if length text == 0 then false else if is_locked text then false else password_may_lack limits password text
 
@@ -77,28 +77,28 @@ join_has_verdict NotText = false
 -- ---- a line, by what finds the password of a user
 
 -- the answer for the user of a line
-abbrev pub joined_answer : Option CostLimits → (List ℕ → Option (List ℕ)) → List ℕ → JoinAnswer
+abbrev pub joined_answer : Option SchemeCosts → (List ℕ → Option (List ℕ)) → List ℕ → JoinAnswer
 joined_answer limits find line = join_answer limits (find (user_of line)) (text_of_line line)
 
 -- what is written for a line: its user, a tab, the word and a line feed
-unfoldable pub joined_output : Option CostLimits → (List ℕ → Option (List ℕ)) → List ℕ → List ℕ
+unfoldable pub joined_output : Option SchemeCosts → (List ℕ → Option (List ℕ)) → List ℕ → List ℕ
 joined_output limits find line =
     if nat_lt line_max (length line) then codes "toolong" ++ 10 ∷ []
     else if has_user line then user_of line ++ 9 ∷ (join_word (joined_answer limits find line) ++ 10 ∷ [])
     else codes "badline" ++ 10 ∷ []
 
 -- a line is good where the password matches
-unfoldable pub joined_is_good : Option CostLimits → (List ℕ → Option (List ℕ)) → List ℕ → Bool
+unfoldable pub joined_is_good : Option SchemeCosts → (List ℕ → Option (List ℕ)) → List ℕ → Bool
 joined_is_good limits find line =
     if nat_lt line_max (length line) then false
     else if has_user line then is_join_match (joined_answer limits find line) else false
 
 -- memory may be wanting
-unfoldable pub joined_may_lack : Option CostLimits → (List ℕ → Option (List ℕ)) → List ℕ → Bool
+unfoldable pub joined_may_lack : Option SchemeCosts → (List ℕ → Option (List ℕ)) → List ℕ → Bool
 joined_may_lack limits find line =
     if nat_lt line_max (length line) then false
     else if has_user line then join_may_lack limits (find (user_of line)) (text_of_line line) else false
 
 -- the rules of a run
-abbrev pub joined_rules : Option CostLimits → (List ℕ → Option (List ℕ)) → LineRules
+abbrev pub joined_rules : Option SchemeCosts → (List ℕ → Option (List ℕ)) → LineRules
 joined_rules limits find = each_line (joined_output limits find) (joined_is_good limits find) (joined_may_lack limits find)

@@ -9,7 +9,7 @@ use Rattle.line_io.specs.Limits.{line_max}
 use Rattle.stored_check.specs.declared.error.StoredError.TheVariants.{OutOfMemory}
 use Rattle.any_check.specs.Given.{given_may_lack, given_verdict}
 use Rattle.any_check.specs.Words.{any_word}
-use Rattle.any_check.specs.declared.cost.CostLimits.{CostLimits}
+use Rattle.any_check.specs.declared.numbers.SchemeCosts.{SchemeCosts}
 use Rattle.any_check.specs.declared.error.AnyError.{AnyError}
 use Rattle.any_check.specs.declared.error.AnyError.TheVariants.{Stored}
 use Rattle.shadow_check.specs.declared.lines.LineAnswer.{LineAnswer}
@@ -40,45 +40,45 @@ has_verdict BadLine = false
 -- ---- the answer of a line
 
 -- by the last tab of a line that is UTF-8
-abbrev pub cut_answer : Option CostLimits → List ℕ → LineAnswer
+abbrev pub cut_answer : Option SchemeCosts → List ℕ → LineAnswer
 cut_answer limits text =
     if list_any is_tab text then Checked (given_verdict limits (before_last is_tab text) (after_last is_tab text))
     else BadLine
 
 -- The answer of a line, by the first that holds: more than 8,192 bytes; no UTF-8; no tab; else by its verdict.
-unfoldable pub line_answer : Option CostLimits → List ℕ → LineAnswer
+unfoldable pub line_answer : Option SchemeCosts → List ℕ → LineAnswer
 line_answer limits line =
     if nat_lt line_max (length line) then TooLong else if is_utf8 line then cut_answer limits line else BadLine
 
 -- memory may be wanting for such a line
-abbrev pub cut_may_lack : Option CostLimits → List ℕ → Bool
+abbrev pub cut_may_lack : Option SchemeCosts → List ℕ → Bool
 cut_may_lack limits text =
     list_any is_tab text && given_may_lack limits (before_last is_tab text) (after_last is_tab text)
 
 -- memory may be wanting for a line
-unfoldable pub line_may_lack : Option CostLimits → List ℕ → Bool
+unfoldable pub line_may_lack : Option SchemeCosts → List ℕ → Bool
 line_may_lack limits line =
     if nat_lt line_max (length line) then false else if is_utf8 line then cut_may_lack limits line else false
 
 -- an answer is that of the text; or want of memory, where that may be
-abbrev pub IsTextAnswer : Option CostLimits → List ℕ → LineAnswer → Type 0
+abbrev pub IsTextAnswer : Option SchemeCosts → List ℕ → LineAnswer → Type 0
 IsTextAnswer limits text a =
     (a ≡ cut_answer limits text) ⊎ ((a ≡ Checked (Err (Stored OutOfMemory))) × (cut_may_lack limits text ≡ true))
 
 -- the same of a line
-abbrev pub IsLineAnswer : Option CostLimits → List ℕ → LineAnswer → Type 0
+abbrev pub IsLineAnswer : Option SchemeCosts → List ℕ → LineAnswer → Type 0
 IsLineAnswer limits line a =
     (a ≡ line_answer limits line) ⊎ ((a ≡ Checked (Err (Stored OutOfMemory))) × (line_may_lack limits line ≡ true))
 
 -- ---- what is written for a line: the word and a line feed
 
-abbrev pub line_output : Option CostLimits → List ℕ → List ℕ
+abbrev pub line_output : Option SchemeCosts → List ℕ → List ℕ
 line_output limits line = answer_word (line_answer limits line) ++ 10 ∷ []
 
 -- a line is good where it matches
-abbrev pub line_is_good : Option CostLimits → List ℕ → Bool
+abbrev pub line_is_good : Option SchemeCosts → List ℕ → Bool
 line_is_good limits line = is_match (line_answer limits line)
 
 -- the rules of a run
-abbrev pub any_line_rules : Option CostLimits → LineRules
+abbrev pub any_line_rules : Option SchemeCosts → LineRules
 any_line_rules limits = each_line (line_output limits) (line_is_good limits) (line_may_lack limits)

@@ -9,7 +9,7 @@ ghost use Rattle.shadow_fields.specs.Passwords.{password_in};
 ghost use Rattle.shadow_check.specs.JoinOutcome.{JoinOutcome, status_of};
 
 use crate::joined::JoinedLines;
-use any_check::{AnyCheck, CostLimits};
+use any_check::{AnyCheck, SchemeCosts};
 use line_io::{Sink, Source};
 use line_program::run_lines;
 use line_program::status::SOME_OTHER;
@@ -49,7 +49,7 @@ pub trait Joining {
 #[derive(Clone, Copy, Debug)]
 pub struct TextJoin {
     pub alloc: Global,
-    pub limits: Option<CostLimits>,
+    pub limits: Option<SchemeCosts>,
 }
 
 impl Joining for TextJoin {

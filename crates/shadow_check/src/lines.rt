@@ -6,7 +6,7 @@ ghost use Rattle.line_program.specs.Outcome.{Outcome, RunTold};
 ghost use Rattle.stored_check.specs.declared.error.StoredError.TheVariants.{OutOfMemory};
 ghost use Rattle.shadow_check.specs.Lines.{IsLineAnswer, IsTextAnswer, answer_word, any_line_rules, has_verdict, is_match, line_answer, line_may_lack};
 
-use any_check::{AnyCheck, AnyError, CostLimits, any_word};
+use any_check::{AnyCheck, AnyError, SchemeCosts, any_word};
 use line_io::{LINE_MAX, OutputBuffer, Sink, Source};
 use line_program::{Responder, cut_at_last_tab, run_lines};
 use pieces::text::text_of;
@@ -69,7 +69,7 @@ pub struct AnyLines {
 
 impl AnyLines {
     /// Lines under a bound on cost, or under none. No table is kept yet.
-    pub fn new(alloc: Global, limits: Option<CostLimits>) -> AnyLines
+    pub fn new(alloc: Global, limits: Option<SchemeCosts>) -> AnyLines
         ensures limits { result.check.limits ≡ limits }
     {
         AnyLines {
@@ -150,7 +150,7 @@ impl Responder for AnyLines {
 /// yescrypt take memory: the largest table of each so far is kept until the run ends.
 pub fn run_any<S: Source, K: Sink>(
     alloc: Global,
-    limits: Option<CostLimits>,
+    limits: Option<SchemeCosts>,
     source: &mut S,
     sink: &mut K,
     max: u64,

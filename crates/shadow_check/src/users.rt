@@ -7,7 +7,7 @@ ghost use Rattle.shadow_check.specs.Lines.{line_is_good, line_may_lack, line_out
 ghost use Rattle.shadow_check.specs.Users.{user_line_rules};
 
 use crate::lines::AnyLines;
-use any_check::CostLimits;
+use any_check::SchemeCosts;
 use line_io::{OutputBuffer, Sink, Source};
 use line_program::{Responder, run_lines};
 use shadow_fields::{cut_user, put_user};
@@ -82,7 +82,7 @@ impl Responder for UserLines {
 /// answered by `badline` alone, one of more than 8,192 bytes by `toolong` alone. Statuses and memory are those of `run_any`.
 pub fn run_users<S: Source, K: Sink>(
     alloc: Global,
-    limits: Option<CostLimits>,
+    limits: Option<SchemeCosts>,
     source: &mut S,
     sink: &mut K,
     max: u64,

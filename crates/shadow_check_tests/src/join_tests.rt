@@ -1,26 +1,48 @@
 //! A shadow file beside passwords. The texts are openssl's, of the password `secret`.
 
-use any_check::CostLimits;
+use any_check::{Costs, NO_COSTS, SchemeCosts};
 use line_io::{MemorySink, MemorySource};
 use shadow_check::{JoinEnd, TextJoin, run_join};
 use std::hash::RandomState;
 use std::test::Fail;
 
 // The least bound of each scheme but for SHA-crypt's rounds.
-fn rounds_below(most: usize) -> CostLimits {
-    CostLimits {
-        sha_rounds: most,
-        bcrypt_cost: 4,
-        yescrypt_ln: 2,
-        yescrypt_r: 1,
-        yescrypt_t: 0,
-        pbkdf2_rounds: 1,
-        scrypt_ln: 1,
-        scrypt_r: 1,
-        scrypt_p: 1,
-        argon2_memory: 8,
-        argon2_passes: 1,
-        argon2_lanes: 1,
+fn rounds_below(most: u64) -> SchemeCosts {
+    SchemeCosts {
+        sha_crypt: Costs {
+            rounds: most,
+            ..NO_COSTS
+        },
+        bcrypt: Costs {
+            cost: 4,
+            ..NO_COSTS
+        },
+        yescrypt: Costs {
+            ln: 2,
+            r: 1,
+            t: 0,
+            ..NO_COSTS
+        },
+        pbkdf2_sha256: Costs {
+            rounds: 1,
+            ..NO_COSTS
+        },
+        pbkdf2_sha512: Costs {
+            rounds: 1,
+            ..NO_COSTS
+        },
+        scrypt: Costs {
+            ln: 1,
+            r: 1,
+            p: 1,
+            ..NO_COSTS
+        },
+        argon2: Costs {
+            m: 8,
+            t: 1,
+            p: 1,
+            ..NO_COSTS
+        },
     }
 }
 

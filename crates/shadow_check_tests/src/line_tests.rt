@@ -1,6 +1,6 @@
 //! Lines of a password and a stored text. The texts are those of openssl, libxcrypt's crypt and the program argon2.
 
-use any_check::CostLimits;
+use any_check::{Costs, NO_COSTS, SchemeCosts};
 use line_io::{MemorySink, MemorySource};
 use shadow_check::run_any;
 
@@ -11,19 +11,41 @@ const LINES: &[u8] = b"secret\t$1$abcdefgh$cHJi5PXp/ki/ktXzqlk6I1\n\
 
 #[test]
 fn lines(rt: HostRuntime) {
-    let limits = CostLimits {
-        sha_rounds: 5_000,
-        bcrypt_cost: 5,
-        yescrypt_ln: 10,
-        yescrypt_r: 8,
-        yescrypt_t: 2,
-        pbkdf2_rounds: 1_000,
-        scrypt_ln: 6,
-        scrypt_r: 8,
-        scrypt_p: 2,
-        argon2_memory: 64,
-        argon2_passes: 2,
-        argon2_lanes: 2,
+    let limits = SchemeCosts {
+        sha_crypt: Costs {
+            rounds: 5_000,
+            ..NO_COSTS
+        },
+        bcrypt: Costs {
+            cost: 5,
+            ..NO_COSTS
+        },
+        yescrypt: Costs {
+            ln: 10,
+            r: 8,
+            t: 2,
+            ..NO_COSTS
+        },
+        pbkdf2_sha256: Costs {
+            rounds: 1_000,
+            ..NO_COSTS
+        },
+        pbkdf2_sha512: Costs {
+            rounds: 1_000,
+            ..NO_COSTS
+        },
+        scrypt: Costs {
+            ln: 6,
+            r: 8,
+            p: 2,
+            ..NO_COSTS
+        },
+        argon2: Costs {
+            m: 64,
+            t: 2,
+            p: 2,
+            ..NO_COSTS
+        },
     };
     for (limits, step, words) in [
         (

@@ -1,6 +1,6 @@
 //! Lines of users. The text is openssl's, of the password `secret`.
 
-use any_check::CostLimits;
+use any_check::{Costs, NO_COSTS, SchemeCosts};
 use line_io::{MemorySink, MemorySource};
 use shadow_check::run_users;
 
@@ -53,19 +53,41 @@ fn statuses_with_users(rt: HostRuntime) {
 
 #[test]
 fn bounds_with_users(rt: HostRuntime) {
-    let limits = CostLimits {
-        sha_rounds: 4_999,
-        bcrypt_cost: 31,
-        yescrypt_ln: 23,
-        yescrypt_r: 524_287,
-        yescrypt_t: 1_024,
-        pbkdf2_rounds: 10_000_000,
-        scrypt_ln: 24,
-        scrypt_r: 131_072,
-        scrypt_p: 1_024,
-        argon2_memory: 2_097_152,
-        argon2_passes: 2_097_152,
-        argon2_lanes: 262_144,
+    let limits = SchemeCosts {
+        sha_crypt: Costs {
+            rounds: 4_999,
+            ..NO_COSTS
+        },
+        bcrypt: Costs {
+            cost: 31,
+            ..NO_COSTS
+        },
+        yescrypt: Costs {
+            ln: 23,
+            r: 524_287,
+            t: 1_024,
+            ..NO_COSTS
+        },
+        pbkdf2_sha256: Costs {
+            rounds: 10_000_000,
+            ..NO_COSTS
+        },
+        pbkdf2_sha512: Costs {
+            rounds: 10_000_000,
+            ..NO_COSTS
+        },
+        scrypt: Costs {
+            ln: 24,
+            r: 131_072,
+            p: 1_024,
+            ..NO_COSTS
+        },
+        argon2: Costs {
+            m: 2_097_152,
+            t: 2_097_152,
+            p: 262_144,
+            ..NO_COSTS
+        },
     };
     let line = b"ann:secret\t$5$abcdefgh$gruCpC7VkOTspMQTTSAR8mtlO9Upms.fwqE5y16JVM.\n".as_slice();
     let mut room = [0; 32];

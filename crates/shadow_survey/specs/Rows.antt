@@ -10,7 +10,7 @@ use Rattle.shadow_survey.specs.Judgements.{cost_cell, judged, judgement_cell, sc
 use Rattle.shadow_survey.specs.declared.counts.Counts.{Counts}
 use Rattle.shadow_survey.specs.declared.judgement.Judgement.{Judgement}
 use Rattle.shadow_survey.specs.declared.judgement.Judgement.TheVariants.{BadLine, Empty, Invalid, Locked, NoScheme, Strong, TooLong, Weak}
-use Rattle.shadow_survey.specs.declared.judgement.LeastCosts.{LeastCosts}
+use Rattle.any_check.specs.declared.numbers.SchemeCosts.{SchemeCosts}
 use Rattle.shadow_survey.specs.declared.rows.Format.{Format}
 use Rattle.shadow_survey.specs.declared.rows.Format.TheVariants.{Tabs, Csv, Json}
 
@@ -56,17 +56,17 @@ row_text Json user j = json_row user j
 -- ---- a line
 
 -- its user and the judgement on its text, the second field (shadow(5)); the user of a line without one is empty
-abbrev pub surveyed : LeastCosts → List ℕ → List ℕ × Judgement
+abbrev pub surveyed : SchemeCosts → List ℕ → List ℕ × Judgement
 surveyed least line =
     if has_user line && is_utf8 (user_of line) then (user_of line, judged least (text_of_line line))
     else ([], BadLine)
 
 -- the same of a line of any length
-unfoldable pub surveyed_line : LeastCosts → List ℕ → List ℕ × Judgement
+unfoldable pub surveyed_line : SchemeCosts → List ℕ → List ℕ × Judgement
 surveyed_line least line = if nat_lt line_max (length line) then ([], TooLong) else surveyed least line
 
 -- what is written for a line
-unfoldable pub line_row : Format → LeastCosts → List ℕ → List ℕ
+unfoldable pub line_row : Format → SchemeCosts → List ℕ → List ℕ
 line_row format least line = row_text format (surveyed_line least line).0 (surveyed_line least line).1
 
 -- a line is good where its account is locked or its costs aren't weak

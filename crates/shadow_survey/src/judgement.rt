@@ -1,33 +1,15 @@
 //! The judgement on a stored text.
 
 ghost use Rattle.std.specs.Prelude.{◌≡◌, ◌+◌, ◌≤◌, ◌++◌, codes, decimal, length};
-ghost use Rattle.shadow_survey.specs.Judgements.{cost_cell, judged, judged_costs, judged_kind, judgement_cell, least_of, numbers_text, one, scheme_cell, three, weakness};
+ghost use Rattle.shadow_survey.specs.Judgements.{cost_cell, few_rounds, is_weak, judged, judged_costs, judged_kind, judgement_cell, numbers_text, one, scheme_cell, three, weakness};
 ghost use Rattle.scheme_list.specs.Schemes.{row_of};
 
-use any_check::{PlainRecords, Scheme, TextCosts, TextKind, text_kind};
+use any_check::{
+    CostFamily, Costs, PlainRecords, Scheme, SchemeCosts, TextCosts, TextKind, text_kind,
+};
 use pieces::short_bytes::ShortBytes;
 use pieces::text::text_of;
-use scheme_list::Numbers;
 use shadow_fields::is_locked;
-
-/// The least costs that aren't weak, scheme by scheme.
-#[derive(Clone, Copy, Debug, PartialEq, Eq)]
-pub struct LeastCosts {
-    /// Rounds of SHA-crypt.
-    pub sha_rounds: u64,
-    /// Cost of bcrypt: the binary logarithm of the number of its turns.
-    pub bcrypt_cost: u64,
-    /// The binary logarithm of N of yescrypt.
-    pub yescrypt_ln: u64,
-    /// The binary logarithm of N of scrypt, in a record or in a text `$7$`.
-    pub scrypt_ln: u64,
-    /// Rounds of PBKDF2 with HMAC-SHA-256.
-    pub pbkdf2_rounds: u64,
-    /// Rounds of PBKDF2 with HMAC-SHA-512.
-    pub pbkdf2_sha512_rounds: u64,
-    /// `m` of Argon2, the memory in KiB.
-    pub argon2_memory: u64,
-}
 
 /// The judgement on a stored text.
 #[derive(Clone, Copy, Debug, PartialEq, Eq)]
@@ -53,44 +35,37 @@ pub enum Judgement {
 /// What a cell of a row holds: the costs, or the judgement.
 pub(crate) type Cell = ShortBytes<96>;
 
-fn least_of(least: &LeastCosts, scheme: Scheme) -> u64
-    ensures { result ≡ least_of least.now scheme }
+// Whether one of the numbers is below the least of its family, or the scheme is weak whatever its texts ask for.
+fn is_weak(least: &SchemeCosts, text: &TextCosts) -> bool
+    ensures { result ≡ is_weak least.now text.now }
 {
-    match scheme {
-        Scheme::Md5Crypt => 0,
-        Scheme::Sha256Crypt | Scheme::Sha512Crypt => least.sha_rounds,
-        Scheme::Bcrypt => least.bcrypt_cost,
-        Scheme::Yescrypt => least.yescrypt_ln,
-        Scheme::ScryptCrypt | Scheme::Scrypt => least.scrypt_ln,
-        Scheme::Pbkdf2Sha256 => least.pbkdf2_rounds,
-        Scheme::Pbkdf2Sha512 => least.pbkdf2_sha512_rounds,
-        Scheme::Argon2d | Scheme::Argon2i | Scheme::Argon2id => least.argon2_memory,
-    }
+    text.scheme.is_weak() || least.of(text.scheme).is_above(&text.costs)
 }
 
-fn judged_costs(least: &LeastCosts, costs: TextCosts) -> Judgement
-    ensures { result ≡ judged_costs least.now costs }
+fn judged_costs(least: &SchemeCosts, text: TextCosts) -> Judgement
+    ensures { result ≡ judged_costs least.now text }
 {
-    if costs.scheme.is_weak() || costs.first < least_of(least, costs.scheme) {
-        Judgement::Weak(costs)
+    if is_weak(least, &text) {
+        Judgement::Weak(text)
     } else {
-        Judgement::Strong(costs)
+        Judgement::Strong(text)
     }
 }
 
-fn judged_kind(least: &LeastCosts, kind: TextKind) -> Judgement
+fn judged_kind(least: &SchemeCosts, kind: TextKind) -> Judgement
     ensures { result ≡ judged_kind least.now kind }
 {
     match kind {
         TextKind::NoScheme => Judgement::NoScheme,
         TextKind::Invalid => Judgement::Invalid,
-        TextKind::Costs(costs) => judged_costs(least, costs),
+        TextKind::Valid(text) => judged_costs(least, text),
     }
 }
 
-/// The judgement on a stored text, as a shadow or htpasswd file has it. Nothing is hashed, and no memory taken.
+/// The judgement on a stored text, as a shadow or htpasswd file has it, by the least numbers that aren't weak. Nothing is
+/// hashed, and no memory taken.
 #[tactic(auto, unfolding(crate::specs::Judgements::judged))]
-pub fn judged(least: &LeastCosts, text: &[u8]) -> Judgement
+pub fn judged(least: &SchemeCosts, text: &[u8]) -> Judgement
     ensures judgement { result ≡ judged least.now text.now }
 {
     if text.is_empty() {
@@ -121,35 +96,51 @@ fn push_number(cell: &mut Cell, n: u64)
     cell.push_decimal(n);
 }
 
-fn one(a: &[u8], costs: &TextCosts) -> Cell
+fn one(a: &[u8], x: u64) -> Cell
     requires short { length a.now ≤ 20 }
-    ensures text { result ≡ one a.now costs.now }
+    ensures text { result ≡ one a.now x }
     ensures length { length result ≤ 40 }
 {
     let mut cell = ShortBytes::new();
     cell.push_all(a);
-    push_number(&mut cell, costs.first);
+    push_number(&mut cell, x);
     cell
 }
 
-fn three(a: &[u8], b: &[u8], c: &[u8], costs: &TextCosts) -> Cell
+fn three(a: &[u8], x: u64, b: &[u8], y: u64, c: &[u8], z: u64) -> Cell
     requires a { length a.now ≤ 3 }
     requires b { length b.now ≤ 3 }
     requires c { length c.now ≤ 3 }
-    ensures { result ≡ three a.now b.now c.now costs.now }
+    ensures { result ≡ three a.now x b.now y c.now z }
 {
-    let mut cell = one(a, costs);
+    let mut cell = one(a, x);
     cell.push_all(b);
-    push_number(&mut cell, costs.second);
+    push_number(&mut cell, y);
     cell.push_all(c);
-    push_number(&mut cell, costs.third);
+    push_number(&mut cell, z);
     cell
 }
 
-fn rounds(costs: &TextCosts) -> Cell
-    ensures { result ≡ one (codes "weak: ") costs.now ++ codes " rounds" }
+// The costs, by the names of the numbers.
+fn numbers_text(family: CostFamily, costs: &Costs) -> Cell
+    ensures { result ≡ numbers_text family costs.now }
 {
-    let mut cell = one(b"weak: ", costs);
+    match family {
+        CostFamily::Md5Crypt => word(b"-"),
+        CostFamily::ShaCrypt | CostFamily::Pbkdf2Sha256 | CostFamily::Pbkdf2Sha512 => {
+            one(b"rounds=", costs.rounds)
+        }
+        CostFamily::Bcrypt => one(b"cost=", costs.cost),
+        CostFamily::Yescrypt => three(b"ln=", costs.ln, b",r=", costs.r, b",t=", costs.t),
+        CostFamily::Scrypt => three(b"ln=", costs.ln, b",r=", costs.r, b",p=", costs.p),
+        CostFamily::Argon2 => three(b"m=", costs.m, b",t=", costs.t, b",p=", costs.p),
+    }
+}
+
+fn few_rounds(costs: &Costs) -> Cell
+    ensures { result ≡ few_rounds costs.now }
+{
+    let mut cell = one(b"weak: ", costs.rounds);
     cell.push_all(b" rounds");
     cell
 }
@@ -162,30 +153,18 @@ fn weak_scheme(scheme: Scheme) -> Cell
     cell
 }
 
-// The costs, by the names of the numbers.
-fn numbers_text(numbers: Numbers, costs: &TextCosts) -> Cell
-    ensures { result ≡ numbers_text numbers costs.now }
-{
-    match numbers {
-        Numbers::Nothing => word(b"-"),
-        Numbers::Rounds => one(b"rounds=", costs),
-        Numbers::Cost => one(b"cost=", costs),
-        Numbers::LnRT => three(b"ln=", b",r=", b",t=", costs),
-        Numbers::LnRP => three(b"ln=", b",r=", b",p=", costs),
-        Numbers::MTP => three(b"m=", b",t=", b",p=", costs),
-    }
-}
-
 // What is weak.
-fn weakness(numbers: Numbers, costs: &TextCosts) -> Cell
-    ensures { result ≡ weakness numbers costs.now }
+fn weakness(family: CostFamily, text: &TextCosts) -> Cell
+    ensures { result ≡ weakness family text.now }
 {
-    match numbers {
-        Numbers::Nothing => weak_scheme(costs.scheme),
-        Numbers::Rounds => rounds(costs),
-        Numbers::Cost => one(b"weak: cost ", costs),
-        Numbers::LnRT | Numbers::LnRP => one(b"weak: ln ", costs),
-        Numbers::MTP => one(b"weak: m ", costs),
+    match family {
+        CostFamily::Md5Crypt => weak_scheme(text.scheme),
+        CostFamily::ShaCrypt | CostFamily::Pbkdf2Sha256 | CostFamily::Pbkdf2Sha512 => {
+            few_rounds(&text.costs)
+        }
+        CostFamily::Bcrypt => one(b"weak: cost ", text.costs.cost),
+        CostFamily::Yescrypt | CostFamily::Scrypt => one(b"weak: ln ", text.costs.ln),
+        CostFamily::Argon2 => one(b"weak: m ", text.costs.m),
     }
 }
 
@@ -195,7 +174,7 @@ impl Judgement {
         ensures { result.now ≡ scheme_cell self.now }
     {
         match self {
-            Judgement::Strong(costs) | Judgement::Weak(costs) => costs.scheme.name(),
+            Judgement::Strong(text) | Judgement::Weak(text) => text.scheme.name(),
             _ => "-",
         }
     }
@@ -205,8 +184,8 @@ impl Judgement {
         ensures { result ≡ cost_cell self.now }
     {
         match self {
-            Judgement::Strong(costs) | Judgement::Weak(costs) => {
-                numbers_text(costs.scheme.numbers(), costs)
+            Judgement::Strong(text) | Judgement::Weak(text) => {
+                numbers_text(text.scheme.family(), &text.costs)
             }
             _ => word(b"-"),
         }
@@ -224,7 +203,7 @@ impl Judgement {
             Judgement::NoScheme => word(b"no scheme"),
             Judgement::Invalid => word(b"invalid"),
             Judgement::Strong(_) => word(b"ok"),
-            Judgement::Weak(costs) => weakness(costs.scheme.numbers(), costs),
+            Judgement::Weak(text) => weakness(text.scheme.family(), text),
         }
     }
 }

@@ -7,8 +7,8 @@ mod judgement;
 mod lines;
 mod rows;
 
-pub use any_check::{Scheme, TextCosts, TextKind};
+pub use any_check::{Costs, NO_COSTS, Scheme, SchemeCosts, TextCosts, TextKind};
 pub use counts::{Counts, Kind};
-pub use judgement::{Judgement, LeastCosts, judged};
+pub use judgement::{Judgement, judged};
 pub use lines::{SurveyLines, run_survey};
 pub use rows::Format;

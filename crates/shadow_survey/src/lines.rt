@@ -9,8 +9,9 @@ ghost use Rattle.shadow_survey.specs.Rows.{ending_text, is_good, row_text, surve
 ghost use Rattle.shadow_survey.specs.Rules.{survey_rules};
 
 use crate::counts::{Counts, put_totals};
-use crate::judgement::{Judgement, LeastCosts, judged};
+use crate::judgement::{Judgement, judged};
 use crate::rows::{Format, is_good, put_row};
+use any_check::SchemeCosts;
 use line_io::{OutputBuffer, Sink, Source};
 use line_program::{Ending, Responder, run_ended};
 use pieces::text::text_of;
@@ -20,14 +21,15 @@ use std::alloc::AllocError;
 /// What answers the lines of a shadow or htpasswd file by what their texts are, and counts the judgements.
 #[derive(Drop)]
 pub struct SurveyLines {
-    pub least: LeastCosts,
+    /// The least numbers that aren't weak.
+    pub least: SchemeCosts,
     pub format: Format,
     pub counts: Counts,
 }
 
 impl SurveyLines {
     /// Nothing is counted yet.
-    pub fn new(least: LeastCosts, format: Format) -> SurveyLines
+    pub fn new(least: SchemeCosts, format: Format) -> SurveyLines
         ensures least { result.least ≡ least }
         ensures format { result.format ≡ format }
         ensures counts { result.counts ≡ no_counts }

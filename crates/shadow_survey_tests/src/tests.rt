@@ -1,21 +1,35 @@
 //! Texts of each scheme, judged; users, rows in each form, and how many of each.
 
 use line_io::{MemorySink, MemorySource};
-use shadow_survey::{Format, Judgement, LeastCosts, SurveyLines, judged, run_survey};
+use shadow_survey::{
+    Costs, Format, Judgement, NO_COSTS, SchemeCosts, SurveyLines, judged, run_survey,
+};
 use std::test::Fail;
 
-const LEAST: LeastCosts = LeastCosts {
-    sha_rounds: 5_000,
-    bcrypt_cost: 5,
-    yescrypt_ln: 10,
-    scrypt_ln: 5,
-    pbkdf2_rounds: 1_000,
-    pbkdf2_sha512_rounds: 999,
-    argon2_memory: 65,
+const LEAST: SchemeCosts = SchemeCosts {
+    sha_crypt: Costs {
+        rounds: 5_000,
+        ..NO_COSTS
+    },
+    bcrypt: Costs {
+        cost: 5,
+        ..NO_COSTS
+    },
+    yescrypt: Costs { ln: 10, ..NO_COSTS },
+    scrypt: Costs { ln: 5, ..NO_COSTS },
+    pbkdf2_sha256: Costs {
+        rounds: 1_000,
+        ..NO_COSTS
+    },
+    pbkdf2_sha512: Costs {
+        rounds: 999,
+        ..NO_COSTS
+    },
+    argon2: Costs { m: 65, ..NO_COSTS },
 };
 
 // Texts of other programs, as any_check's tests have them, with their row behind the user.
-const ROWS: [(&str, &str); 25] = [
+const ROWS: [(&str, &str); 28] = [
     (
         "$1$abcdefgh$cHJi5PXp/ki/ktXzqlk6I1",
         "md5-crypt\t-\tweak: md5-crypt",
@@ -37,6 +51,9 @@ const ROWS: [(&str, &str); 25] = [
         "sha512-crypt\trounds=5000\tok",
     ),
     ("$6$abcdefgh$x", "-\t-\tinvalid"),
+    ("$1$abcdefgh$cHJi5PXp/ki/ktXzqlk6I", "-\t-\tinvalid"),
+    ("$1$abcdefghi$cHJi5PXp/ki/ktXzqlk6I1", "-\t-\tinvalid"),
+    ("$apr1$abcdefgh", "-\t-\tinvalid"),
     (
         "$2b$04$abcdefghijklmnopqrstuu2r9OfJnfCsdneAXAGHnS4UpFFP8WIrW",
         "bcrypt\tcost=4\tweak: cost 4",

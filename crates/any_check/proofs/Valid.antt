@@ -1,0 +1,287 @@
+-- A text has a verdict exactly where it has no fault.
+use Rattle.std.proofs.Common.{◌≡◌, ℕ, ◌≤◌, Bool, true, false, List, [], length, refl, sym, ap, subst, ◌∙◌, arith, Option, Some, None}
+use Rattle.std.proofs.Common.{Result, Ok, Err}
+use Rattle.std.specs.Prelude.{◌↔◌, is_ok, if◌then◌else◌}
+use Rattle.std.specs.Option.{option_map}
+use Rattle.std.proofs.lemmas.Bool.{false≢true}
+use Rattle.mcf.specs.Grammar as mcf_parts
+use Rattle.mcf.specs.Grammar.{fault, mcf, parts}
+use Rattle.mcf.specs.declared.error.Error as mcf_error
+use Rattle.mcf.proofs.ValidTexts.{pieces_of_valid}
+use Rattle.md5_plain.specs.Verdict.{Md5Fields, fields_verdict, magic_of, md5_fields, md5_verdict}
+use Rattle.md5_plain.specs.declared.error.Md5Fault.{Md5Fault}
+use Rattle.md5_plain.specs.declared.magic.Magic.{Magic}
+use Rattle.phc.specs.Record.{phc, phc_text}
+use Rattle.phc.specs.declared.error.Error as phc_error
+use Rattle.phc.specs.declared.password_hash.PasswordHash.{PasswordHash}
+use Rattle.sha_crypt.specs.Check.{text_fields}
+use Rattle.sha_crypt.specs.Families.{Scheme, scheme_fields}
+use Rattle.sha_crypt.specs.Fields.{ShaFields}
+use Rattle.sha_crypt.specs.Records.{family_id, family_scheme, record_of}
+use Rattle.sha_crypt.specs.declared.errors.CheckError.{CheckError}
+use Rattle.sha_crypt.specs.declared.errors.Family.{Family}
+use Rattle.stored_check.proofs.Causes.{fits}
+use Rattle.stored_check.specs.Verdict as stored_verdict
+use Rattle.stored_check.specs.Verdict.{key_answer, named_family, phc_answer, same_text, scheme_of, sha_answer, verdict}
+use Rattle.stored_check.specs.declared.error.StoredError.{StoredError}
+use Rattle.bcrypt_plain.specs.Check.{bcrypt_answer, has_zero, hash_matches, parts_answer}
+use Rattle.bcrypt_plain.specs.Text.{Parts, parts_cost, text_parts}
+use Rattle.bcrypt_plain.specs.declared.error.BcryptError.TheVariants.{HashMismatch}
+use Rattle.bcrypt_plain.specs.declared.error.BcryptFault.{BcryptFault}
+use Rattle.yescrypt_plain.specs.Check.{scrypt_answer, scrypt_matches, scrypt_verdict, yescrypt_answer, yescrypt_matches}
+use Rattle.yescrypt_plain.specs.Check.{yescrypt_verdict}
+use Rattle.yescrypt_plain.specs.Text.{ScryptMeaning, YescryptMeaning, scrypt_meaning_costs, scrypt_text, yescrypt_meaning_costs}
+use Rattle.yescrypt_plain.specs.Text.{yescrypt_text}
+use Rattle.yescrypt_plain.specs.declared.error.CheckError.TheVariants as of_crypt
+use Rattle.yescrypt_plain.specs.declared.error.TextFault.{TextFault}
+use Rattle.any_check.specs.Cost.{is_costly, kind_costs}
+use Rattle.any_check.specs.Kinds.{asks, bcrypt_kind, is_valid, kind_by, md5_by_magic, md5_kind, phc_kind, record_costs, salted_kind}
+use Rattle.any_check.specs.Kinds.{scrypt_kind, sha_kind, text_kind, yescrypt_kind}
+use Rattle.any_check.specs.Numbers.{no_costs}
+use Rattle.any_check.specs.Laws.{CostlyIsValid, ValidIsVerdict, ValidIsVerdictOnSome}
+use Rattle.any_check.specs.Table.{any_verdict, identifier, is_record, md5_answer, md5_by, of_bcrypt_check, of_md5, of_scrypt_check}
+use Rattle.any_check.specs.Table.{of_stored, of_yescrypt_check, scheme_answer, sha_scheme, text_scheme}
+use Rattle.any_check.specs.declared.error.AnyError.{AnyError}
+use Rattle.any_check.specs.declared.kinds.TextKind.{TextKind}
+use Rattle.any_check.specs.declared.kinds.TextKind.TheVariants.{Invalid, NoScheme, Valid}
+use Rattle.any_check.specs.declared.numbers.SchemeCosts.{SchemeCosts}
+use Rattle.scheme_list.specs.Schemes.{row_of, scheme_named}
+use Rattle.scheme_list.specs.declared.schemes.Scheme.{Scheme as StoredScheme}
+use Rattle.scheme_list.specs.declared.schemes.Scheme.TheVariants.{Argon2d, Argon2i, Argon2id, Bcrypt, Md5Crypt, Pbkdf2Sha256}
+use Rattle.scheme_list.specs.declared.schemes.Scheme.TheVariants.{Pbkdf2Sha512, Scrypt, ScryptCrypt, Sha256Crypt, Sha512Crypt, Yescrypt}
+use Rattle.sha_crypt.specs.declared.errors.Family.TheVariants.{Sha256, Sha512}
+use Rattle.any_check.proofs.Bound.{mcf_of_fault, mcf_of_valid}
+use Rattle.any_check.proofs.Families.{family_if_sha, no_family, sha_same}
+
+-- an answer and a kind agree
+abbrev Agree : {A E : Type 0} → Result A E → TextKind → Type 0
+Agree r k = is_ok r ≡ is_valid k
+
+stored_agree : (r : Result Bool StoredError) (k : TextKind) → Agree r k → Agree (of_stored r) k
+stored_agree (Ok b) k h = h
+stored_agree (Err e) k h = h
+
+by_taken : (t x : Bool) (k : TextKind) (e : StoredError) → is_valid k ≡ true
+    → Agree (if t then Ok x else Err e) (if t then k else Invalid)
+by_taken true x k e h = sym h
+by_taken false x k e h = refl
+
+-- ---- md5-crypt
+
+md5_fields_agree : (magic : Magic) (password : List ℕ) (r : Result Md5Fields Md5Fault)
+    → Agree (of_md5 (fields_verdict magic password r)) (if is_ok r then asks Md5Crypt no_costs else Invalid)
+md5_fields_agree magic password (Ok f) = refl
+md5_fields_agree magic password (Err e) = refl
+
+md5_magic_agree : (password : List ℕ) (o : Option Magic) (p : mcf_parts.Parts)
+    → Agree (md5_by o password p) (md5_by_magic o p.fields)
+unfolding md5_verdict
+md5_magic_agree password None p = refl
+md5_magic_agree password (Some magic) p = md5_fields_agree magic password (md5_fields p.fields)
+
+md5_agree : (password : List ℕ) (r : Result mcf_parts.Parts mcf_error.Error) → Agree (md5_answer password r) (md5_kind r)
+md5_agree password (Err e) = refl
+md5_agree password (Ok p) = md5_magic_agree password (magic_of p.id) p
+
+-- ---- SHA-crypt
+
+sha_agree : (s : Scheme) (family : Family) (password : List ℕ) (r : Result ShaFields CheckError)
+    → Agree (sha_answer s password r) (sha_kind family r)
+sha_agree s family password (Ok f) = refl
+sha_agree s family password (Err e) = refl
+
+-- ---- bcrypt, whose verdict wants a password without a zero byte
+
+by_match : (b : Bool) → is_ok (of_bcrypt_check (if b then Ok tt else Err HashMismatch)) ≡ true
+by_match true = refl
+by_match false = refl
+
+bcrypt_agree : (password : List ℕ) → has_zero password ≡ false → (r : Result Parts BcryptFault)
+    → Agree (of_bcrypt_check (parts_answer password r)) (bcrypt_kind (parts_cost r))
+bcrypt_agree password zero (Err e) = refl
+bcrypt_agree password zero (Ok p) = rw zero (by_match (hash_matches password p))
+
+bcrypt_valid : (password : List ℕ) (r : Result Parts BcryptFault) → is_ok (of_bcrypt_check (parts_answer password r)) ≡ true
+    → is_valid (bcrypt_kind (parts_cost r)) ≡ true
+bcrypt_valid password (Err e) h = h
+bcrypt_valid password (Ok p) h = refl
+
+-- ---- yescrypt and scrypt in crypt's own form
+
+by_yescrypt_match : (b : Bool) → is_ok (of_yescrypt_check (if b then Ok tt else Err of_crypt.HashMismatch)) ≡ true
+by_yescrypt_match true = refl
+by_yescrypt_match false = refl
+
+by_scrypt_match : (b : Bool) → is_ok (of_scrypt_check (if b then Ok tt else Err of_crypt.HashMismatch)) ≡ true
+by_scrypt_match true = refl
+by_scrypt_match false = refl
+
+yescrypt_agree : (password : List ℕ) → length password ≤ 4096 → (r : Result YescryptMeaning TextFault)
+    → Agree (of_yescrypt_check (yescrypt_verdict password r)) (yescrypt_kind (yescrypt_meaning_costs r))
+yescrypt_agree password short (Err e) = refl
+yescrypt_agree password short (Ok m) = rw (fits password short) (by_yescrypt_match (yescrypt_matches password m))
+
+scrypt_agree : (password : List ℕ) → length password ≤ 4096 → (r : Result ScryptMeaning TextFault)
+    → Agree (of_scrypt_check (scrypt_verdict password r)) (scrypt_kind (scrypt_meaning_costs r))
+scrypt_agree password short (Err e) = refl
+scrypt_agree password short (Ok m) = rw (fits password short) (by_scrypt_match (scrypt_matches password m))
+
+-- ---- records, and the table
+
+module _ (accepted : PasswordHash → List ℕ → ℕ → Bool) (tag : List ℕ → PasswordHash → List ℕ → ℕ → List ℕ)
+    (password : List ℕ) where
+  key_agree : (s : StoredScheme) (r : PasswordHash) (salt hash : Option (List ℕ))
+      → Agree (key_answer accepted tag password r salt hash) (salted_kind accepted s r salt hash)
+  key_agree s r None hash = refl
+  key_agree s r (Some salt) None = refl
+  key_agree s r (Some salt) (Some hash) =
+      by_taken (accepted r salt (length hash)) _ (asks s (record_costs (row_of s).family r)) _ refl
+
+  phc_agree : (s : StoredScheme) (r : Result PasswordHash phc_error.Error)
+      → Agree (phc_answer accepted tag password r) (phc_kind accepted s r)
+  phc_agree s (Err e) = refl
+  phc_agree s (Ok r) = key_agree s r r.salt r.hash
+
+  module _ (stored : List ℕ) (short : length password ≤ 4096) where
+    -- a text that is none in the modular crypt format
+    bad_verdict : (e : mcf_error.Error) → fault stored ≡ Some e → is_ok (verdict accepted tag password stored) ≡ false
+    unfolding verdict mcf
+    bad_verdict e bad = rw (fits password short, bad) refl
+
+    bad_agree : (e : mcf_error.Error) → fault stored ≡ Some e → (k : TextKind)
+        → Agree (verdict accepted tag password stored) (if is_ok (mcf stored) then k else Invalid)
+    bad_agree e bad k = rw (mcf_of_fault stored e bad) (bad_verdict e bad)
+
+    module _ (valid : fault stored ≡ None) where
+      phc_is : phc_text stored ≡ phc (parts stored).id (parts stored).fields
+      unfolding phc_text
+      phc_is = rw (pieces_of_valid stored valid) refl
+
+      verdict_by : (o : Option Scheme) → scheme_of (parts stored).id ≡ o
+          → verdict accepted tag password stored ≡ stored_verdict.parts_answer accepted tag password o (parts stored)
+      unfolding verdict mcf
+      verdict_by o is = rw (fits password short, valid, is) refl
+
+      sha_read : (family : Family) → same_text (parts stored).id (family_id family) ≡ true
+          → record_of family stored ≡ scheme_fields (family_scheme family) (parts stored).fields
+      unfolding text_fields
+      sha_read family same = rw (pieces_of_valid stored valid, same) refl
+
+      sha_valid : (family : Family) → text_scheme stored ≡ Some (sha_scheme family)
+          → Agree (verdict accepted tag password stored) (if is_ok (mcf stored) then sha_kind family (record_of family stored) else Invalid)
+      sha_valid family is =
+          rw (
+            mcf_of_valid stored valid,
+            sha_read family (sha_same stored family is),
+            verdict_by (Some (family_scheme family)) (ap (option_map family_scheme) (family_if_sha stored family is)),
+          )
+          (sha_agree (family_scheme family) family password (scheme_fields (family_scheme family) (parts stored).fields))
+
+      record_valid : (s : StoredScheme) → named_family (identifier stored) ≡ None
+          → Agree (verdict accepted tag password stored) (if is_ok (mcf stored) then phc_kind accepted s (phc_text stored) else Invalid)
+      record_valid s none =
+          rw (mcf_of_valid stored valid, phc_is, verdict_by None (ap (option_map family_scheme) none))
+          (phc_agree s (phc (parts stored).id (parts stored).fields))
+
+    sha_by_fault : (o : Option mcf_error.Error) → fault stored ≡ o → (family : Family)
+        → text_scheme stored ≡ Some (sha_scheme family)
+        → Agree (verdict accepted tag password stored) (if is_ok (mcf stored) then sha_kind family (record_of family stored) else Invalid)
+    sha_by_fault None valid family is = sha_valid valid family is
+    sha_by_fault (Some e) bad family is = bad_agree e bad (sha_kind family (record_of family stored))
+
+    record_by_fault : (o : Option mcf_error.Error) → fault stored ≡ o → (s : StoredScheme)
+        → named_family (identifier stored) ≡ None
+        → Agree (verdict accepted tag password stored) (if is_ok (mcf stored) then phc_kind accepted s (phc_text stored) else Invalid)
+    record_by_fault None valid s none = record_valid valid s none
+    record_by_fault (Some e) bad s none = bad_agree e bad (phc_kind accepted s (phc_text stored))
+
+    sha_row : (family : Family) → text_scheme stored ≡ Some (sha_scheme family)
+        → Agree (of_stored (verdict accepted tag password stored))
+        (if is_ok (mcf stored) then sha_kind family (record_of family stored) else Invalid)
+    sha_row family is =
+        stored_agree (verdict accepted tag password stored) _ (sha_by_fault (fault stored) refl family is)
+
+    record_named : (s : StoredScheme) → is_record (Some s) ≡ true → text_scheme stored ≡ Some s
+        → is_record (scheme_named (identifier stored)) ≡ true
+    unfolding text_scheme
+    record_named s of is = ap is_record is ∙ of
+
+    record_row : (s : StoredScheme) → is_record (Some s) ≡ true → text_scheme stored ≡ Some s
+        → Agree (of_stored (verdict accepted tag password stored))
+        (if is_ok (mcf stored) then phc_kind accepted s (phc_text stored) else Invalid)
+    record_row s of is =
+        stored_agree (verdict accepted tag password stored) _
+        (record_by_fault (fault stored) refl s (no_family (identifier stored) (record_named s of is)))
+
+    -- ---- the rows: each kind of what has a verdict is valid, and the other way round on a password without a zero byte
+
+    abbrev Told : Bool → Bool → Type 0
+    Told verdict valid = (verdict ≡ true → valid ≡ true) × (has_zero password ≡ false → verdict ≡ valid)
+
+    both : (a b : Bool) → a ≡ b → Told a b
+    both a b same = (λ h. sym same ∙ h, λ zero. same)
+
+    by_row : (o : Option StoredScheme) → text_scheme stored ≡ o
+        → Told (is_ok (scheme_answer accepted tag o password stored)) (is_valid (kind_by accepted o stored))
+    unfolding bcrypt_answer yescrypt_answer scrypt_answer
+    by_row None is = both _ _ refl
+    by_row (Some Md5Crypt) is = both _ _ (md5_agree password (mcf stored))
+    by_row (Some Sha256Crypt) is = both _ _ (sha_row Sha256 is)
+    by_row (Some Sha512Crypt) is = both _ _ (sha_row Sha512 is)
+    by_row (Some Bcrypt) is =
+        (bcrypt_valid password (text_parts stored), λ zero. bcrypt_agree password zero (text_parts stored))
+    by_row (Some Yescrypt) is = both _ _ (yescrypt_agree password short (yescrypt_text stored))
+    by_row (Some ScryptCrypt) is = both _ _ (scrypt_agree password short (scrypt_text stored))
+    by_row (Some Scrypt) is = both _ _ (record_row Scrypt refl is)
+    by_row (Some Pbkdf2Sha256) is = both _ _ (record_row Pbkdf2Sha256 refl is)
+    by_row (Some Pbkdf2Sha512) is = both _ _ (record_row Pbkdf2Sha512 refl is)
+    by_row (Some Argon2d) is = both _ _ (record_row Argon2d refl is)
+    by_row (Some Argon2i) is = both _ _ (record_row Argon2i refl is)
+    by_row (Some Argon2id) is = both _ _ (record_row Argon2id refl is)
+
+    verdict_is : any_verdict accepted tag password stored ≡ scheme_answer accepted tag (text_scheme stored) password stored
+    unfolding any_verdict
+    verdict_is = rw (fits password short) refl
+
+    kind_is : text_kind accepted stored ≡ kind_by accepted (text_scheme stored) stored
+    unfolding text_kind
+    kind_is = refl
+
+    by_scheme : Told (is_ok (any_verdict accepted tag password stored)) (is_valid (text_kind accepted stored))
+    by_scheme =
+        subst (λ (r : Result Bool AnyError). Told (is_ok r) (is_valid (text_kind accepted stored))) (sym verdict_is)
+        (subst (λ (k : TextKind). Told (is_ok (scheme_answer accepted tag (text_scheme stored) password stored)) (is_valid k))
+        (sym kind_is) (by_row (text_scheme stored) refl))
+
+-- ---- the laws
+
+pub valid_is_verdict : ValidIsVerdict
+valid_is_verdict accepted tag password stored short zero = (by_scheme accepted tag password stored short).1 zero
+
+-- no bytes, as a password
+abbrev nothing : List ℕ
+nothing = []
+
+nothing_short : length nothing ≤ 4096
+nothing_short = omega arith
+
+pub valid_on_some : ValidIsVerdictOnSome
+valid_on_some accepted tag stored = (
+  λ valid. (nothing, nothing_short, valid_is_verdict accepted tag nothing stored nothing_short refl ∙ valid),
+  λ on. (by_scheme accepted tag on.0 stored on.1).0 on.2,
+)
+
+-- a text that costs too much has no fault
+costly_kind : (limits : SchemeCosts) (k : TextKind) → kind_costs limits k ≡ true → is_valid k ≡ true
+costly_kind limits NoScheme h = h
+costly_kind limits Invalid h = h
+costly_kind limits (Valid text) h = refl
+
+costly_valid : (accepted : PasswordHash → List ℕ → ℕ → Bool) (limits : SchemeCosts) (stored : List ℕ)
+    → is_costly accepted limits stored ≡ true → is_valid (text_kind accepted stored) ≡ true
+unfolding is_costly
+costly_valid accepted limits stored h = costly_kind limits (text_kind accepted stored) h
+
+pub costly_is_valid : CostlyIsValid
+costly_is_valid accepted tag limits password stored short zero costly =
+    valid_is_verdict accepted tag password stored short zero ∙ costly_valid accepted limits stored costly
