@@ -23,12 +23,13 @@ TOP = os.path.dirname(HERE)
 Row = collections.namedtuple("Row", "name kind needs minutes quick what")
 ROWS = [Row(*row) for row in (
     ("argon2.py", "times", "rt", 4, None, "Argon2id beside libargon2 and libsodium"),
-    ("base64.py", "times", "rt cargo", 6, None, "the coders beside Debian's crate base64ct"),
+    ("base64_times.py", "times", "rt cargo", 6, None, "the coders beside Debian's crate base64ct"),
     ("base64_streams.py", "times", "rt cargo base64 openssl", 8, None, "wrapped Base64 in streams and whole programs"),
     ("bcrypt.py", "times", "rt htpasswd", 5, None, "bcrypt beside libxcrypt, htpasswd and python3-bcrypt"),
     ("check.py", "times", "gcc grep", 6, None, "`pwcheck check` over large inputs and over lines with a digest"),
     ("crypt_time.py", "times", "gcc", 2, None, "a call of crypt_r beside libxcrypt"),
     ("gate_times.py", "times", "rt", 60, None, "processor time of the gate, crate by crate"),
+    ("logins.py", "times", "", 1, None, "a login by each scheme at its recommended cost, beside libargon2, libxcrypt and OpenSSL"),
     ("md5_crypt.py", "times", "rt openssl", 3, None, "md5-crypt beside libxcrypt and openssl"),
     ("pbkdf2.py", "times", "rt", 3, None, "PBKDF2 beside OpenSSL and hashlib"),
     ("pw_file.py", "times", "rt", 3, None, "checks of `pwfile` beside a dict and passlib"),

@@ -10,7 +10,7 @@ librust-base64ct-dev: the script looks in /usr/share/cargo/registry, or in the f
 `apt-get download librust-base64ct-dev` and `dpkg -x`). Debian's 1.5.1 has no alphabet of SHA-crypt; its alphabet of
 crypt stands in its place. It installs nothing.
 
-usage: bench/base64.py [RUNS]      (15 if left out)
+usage: bench/base64_times.py [RUNS]      (15 if left out)
 """
 import subprocess
 import sys
