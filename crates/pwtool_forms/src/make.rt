@@ -138,7 +138,10 @@ pub fn told(rt: &impl Eprint, fault: Option<ErrorKind>, end: MakeEnd) -> u8
             SOME_OTHER
         }
         MakeEnd::LongLine => {
-            say(rt, "standard input: the first line has more than 8192 bytes");
+            say(
+                rt,
+                "standard input: the first line has more than 8192 bytes",
+            );
             SOME_OTHER
         }
         MakeEnd::Refused(MakeFault::OutOfMemory) => {

@@ -80,13 +80,7 @@ pub(crate) fn say_write(rt: &impl Eprint, fault: Option<ErrorKind>) {
 }
 
 /// Says why a run ended before the end of its input, and gives its status. `memory` says what memory was asked for.
-pub fn told(
-    rt: &impl Eprint,
-    name: &str,
-    memory: &str,
-    fault: Option<ErrorKind>,
-    status: u8,
-) -> u8
+pub fn told(rt: &impl Eprint, name: &str, memory: &str, fault: Option<ErrorKind>, status: u8) -> u8
     ensures status { result ≡ status }
 {
     let name = called(name);

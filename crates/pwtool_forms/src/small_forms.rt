@@ -54,7 +54,11 @@ fn stream<R: Read + Drop>(
             BAD_WORDS
         }
         NO_TEXT => {
-            say_at(rt, called(name), "this is no Base64 in lines of the width W");
+            say_at(
+                rt,
+                called(name),
+                "this is no Base64 in lines of the width W",
+            );
             NO_TEXT
         }
         status => told(rt, name, "a line", writer.fault(), status),

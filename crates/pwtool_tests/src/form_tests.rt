@@ -294,7 +294,10 @@ fn causes_of_runs_are_said(rt: HostRuntime) {
         let ear = Ear {
             lines: Cell::new(0),
         };
-        assert!(rt; reports::told(&ear, "-", "a key", full, status) == status, "{status}");
+        assert!(rt;
+            reports::told(&ear, "-", "a key", full, status) == status,
+            "{status}"
+        );
         assert!(rt; ear.lines.get() == lines, "{status}");
     }
 }
