@@ -37,6 +37,10 @@ text_parts user text = if length text == 0 then None else if is_locked text then
 abbrev pub text_in : Foreign → List ℕ → List ℕ
 text_in foreign rest = if has_colons foreign then rest else first_field rest
 
+-- the parts of a user, a colon, a password, a tab and a stored text
+abbrev pub user_password_parts : List ℕ → Option Parts
+user_password_parts line = if has_user line then password_parts (user_of line) (rest_of line) else None
+
 -- the parts of a user, a colon and a stored text
 abbrev pub user_text_parts : Foreign → List ℕ → Option Parts
 user_text_parts foreign line = if has_user line then text_parts (user_of line) (text_in foreign (rest_of line)) else None
@@ -44,7 +48,7 @@ user_text_parts foreign line = if has_user line then text_parts (user_of line) (
 -- the parts of a line; none where no text is converted in it
 unfoldable pub parts_in : Foreign → LineForm → List ℕ → Option Parts
 parts_in foreign Password line = password_parts [] line
-parts_in foreign UserPassword line = if has_user line then password_parts (user_of line) (rest_of line) else None
+parts_in foreign UserPassword line = user_password_parts line
 parts_in foreign UserText line = user_text_parts foreign line
 parts_in foreign Surveyed line = user_text_parts foreign line
 

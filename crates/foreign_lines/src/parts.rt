@@ -2,8 +2,7 @@
 
 ghost use Rattle.std.specs.Prelude.{◌≡◌, MatchOption, false, true};
 ghost use Rattle.std.specs.Str.{is_utf8};
-ghost use Rattle.foreign_lines.specs.Parts.{cut_parts, parts_in, password_parts, text_in, text_parts, user_text_parts, utf8_parts};
-ghost use Rattle.foreign_text.specs.declared.converted.Foreign.{Foreign};
+ghost use Rattle.foreign_lines.specs.Parts.{cut_parts, parts_in, password_parts, text_in, text_parts, user_password_parts, user_text_parts, utf8_parts};
 ghost use Rattle.foreign_lines.specs.Views.{as_parts};
 
 use foreign_text::Foreign;
@@ -92,9 +91,8 @@ fn text_parts<'a>(user: &'a [u8], text: &'a [u8]) -> Option<LineParts<'a>>
 }
 
 // The parts of a user, a colon, a password, a tab and a stored text.
-#[tactic(auto, unfolding(crate::specs::Parts::parts_in))]
 fn user_password_parts(line: &[u8]) -> Option<LineParts<'_>>
-    ensures { (foreign : Foreign) → as_parts result ≡ parts_in foreign LineForm.UserPassword line.now }
+    ensures { as_parts result ≡ user_password_parts line.now }
 {
     match cut_user(line) {
         Some((user, rest)) => password_parts(user, rest),
