@@ -71,7 +71,7 @@ made_is c password salt text h =
     let found = value_found (hash_text c password salt) text (make_fault c password salt) h in
     (no_fault c password salt found.0, found.1)
 
-short_enough : (s : MakeScheme) (n : ℕ) → n ≤ password_length s → n ≤ 4096
+pub short_enough : (s : MakeScheme) (n : ℕ) → n ≤ password_length s → n ≤ 4096
 short_enough (scheme.ShaCrypt family) n h = h
 short_enough scheme.Scrypt n h = h
 short_enough scheme.Bcrypt n h = omega (arith, h)
