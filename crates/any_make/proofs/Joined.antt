@@ -2,20 +2,11 @@
 use Rattle.std.proofs.Common.{◌≡◌, ◌⊎◌, ℕ, ◌<◌, ◌≤◌, List, ◌++◌, length, refl, ap, ◌∙◌, arith, append_assoc, inl, inr}
 use Rattle.std.specs.Prelude.{codes}
 use Rattle.std.specs.Fmt.{decimal, digits}
-use Rattle.base64ct.specs.Encoding.{EachBelow, longest_input}
 use Rattle.phc.specs.Encoded.{encoding}
 use Rattle.phc.specs.Record.{record_text}
-use Rattle.phc.proofs.EncodedBytes.{encoded_length}
 use Rattle.yescrypt_plain.specs.declared.params.ScryptParams.{ScryptParams}
 use Rattle.any_make.specs.Records.{argon2_key, argon2_record, pbkdf2_key, pbkdf2_record, scrypt_key, scrypt_record}
 use Rattle.any_make.specs.declared.scheme.Argon2Cost.{Argon2Cost}
-
--- ---- there is room for the encoding of few bytes
-
-pub never_refused : (bytes : List ℕ) (n : ℕ) → EachBelow 256 bytes → length bytes ≤ 32 → 43 ≤ n
-    → ((longest_input < length bytes) ⊎ (n < length (encoding bytes))) → ⊥
-never_refused bytes n small few room (inl long) = omega (arith, long, few)
-never_refused bytes n small few room (inr short) = omega (arith, encoded_length bytes small, short, few, room)
 
 -- ---- the pieces in one group, and as a record groups them
 

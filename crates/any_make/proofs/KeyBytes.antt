@@ -1,11 +1,13 @@
 -- The keys of Argon2 and PBKDF2 are bytes, 32 of them; scrypt's crate says it of its own.
 use Rattle.std.proofs.Common.{◌≡◌, ℕ, zero, suc, ◌+◌, ◌^◌, ◌<◌, List, [], ◌∷◌, ◌++◌, length, slice_index, arith}
 use Rattle.std.specs.Prelude.{replicate}
-use Rattle.std.specs.Int.{w32, w64, byte_at, bytes_high_first, bytes_low_first, to_be_bytes, to_le_bytes}
+use Rattle.std.specs.Int.{w64, to_le_bytes}
 use Rattle.std.proofs.lemmas.Nat.{xor_of_8}
-use Rattle.sha2.specs.Sha256.{digest_bytes, sha256}
+use Rattle.sha2.specs.Sha256.{sha256}
 use Rattle.base64ct.specs.Encoding.{EachBelow}
 use Rattle.base64ct.proofs.Encodings.{below-take}
+use Rattle.base64ct.proofs.GoodBlocks.{below-append}
+use Rattle.pieces.proofs.NumberBytes.{low_first}
 use Rattle.blake2b.specs.Blake2b.{blake2b}
 use Rattle.blake2b.specs.Words.{bytes}
 use Rattle.argon2_plain.specs.Argon2.{tag_from, variable_hash}
@@ -14,36 +16,20 @@ use Rattle.pbkdf2_key.specs.Lengths.{length-pbkdf2_sha256}
 use Rattle.pbkdf2_key.specs.Pbkdf2.{output_block, output_blocks, pbkdf2, u}
 use Rattle.word_lists.specs.Lists.{xor_bytes}
 use Rattle.hmac_plain.specs.Hmac.{hmac, hmac_sha256}
-use Rattle.scrypt_plain.proofs.KeyBytes.{scrypt_bytes}
+use Rattle.scrypt_plain.proofs.KeyBytes.{digest_below, scrypt_bytes}
 use Rattle.yescrypt_plain.specs.declared.params.ScryptParams.{ScryptParams}
 use Rattle.yescrypt_plain.proofs.KeyBytes as of_crypt
 use Rattle.any_make.specs.Records.{argon2_key, pbkdf2_key, scrypt_key}
 use Rattle.any_make.specs.declared.scheme.Argon2Cost.{Argon2Cost}
 
-below_append : (n : ℕ) (xs ys : List ℕ) → EachBelow n xs → EachBelow n ys → EachBelow n (xs ++ ys)
-below_append n [] ys hx hy = hy
-below_append n (x ∷ xs) ys hx hy = elim [ zero ↦ hx 0 | suc i ↦ below_append n xs ys (λ j. hx (suc j)) hy i ]
-
 none_below : EachBelow 256 []
 none_below i = omega arith
-
-byte_below : (k n : ℕ) → byte_at k n < 256
-byte_below zero n = omega arith
-byte_below (suc k) n = omega arith
-
-low_first : (i k n : ℕ) → EachBelow 256 (bytes_low_first i k n)
-low_first i zero n = none_below
-low_first i (suc k) n = elim [ zero ↦ byte_below i n | suc j ↦ low_first (suc i) k n j ]
-
-high_first : (k n : ℕ) → EachBelow 256 (bytes_high_first k n)
-high_first zero n = none_below
-high_first (suc k) n = elim [ zero ↦ byte_below k n | suc j ↦ high_first k n j ]
 
 -- ---- Argon2
 
 words_below : (ws : List ℕ) → EachBelow 256 (bytes ws)
 words_below [] = none_below
-words_below (w ∷ ws) = below_append 256 (to_le_bytes w64 w) (bytes ws) (low_first 0 8 w) (words_below ws)
+words_below (w ∷ ws) = below-append (to_le_bytes w64 w) (bytes ws) (low_first 0 8 w) (words_below ws)
 
 hash_below : (key message : List ℕ) (n : ℕ) → EachBelow 256 (blake2b key message n)
 unfolding blake2b
@@ -57,13 +43,6 @@ pub argon2_long : (c : Argon2Cost) (password salt : List ℕ) → length (argon2
 argon2_long c password salt = length-tag_from _ _ 32
 
 -- ---- PBKDF2
-
-digest_below : (h : List ℕ) (n : ℕ) → EachBelow 256 (digest_bytes h n)
-unfolding digest_bytes
-digest_below h zero = none_below
-digest_below h (suc n) =
-    below_append 256 (digest_bytes h n) (to_be_bytes w32 (slice_index h n)) (digest_below h n)
-    (high_first 4 (slice_index h n))
 
 code_below : (key text : List ℕ) → EachBelow 256 (hmac_sha256 key text)
 unfolding hmac sha256
@@ -95,7 +74,7 @@ blocks_below : (p s : List ℕ) (c n : ℕ) → EachBelow 256 (output_blocks hma
 unfolding output_blocks
 blocks_below p s c zero = none_below
 blocks_below p s c (suc n) =
-    below_append 256 (output_blocks hmac_sha256 32 p s c n) (output_block hmac_sha256 32 p s (n + 1) c) (blocks_below p s c n)
+    below-append (output_blocks hmac_sha256 32 p s c n) (output_block hmac_sha256 32 p s (n + 1) c) (blocks_below p s c n)
     (block_below p s (n + 1) c)
 
 pub pbkdf2_below : (rounds : ℕ) (password salt : List ℕ) → EachBelow 256 (pbkdf2_key rounds password salt)

@@ -1,10 +1,8 @@
 -- What the makers of the schemes' crates answer where no fault is found here.
 use Rattle.std.proofs.Common.{◌≡◌, ◌≤◌, ℕ, true, false, List, length, refl, sym, ap, ◌∙◌, arith, Some, None, Ok, Err, inl, inr}
 use Rattle.std.specs.Prelude.{◌==◌, ◌||◌, not, nat_le, nat_lt}
-use Rattle.std.specs.Str.{IsUtf8, is_utf8}
-use Rattle.std.proofs.lemmas.Bool.{cases_Bool}
+use Rattle.std.specs.Str.{is_utf8}
 use Rattle.std.proofs.lemmas.Bool.Decides.{nat_tests}
-use Rattle.std.proofs.lemmas.Str.{IsUtf8-from_is_utf8}
 use Rattle.bcrypt_plain.specs.Check.{has_zero}
 use Rattle.bcrypt_plain.specs.Made as bcrypt
 use Rattle.bcrypt_plain.specs.Text.{is_cost}
@@ -48,9 +46,6 @@ yescrypt_is password salt c text h =
     (value_found (yescrypt.yescrypt_hash_text password salt c) text (yescrypt.yescrypt_make_fault password salt c) h).1
 
 -- ---- the first cause
-
-pub not_text : (bs : List ℕ) → (IsUtf8 bs → ⊥) → is_utf8 bs ≡ false
-not_text bs other = elim (cases_Bool (is_utf8 bs)) [ inl e ↦ absurd (other (IsUtf8-from_is_utf8 bs e)) | inr e ↦ e ]
 
 module _ (c : MakeCost) (password salt : List ℕ) (taken : is_taken c ≡ true) (size : length salt ≡ salt_length c)
     (short : length password ≤ password_length c) where

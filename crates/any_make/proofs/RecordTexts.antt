@@ -2,45 +2,19 @@
 use Rattle.std.proofs.Common.{◌≡◌, ℕ, ◌+◌, ◌^◌, ◌<◌, ◌≤◌, true, List, [], ◌∷◌, ◌++◌, length, refl, sym, ap, ◌∙◌, arith}
 use Rattle.std.proofs.Common.{append-nil, append_assoc, Some, None}
 use Rattle.std.specs.Prelude.{codes, nat_le}
-use Rattle.std.specs.Char.{is_ascii_digit}
 use Rattle.std.specs.Fmt.{decimal}
 use Rattle.std.specs.List.{list_all}
-use Rattle.std.proofs.lemmas.Bool.Decides.{nat_tests}
 use Rattle.std.proofs.lemmas.List.{length-append}
 use Rattle.base64ct.specs.Encoding.{EachBelow}
 use Rattle.mcf.specs.Grammar.{field_fault, is_field_byte}
 use Rattle.mcf.proofs.Pushed.{good_field}
 use Rattle.phc.specs.Encoded.{encoding}
-use Rattle.phc.specs.Grammar.{decimal_value, is_name, is_value_byte}
+use Rattle.phc.specs.Grammar.{is_name}
 use Rattle.phc.specs.Params.{Pairs, pairs_text}
 use Rattle.phc.specs.Record.{is_pair}
-use Rattle.phc.proofs.Characters.{all_append, all_weaker, decimal_digits, encoding_value}
-use Rattle.phc.proofs.EncodedBytes.{encoded_length}
-use Rattle.phc.proofs.ValueBytes.{decimal_length}
-use Rattle.pieces.proofs.PlainNumbers.{decimal_read}
-
--- ---- numbers of 32 bits, as they are written
-
-digit_is_value : (b : ℕ) → is_ascii_digit b ≡ true → is_value_byte b ≡ true
-digit_is_value b h = grind (arith, nat_tests)
-
-digit_in_field : (b : ℕ) → is_ascii_digit b ≡ true → is_field_byte b ≡ true
-digit_in_field b h = grind (arith, nat_tests)
-
-value_in_field : (b : ℕ) → is_value_byte b ≡ true → is_field_byte b ≡ true
-value_in_field b value = grind (arith, nat_tests, value)
-
-values : (n : ℕ) → n < 2 ^ 32 → list_all is_value_byte (decimal n) ≡ true
-values n small = all_weaker is_ascii_digit is_value_byte digit_is_value (decimal n) (decimal_digits n small)
-
-in_field : (n : ℕ) → n < 2 ^ 32 → list_all is_field_byte (decimal n) ≡ true
-in_field n small = all_weaker is_ascii_digit is_field_byte digit_in_field (decimal n) (decimal_digits n small)
-
-few : (n : ℕ) → n < 2 ^ 32 → nat_le (length (decimal n)) 64 ≡ true
-few n small = let size = decimal_length n small in grind (arith, nat_tests, size)
-
-pub number_read : (n : ℕ) → n < 2 ^ 32 → decimal_value (decimal n) ≡ Some n
-number_read n small = decimal_read (2 ^ 32) n (omega arith) small
+use Rattle.phc.proofs.Characters.{all_append}
+use Rattle.phc.proofs.ValueBytes.{decimal_length, few, values}
+use Rattle.phc_kdf.proofs.RecordFields.{encoded_good, in_field}
 
 -- ---- pairs of a name and a number
 
@@ -110,12 +84,6 @@ rounds_params n small =
     }
 
 -- ---- fields
-
--- the encoding of some bytes is a field
-encoded_good : (b : List ℕ) → EachBelow 256 b → 1 ≤ length b → field_fault (encoding b) ≡ None
-encoded_good b below some =
-    good_field (encoding b) (omega (arith, encoded_length b below, some))
-    (all_weaker is_value_byte is_field_byte value_in_field (encoding b) (encoding_value b below))
 
 -- a salt and a key of a text that is made
 pub record AreFields (salt key : List ℕ) : Type 0 where

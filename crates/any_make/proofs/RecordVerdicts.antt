@@ -4,26 +4,18 @@ use Rattle.base64ct.specs.Encoding.{EachBelow}
 use Rattle.base64ct.proofs.DecodingLaws.{decoding-encoding, same_true}
 use Rattle.base64ct.specs.Alphabets.{base64_unpadded}
 use Rattle.std.proofs.lemmas.Option.{same_Some}
-use Rattle.mcf.specs.Grammar.{Parts, fault, first_field_fault, is_identifier, mcf, parts, parts_text}
+use Rattle.mcf.specs.Grammar.{Parts, first_field_fault, is_identifier, mcf, parts_text}
 use Rattle.mcf.proofs.Built.{mcf-parts_text}
-use Rattle.mcf.proofs.ValidTexts.{pieces_of_valid}
 use Rattle.phc.specs.Encoded.{decoding, encoding}
-use Rattle.phc.specs.Record.{IsRecord, is_printable, phc, phc_of_pieces, phc_text, record_text}
+use Rattle.phc.specs.Record.{IsRecord, is_printable, phc, record_text}
 use Rattle.phc.specs.declared.password_hash.PasswordHash.{PasswordHash}
+use Rattle.phc_kdf.proofs.RecordFields.{read_phc}
 use Rattle.phc.proofs.ParsedBack.{parses_back}
-use Rattle.pieces.proofs.FaultLaws.{value_found}
 use Rattle.stored_check.specs.Verdict.{key_answer, parts_answer, phc_answer, same_text, scheme_of, verdict}
 use Rattle.stored_check.proofs.MadeTexts.{of_parts}
 use Rattle.any_check.specs.Records.{accepted, tag}
 use Rattle.any_check.specs.Table.{any_verdict, is_record, of_stored, text_scheme}
 use Rattle.any_make.proofs.Judged.{by_record, judged}
-
--- a text that both grammars read
-read_phc : (text : List ℕ) (p : Parts) → mcf text ≡ Ok p → phc_text text ≡ phc p.id p.fields
-unfolding mcf phc_text
-read_phc text p h =
-    let is = value_found (parts text) p (fault text) h in
-    ap phc_of_pieces (pieces_of_valid text is.0) ∙ ap (λ (q : Parts). phc q.id q.fields) is.1
 
 -- two keys with one encoding are one
 pub key_once : (x y : List ℕ) → EachBelow 256 x → EachBelow 256 y → same_text (encoding x) (encoding y) ≡ true → y ≡ x

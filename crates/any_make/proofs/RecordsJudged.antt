@@ -27,7 +27,8 @@ use Rattle.any_make.specs.declared.scheme.Argon2Cost.{Argon2Cost}
 use Rattle.any_make.specs.declared.scheme.MakeCost.TheVariants as cost
 use Rattle.any_make.proofs.Judged.{IsJudged}
 use Rattle.any_make.proofs.KeyBytes.{argon2_below, argon2_long, pbkdf2_below, pbkdf2_long, scrypt_below, scrypt_long}
-use Rattle.any_make.proofs.RecordTexts.{AreFields, AreParams, has_fields, number_read, regrouped, rounds_params, three, three_params}
+use Rattle.phc.proofs.ValueBytes.{number_read}
+use Rattle.any_make.proofs.RecordTexts.{AreFields, AreParams, has_fields, regrouped, rounds_params, three, three_params}
 use Rattle.any_make.proofs.RecordVerdicts.{IsPrinted, key_once, on_record}
 
 -- ---- scrypt

@@ -8,6 +8,7 @@ use Rattle.mcf.specs.Grammar.{Parts, field_fault, first_field_fault, is_field_by
 use Rattle.mcf.proofs.Built.{mcf-parts_text}
 use Rattle.mcf.proofs.Pushed.{good_field}
 use Rattle.pieces.specs.Pieces.{pieces_at}
+use Rattle.pieces.proofs.ByteTests.{is_not}
 use Rattle.sha_crypt.specs.Check.{hash_matches}
 use Rattle.sha_crypt.specs.Families.{Scheme, scheme_fields}
 use Rattle.sha_crypt.specs.Fields.{ShaFields}
@@ -16,10 +17,10 @@ use Rattle.sha_crypt.specs.Simple.{made_fields, made_text}
 use Rattle.sha_crypt.specs.declared.errors.Family.{Family}
 use Rattle.sha_crypt.specs.declared.errors.Family.TheVariants.{Sha256, Sha512}
 use Rattle.sha_crypt.proofs.Digests.{hash_passes, hash_some, is_scheme, made_hash}
-use Rattle.sha_crypt.proofs.MadeTexts.{IsSalt, by_default, is_not, made_read}
+use Rattle.sha_crypt.proofs.MadeTexts.{IsSalt, by_default, made_read}
 use Rattle.stored_check.specs.Verdict.{parts_answer, sha_answer, verdict}
 use Rattle.stored_check.specs.Verdict as stored
-use Rattle.stored_check.proofs.MadeTexts.{of_parts}
+use Rattle.stored_check.proofs.MadeTexts.{is_name, of_parts}
 use Rattle.stored_check.proofs.Normals.{rounds_field}
 use Rattle.stored_check.proofs.Records.{printed_is}
 use Rattle.yescrypt_plain.proofs.Fields.{field_len, field_passes}
@@ -49,10 +50,6 @@ module _ (salt : List ℕ) (size : length salt ≡ 12) (below : EachBelow 256 sa
       }
 
 -- ---- the scheme
-
-is_name : (family : Family) → is_identifier (family_id family) ≡ true
-is_name Sha256 = refl
-is_name Sha512 = refl
 
 is_family : (family : Family) → stored.scheme_of (family_id family) ≡ Some (family_scheme family)
 is_family Sha256 = refl

@@ -1,6 +1,6 @@
 -- The texts of yescrypt are judged.
-use Rattle.std.proofs.Common.{◌≡◌, ℕ, ◌≤◌, Bool, true, false, List, [], ◌∷◌, length, refl, ap, ◌∙◌, arith, Some, Ok, Err}
-use Rattle.std.specs.Prelude.{codes, nat_eq, nat_lt, if◌then◌else◌}
+use Rattle.std.proofs.Common.{◌≡◌, ℕ, ◌≤◌, Bool, true, false, List, length, refl, ap, ◌∙◌, arith, Some, Ok, Err}
+use Rattle.std.specs.Prelude.{nat_eq, nat_lt, if◌then◌else◌}
 use Rattle.std.specs.Cmp.Lexicographic.{pointwise}
 use Rattle.std.proofs.lemmas.Bool.Decides.{nat_tests}
 use Rattle.base64ct.specs.Encoding.{EachBelow}
@@ -8,17 +8,13 @@ use Rattle.base64ct.proofs.DecodingLaws.{same_true, true_same}
 use Rattle.pieces.specs.Pieces.{pieces_at}
 use Rattle.yescrypt_plain.specs.Check.{yescrypt_answer, yescrypt_verdict}
 use Rattle.yescrypt_plain.specs.Check as crypt
-use Rattle.yescrypt_plain.specs.Field.{crypt_field}
 use Rattle.yescrypt_plain.specs.Made.{yescrypt_text_of}
-use Rattle.yescrypt_plain.specs.Params.{in_bounds, yescrypt_params_text}
-use Rattle.yescrypt_plain.specs.Text.{YescryptMeaning, yescrypt_text}
+use Rattle.yescrypt_plain.specs.Params.{in_bounds}
 use Rattle.yescrypt_plain.specs.Yescrypt.{yescrypt}
 use Rattle.yescrypt_plain.specs.declared.error.CheckError.TheVariants as of_crypt
 use Rattle.yescrypt_plain.specs.declared.params.YescryptParams.{YescryptParams}
-use Rattle.yescrypt_plain.proofs.Fields.{hash_read, salt_read}
 use Rattle.yescrypt_plain.proofs.KeyBytes.{key_below, key_long}
-use Rattle.yescrypt_plain.proofs.ParamFields.{text_of_params}
-use Rattle.yescrypt_plain.proofs.TextPieces.{field_lacks, lacks_dollar, params_lack, pieces_read}
+use Rattle.yescrypt_plain.proofs.YescryptTexts.{text_read}
 use Rattle.any_check.specs.Records.{accepted, tag}
 use Rattle.any_check.specs.Table.{any_verdict, of_yescrypt_check, text_scheme}
 use Rattle.scheme_list.specs.declared.schemes.Scheme.TheVariants as scheme
@@ -26,25 +22,9 @@ use Rattle.any_make.specs.Made.{hash_text}
 use Rattle.any_make.specs.declared.scheme.MakeCost.TheVariants as cost
 use Rattle.any_make.proofs.Judged.{IsJudged, by_row, judged}
 
-abbrev meaning : YescryptParams → List ℕ → List ℕ → YescryptMeaning
-meaning c salt key = record { params = c; salt = salt; hash = key }
-
 text_is : (c : YescryptParams) (salt key : List ℕ) → text_scheme (yescrypt_text_of c salt key) ≡ Some scheme.Yescrypt
 unfolding text_scheme pieces_at
 text_is c salt key = refl
-
-text_read : (c : YescryptParams) (salt key : List ℕ) → in_bounds c ≡ true → 1 ≤ length salt → length salt ≤ 64
-    → EachBelow 256 salt → length key ≡ 32 → EachBelow 256 key
-    → yescrypt_text (yescrypt_text_of c salt key) ≡ Ok (meaning c salt key)
-unfolding yescrypt_text
-text_read c salt key good least most below long key_small =
-    let pieces = pieces_read (codes "y") (yescrypt_params_text c ∷ (crypt_field salt ∷ (crypt_field key ∷ [])))
-    (lacks_dollar (codes "y") refl)
-    (params_lack c, (field_lacks salt below, (field_lacks key key_small, tt))) in
-    let of_params = text_of_params (yescrypt_params_text c) c (good, refl) in
-    let of_salt = salt_read salt least most below in
-    let of_key = hash_read key long key_small in
-    rw (pieces, of_params, of_salt, of_key) refl
 
 -- a verdict, by whether the key matches
 told : (asked : List ℕ) (m : Bool) → length asked ≤ 4096 → of_yescrypt_check (crypt.verdict asked m) ≡ judged m

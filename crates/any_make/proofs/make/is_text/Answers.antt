@@ -1,6 +1,6 @@
 use Rattle.std.proofs.Common.{sym}
 use Rattle.std.proofs.lemmas.Str.{is_utf8-from_IsUtf8}
-use Rattle.any_make.proofs.Makers.{not_text}
+use Rattle.pieces.proofs.ByteTests.{not_text}
 use Rattle.any_make.proofs.make.is_text.Goals as goal
 
 pub returns-in-Some : goal.returns-in-Some
