@@ -18,8 +18,6 @@ import sys
 import tempfile
 
 HERE = os.path.dirname(os.path.abspath(__file__))
-# bench/base64.py hides Python's own module of that name
-sys.path = [folder for folder in sys.path if os.path.abspath(folder or ".") != HERE]
 sys.path.insert(0, os.path.join(os.path.dirname(HERE), "bindings"))
 from library import HERE as BINDINGS, laid_out, program, run  # noqa: E402
 

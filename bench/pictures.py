@@ -1,12 +1,13 @@
 #!/usr/bin/env python3
 """Draws docs/parts.svg, the crates in the layers of crates.txt with what each uses, and docs/speeds.svg, our time beside others', from
-bench/speeds.csv, whose numbers are those of docs/SPEED.md. Both have a ground of their own, for light and for dark viewers.
+bench/speeds.csv; and writes the table of docs/SPEED.md from the same rows. The pictures have a ground of their own, for light and for dark viewers.
 
-usage: bench/pictures.py         (it writes both)
-       bench/pictures.py check   (it ends with 1 where a picture isn't the one that it would draw)
+usage: bench/pictures.py         (it writes all three)
+       bench/pictures.py check   (it ends with 1 where one of them isn't what it would write)
 """
 import csv
 import os
+import re
 import sys
 from html import escape
 
@@ -153,10 +154,10 @@ def speeds():
 
 def speeds_picture():
     rows = speeds()
-    left, unit, most_drawn = 300, 280, 1.5
+    left, unit, most_drawn = 300, 220, 2
     height = 60 + 26 * len(rows)
-    drawn = [text(10, 20, "our time, where the other's is 1 (least and most of the cases measured)")]
-    for part in (0, 0.25, 0.5, 0.75, 1, 1.25, most_drawn):
+    drawn = [text(10, 20, "Our time, where the other's is 1: shorter is faster. The pale part goes from the least to the most of the cases.")]
+    for part in (0, 0.25, 0.5, 0.75, 1, 1.25, 1.5, 1.75, most_drawn):
         x = left + unit * part
         drawn.append(f'<line class="line" x1="{x}" y1="34" x2="{x}" y2="{height - 20}" stroke-width="{2 if part == 1 else 0.5}"/>')
         drawn.append(text(x, height - 5, f"{part:g}", "small", "middle"))
@@ -174,26 +175,40 @@ def speeds_picture():
     return picture(920, height, drawn)
 
 
+TABLE = re.compile(r"\| Ours beside the peer \|.*?\n\n", re.S)
+
+
+def speeds_table():
+    """The rows as docs/SPEED.md has them."""
+    lines = ["| Ours beside the peer | Peer | Our time, where the peer's is 1 | Machine | Commit |", "|---|---|---|---|---|"]
+    for row in speeds():
+        told = row["least"] if row["least"] == row["most"] else f"{row['least']} to {row['most']}"
+        lines.append(f"| {row['what']} | {row['peer']} | {told} | {row['machine']} | {row['commit'] or '-'} |")
+    return "\n".join(lines) + "\n\n"
+
+
+def speeds_page(page):
+    """docs/SPEED.md with the table of bench/speeds.csv."""
+    if not TABLE.search(page):
+        sys.exit("pictures.py: docs/SPEED.md has no table of bench/speeds.csv")
+    return TABLE.sub(lambda _: speeds_table(), page, count=1)
+
+
 def main():
-    pictures = {"parts.svg": parts_picture(), "speeds.svg": speeds_picture()}
+    with open(os.path.join(TOP, "docs", "SPEED.md"), encoding="utf-8") as file:
+        page = file.read()
+    files = {"parts.svg": parts_picture(), "speeds.svg": speeds_picture(), "SPEED.md": speeds_page(page)}
     other = 0
-    for name, drawn in pictures.items():
+    for name, made in files.items():
         path = os.path.join(TOP, "docs", name)
         if sys.argv[1:] == ["check"]:
             with open(path, encoding="utf-8") as file:
-                if file.read() != drawn:
-                    print(f"pictures.py: docs/{name} is another picture: run bench/pictures.py")
+                if file.read() != made:
+                    print(f"pictures.py: docs/{name} isn't what bench/speeds.csv and crates.txt give: run bench/pictures.py")
                     other = 1
         else:
             with open(path, "w", encoding="utf-8") as file:
-                file.write(drawn)
-    with open(os.path.join(TOP, "docs", "SPEED.md"), encoding="utf-8") as file:
-        told = file.read()
-    for row in speeds():
-        for number in (row["least"], row["most"]):
-            if number not in told:
-                print(f"pictures.py: docs/SPEED.md has no {number} ({row['what']})")
-                other = 1
+                file.write(made)
     return other
 
 

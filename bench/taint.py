@@ -23,8 +23,6 @@ import tempfile
 import xml.etree.ElementTree
 
 HERE = os.path.dirname(os.path.abspath(__file__))
-# bench/base64.py hides Python's own module of that name
-sys.path = [folder for folder in sys.path if os.path.abspath(folder or ".") != HERE]
 TOP = os.path.dirname(HERE)
 sys.path.insert(0, os.path.join(TOP, "bindings"))
 from library import ARCHIVE, CRATES, archives, need, run  # noqa: E402

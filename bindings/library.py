@@ -3,15 +3,17 @@
 with the links libpwcheck.so.1 and libpwcheck.so, and lib/pkgconfig/pwcheck.pc.
 
     bindings/library.py FOLDER [PREFIX]
+    bindings/library.py --proved ARCHIVE     (the proved calls alone, without the face: what the kit made)
 
 PREFIX is what pwcheck.pc names, where the folder is to be moved there (else the folder itself). libpwcheck.a is the
-archive that `rt lib` makes in crates/pwcheck_c, joined with the kit's allocator for C programs to one object that
-defines the exports alone, so that it needs the C library only. Where rt is there, `rt lib` is run always: it does
+archive that `rt lib` makes in crates/pwcheck_c, joined with the kit's allocator for C programs and with the face in C (face/), which
+wipes after each call, to one object that defines the exports alone, so that it needs the C library only. Where rt is there, `rt lib` is run always: it does
 nothing where nothing changed. Without it (or with PWCHECK_AS_BUILT=1) the archive is taken as it stands, unless a
 source is newer. It needs gcc and binutils. With PWCHECK_DIST=1 the libraries of dist/ are laid out, and nothing is built.
 """
 import os
 import re
+import shlex
 import shutil
 import subprocess
 import sys
@@ -22,6 +24,16 @@ TOP = os.path.dirname(HERE)
 CRATES = os.path.join(TOP, "crates")
 PROGRAM = os.environ.get("PWCHECK", os.path.join(CRATES, "pwcheck", "out", "pwcheck"))
 DIST = os.path.join(TOP, "dist") if os.environ.get("PWCHECK_DIST") else None
+FACE = os.path.join(TOP, "face")
+# How the faces in C are compiled: as Debian 12 does with hardening=+all, and two flags that its later releases have. The folder stays out of
+# what is built.
+FLAGS = [f"-ffile-prefix-map={TOP}=.", "-std=c11", "-D_GNU_SOURCE", "-O2", "-Wall", "-Wextra", "-Werror", "-fPIC",
+         "-fstack-protector-strong", "-fstack-clash-protection", "-fcf-protection", "-Wformat", "-Werror=format-security",
+         "-D_FORTIFY_SOURCE=2", "-I" + FACE, "-I" + os.path.join(TOP, "include")]
+# The names of malloc's family in a proved archive, and those of face/memory.c.
+MEMORY = {name: "face_" + name for name in ("malloc", "realloc", "free")}
+# The exports that pass the face by: they take no password.
+PLAIN = ("word", "version", "base64_encoded_len", "base64_decoded_len", "base64_decode", "base64_encode", "same_bytes")
 ARCHIVE = os.environ.get("LIBPWCHECK_C", os.path.join(CRATES, "pwcheck_c", "out", "libpwcheck_c.a"))
 
 
@@ -89,11 +101,48 @@ def joined(static, exports, parts):
         run("ar", "rcsD", static, whole)
 
 
+def renamed(core, names, path):
+    """The object of an archive with other names for some of its symbols."""
+    run("ld", "-r", "-o", path, "--whole-archive", os.path.abspath(core))
+    run("objcopy", *(f"--redefine-sym={old}={new}" for old, new in names.items()), path)
+
+
+def with_face(core, static):
+    """libpwcheck.a: the proved calls under other names, and the face in C over them."""
+    exports = {line.split()[-1] for line in run("nm", "--defined-only", "--extern-only", core, capture_output=True, text=True).stdout.splitlines()
+               if len(line.split()) == 3}
+    names = {name: "core_" + name[len("pwcheck_"):] for name in exports if name[len("pwcheck_"):] not in PLAIN}
+    with tempfile.TemporaryDirectory() as scratch:
+        parts = [os.path.join(scratch, name + "_face.o") for name in ("pwcheck", "wipe", "memory")]
+        for part in parts:
+            source = os.path.join(FACE, os.path.basename(part).replace("_face.o", ".c"))
+            run("gcc", *FLAGS, *shlex.split(os.environ.get("CFLAGS", "")), "-c", source, "-o", part, cwd=TOP)
+        parts.append(os.path.join(scratch, "proved.o"))
+        renamed(core, {**names, **MEMORY}, parts[-1])
+        whole = os.path.join(scratch, os.path.basename(static)[3:-2] + ".o")
+        run("ld", "-r", "-o", whole, *parts)
+        run("objcopy", "--wildcard", "--keep-global-symbol=pwcheck_*", whole)
+        if os.path.exists(static):
+            os.remove(static)
+        run("ar", "rcsD", static, whole)
+
+
+def make_core(core):
+    """libpwcheck_c.a: the proved calls below the face, which the kit alone made."""
+    if DIST:
+        shutil.copy(os.path.join(DIST, "libpwcheck_c.a"), core)
+    else:
+        joined(core, "pwcheck_*", archives())
+
+
 def make_static(static):
     if DIST:
         shutil.copy(os.path.join(DIST, "libpwcheck.a"), static)
-    else:
-        joined(static, "pwcheck_*", archives())
+        return
+    with tempfile.TemporaryDirectory() as scratch:
+        core = os.path.join(scratch, "libpwcheck_c.a")
+        make_core(core)
+        with_face(core, static)
 
 
 def make_links(lib, name, full, soname):
@@ -148,6 +197,9 @@ def laid_out(folder, prefix=None):
 
 
 if __name__ == "__main__":
-    need(len(sys.argv) in (2, 3), "usage: library.py FOLDER [PREFIX]")
+    need(len(sys.argv) in (2, 3), "usage: library.py FOLDER [PREFIX], or library.py --proved ARCHIVE")
     need(DIST or shutil.which("gcc") and shutil.which("ld") and shutil.which("objcopy"), "it needs gcc and binutils")
-    laid_out(*sys.argv[1:])
+    if sys.argv[1] == "--proved":
+        make_core(sys.argv[2])
+    else:
+        laid_out(*sys.argv[1:])

@@ -65,6 +65,8 @@ ANSWERS = {
     "ScryptFormat": "SCRYPT_FORMAT",
     "ZeroByte": "ZERO_BYTE",
 }
+# What the face in C answers of itself.
+FACE = {"NO_RANDOM": -8}
 ALPHABETS = {name: name.upper() for name in (
     "base64", "base64_unpadded", "base64_url", "base64_url_unpadded", "base64_bcrypt", "base64_crypt", "base64_pbkdf2",
     "base64_sha_crypt")}
@@ -206,24 +208,39 @@ def header_numbers(header):
 
 
 def limits_agree(header):
-    """The limits stand in the header and in the bindings in the order of the library's own record."""
+    """The limits stand in the header and in the bindings in the order of the proved call, after the size of the struct."""
     struct = re.search(r"pub struct Limits \{(.*?)^\}", read("crates", "pwcheck_c", "src", "any.rt"), re.M | re.S).group(1)
-    wanted = re.findall(r"^ +pub (\w+):", struct, re.M)
+    wanted = ["size", *re.findall(r"^ +pub (\w+):", struct, re.M)]
     texts = {
         "the header": re.search(r"^struct pwcheck_limits \{(.*?)^\};", header, re.M | re.S),
         "Python": re.search(r"_fields_ = \[(.*?)\]", read("bindings", "python", "pwcheck", "__init__.py"), re.S),
-        "Rust": re.search(r"pub struct Limits \{(.*?)^\}", read("bindings", "rust", "src", "lib.rs"), re.M | re.S),
+        "Rust": re.search(r"(pub size: u32,.*?)\Z", "".join(
+            re.search(rf"pub struct {name} \{{(.*?)^\}}", read("bindings", "rust", "src", file), re.M | re.S).group(1)
+            for name, file in (("SizedLimits", "c.rs"), ("Limits", "lib.rs"))), re.S),
     }
     for name, found in texts.items():
         fields = re.findall("|".join(wanted), re.sub(r"/\*.*?\*/|//[^\n]*", "", found.group(1), flags=re.S))
         need(fields == wanted, f"{name} has the limits {' '.join(fields)}")
     none = re.search(r"^#define PWCHECK_LIMITS_NONE(.*?)\}$", header, re.M | re.S).group(1)
-    need(none.count("UINT32_MAX") == len(wanted), "PWCHECK_LIMITS_NONE has another number of limits")
-    print(f"numbers.py: {len(wanted)} limits stand everywhere in the order of their definition")
+    need(none.count("UINT32_MAX") == len(wanted) - 1, "PWCHECK_LIMITS_NONE has another number of limits")
+    login_limits_agree(header, wanted)
+    print(f"numbers.py: {len(wanted) - 1} limits stand everywhere in the order of the proved call")
+
+
+def login_limits_agree(header, wanted):
+    """The limits of a login are the same numbers in the header and in the bindings."""
+    row = re.search(r"^#define PWCHECK_LIMITS_LOGIN.*?, ([0-9, ]+)\}$", header, re.M | re.S).group(1)
+    of_header = dict(zip(wanted[1:], map(int, row.split(", "))))
+    need(len(of_header) == len(wanted) - 1, "PWCHECK_LIMITS_LOGIN has another number of limits")
+    python = re.search(r"^LIMITS_LOGIN = Limits\((.*?)\)$", read("bindings", "python", "pwcheck", "__init__.py"), re.M | re.S).group(1)
+    rust = re.search(r"pub const LOGIN: Limits = Limits \{(.*?)^    \};", read("bindings", "rust", "src", "lib.rs"), re.M | re.S).group(1)
+    for name, text, sign in (("Python", python, "="), ("Rust", rust, ": ")):
+        found = {limit: int(n.replace("_", "")) for limit, n in re.findall(rf"(\w+){sign}([0-9_]+)", text)}
+        need(found == of_header, f"{name} has other limits of a login: {found}")
 
 
 def wanted_numbers():
-    return {**places(ANSWERS, entries(specs("pwcheck_c", "Numbers"), "answers")), **statuses(), **lengths(), **recommended(),
+    return {**places(ANSWERS, entries(specs("pwcheck_c", "Numbers"), "answers")), **statuses(), **FACE, **lengths(), **recommended(),
             **places(ALPHABETS, entries(specs("pwcheck_c", "Coder"), "alphabets")), **versions()}
 
 

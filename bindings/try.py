@@ -171,6 +171,27 @@ def compare_types(pwcheck):
     need(pwcheck.check_any(b"correct horse", text, limits) == pwcheck.Answer.OVER_COST, "a bound that isn't kept")
 
 
+def compare_login(pwcheck):
+    """The calls of a login: a text that is made, and what is above the limits."""
+    texts = {pwcheck.make_recommended(b"correct horse") for _ in range(3)}
+    need(len(texts) == 3 and all(text.startswith(b"$argon2id$v=19$m=65536,t=3,p=4$") for text in texts), "not the recommended text")
+    for text in texts:
+        need(pwcheck.check_login(b"correct horse", text) == pwcheck.Answer.MATCH, "no match of a recommended text")
+        need(pwcheck.check_login(b"Correct horse", text) == pwcheck.Answer.MISMATCH, "no mismatch of a recommended text")
+        need(pwcheck.check_any(b"correct horse", text, pwcheck.LIMITS_LOGIN) == pwcheck.Answer.MATCH, "above the limits of a login")
+    for text in ANY:
+        need(pwcheck.check_login(b"secret", text) == pwcheck.Answer.MATCH, f"no match for {text}")
+    dear = b"$2b$16$abcdefghijklmnopqrstuu2r9OfJnfCsdneAXAGHnS4UpFFP8WIrW"
+    need(pwcheck.check_login(b"secret", dear) == pwcheck.Answer.OVER_COST, "no bound of a login")
+    refused(pwcheck.make_recommended, b"\xff")
+    for name in ("size", "argon2_memory_kib"):
+        try:
+            setattr(pwcheck.Limits(), name, 4)
+        except TypeError:
+            continue
+        sys.exit(f"try: {name} was taken for a limit")
+
+
 def compare_made(pwcheck):
     """Texts of each scheme, beside those of others; and what is refused, by its status. bench/made_c.py makes more of them."""
     for scheme, (numbers, text) in MADE.items():
@@ -326,6 +347,7 @@ def compare_python(lib):
     compare_limits(pwcheck)
     compare_any(pwcheck)
     compare_made(pwcheck)
+    compare_login(pwcheck)
     need(pwcheck.version() == pwcheck.VERSION == version(), "another version")
     need(pwcheck.same(b"abc", b"abc") and not pwcheck.same(b"abc", b"abd") and not pwcheck.same(b"abc", b"ab"), "same")
     for number in (-1, max(pwcheck.Answer) + 1, 1 << 30, 1 << 32, -1 << 31):

@@ -82,6 +82,13 @@ static void check_all(const uint8_t *password, size_t n, int is_text, int all)
     }
 }
 
+static int untouched(const uint8_t *out, size_t n, size_t len)
+{
+    for (size_t i = 0; i < n; i++)
+        if (out[i] != 'x') return 0;
+    return len == 77;
+}
+
 /* Texts of every scheme, all of the password "secret", and of one a limit that is below it. */
 static const struct any_row {
     const char *text;
@@ -106,6 +113,68 @@ static const struct any_row {
     {"$7$4/..../....SodiumChloride", PWCHECK_SCRYPT_FORMAT, 12, 0},
 };
 
+/* The limits of a program that was compiled with a shorter or a longer struct, in memory of exactly that size. */
+static int32_t check_by(const struct any_row *row, const uint8_t *stored, size_t m, size_t count, uint32_t size, uint32_t further)
+{
+    uint32_t *numbers = room((count + 1) * sizeof *numbers);
+    for (size_t i = 0; i <= count; i++)
+        numbers[i] = i == 0 ? size : i == row->limit + 1 ? row->below : i > 12 ? further : UINT32_MAX;
+    int32_t answer = pwcheck_check_any((const uint8_t *)"secret", 6, stored, m, (const struct pwcheck_limits *)numbers);
+    give_back(numbers, (count + 1) * sizeof *numbers);
+    return answer;
+}
+
+static void limits_of_other_sizes(const struct any_row *row, const uint8_t *stored, size_t m)
+{
+    for (uint32_t count = 0; count <= 20; count++) {
+        uint32_t size = 4 * (count + 1);
+        /* A number that the struct hasn't bounds nothing; one that this library doesn't know is refused where it bounds. */
+        NEED(check_by(row, stored, m, count, size, UINT32_MAX) == (row->limit < count ? PWCHECK_OVER_COST : PWCHECK_MATCH));
+        NEED(check_by(row, stored, m, count, size, 7)
+             == (count > 12 ? PWCHECK_OUT_OF_RANGE : row->limit < count ? PWCHECK_OVER_COST : PWCHECK_MATCH));
+        NEED(check_by(row, stored, m, count, size - 1, UINT32_MAX) == PWCHECK_OUT_OF_RANGE);
+    }
+    NEED(check_by(row, stored, m, 12, 0, UINT32_MAX) == PWCHECK_OUT_OF_RANGE);
+    NEED(check_by(row, stored, m, 12, 1028, UINT32_MAX) == PWCHECK_OUT_OF_RANGE);
+    NEED(check_by(row, stored, m, 12, UINT32_MAX, UINT32_MAX) == PWCHECK_OUT_OF_RANGE);
+}
+
+/* The calls of a login: a text that is made matches its password alone, each time with another salt, and a dear text isn't hashed. */
+static void log_in(void)
+{
+    uint8_t *password = copy("correct horse", 13), *out = room(PWCHECK_TEXT_MAX), *again = room(PWCHECK_TEXT_MAX);
+    size_t len = 77, other_len = 77;
+    memset(out, 'x', PWCHECK_TEXT_MAX);
+    NEED(pwcheck_make(password, 13, out, 96, &len) == PWCHECK_NO_ROOM && untouched(out, PWCHECK_TEXT_MAX, len));
+    NEED(pwcheck_make((const uint8_t *)"\xff", 1, out, PWCHECK_TEXT_MAX, &len) == PWCHECK_REFUSED_UTF8);
+    NEED(untouched(out, PWCHECK_TEXT_MAX, len));
+    NEED(pwcheck_make(password, 13, out, 97, &len) == PWCHECK_DONE && len == 97);
+    NEED(!memcmp(out, "$argon2id$v=19$m=65536,t=3,p=4$", 31));
+    NEED(pwcheck_make(password, 13, again, PWCHECK_TEXT_MAX, &other_len) == PWCHECK_DONE && other_len == 97);
+    NEED(memcmp(out + 31, again + 31, 22));
+    NEED(pwcheck_check_login(password, 13, out, len) == PWCHECK_MATCH);
+    NEED(pwcheck_check_login(password, 12, out, len) == PWCHECK_MISMATCH);
+    for (size_t i = 0; i < sizeof ANY / sizeof *ANY; i++)
+        NEED(pwcheck_check_login((const uint8_t *)"secret", 6, (const uint8_t *)ANY[i].text, strlen(ANY[i].text))
+             == (ANY[i].other == PWCHECK_MISMATCH ? PWCHECK_MATCH : ANY[i].other));
+    static const char *const DEAR[] = {
+        "$5$rounds=5248001$abcdefgh$qXUmNmbLEOn5YPWvewYoPCAAHp5vzLn73xcpCUC256C",
+        "$2b$16$abcdefghijklmnopqrstuu2r9OfJnfCsdneAXAGHnS4UpFFP8WIrW",
+        "$pbkdf2-sha256$i=4800001,l=32$c2FsdHNhbHRzYWx0$sVaWem31qy3rw+Ldi3plA/XzhMSNi9/XHnnD1Ytj05o",
+        "$scrypt$ln=18,r=8,p=1$c2FsdHNhbHRzYWx0$09/untC+3Bg44eiJQ8bqhTXgE2ali+ykLaojkJZlF9U",
+        "$scrypt$ln=4,r=33,p=1$c2FsdHNhbHRzYWx0$09/untC+3Bg44eiJQ8bqhTXgE2ali+ykLaojkJZlF9U",
+        "$scrypt$ln=4,r=8,p=11$c2FsdHNhbHRzYWx0$09/untC+3Bg44eiJQ8bqhTXgE2ali+ykLaojkJZlF9U",
+        "$argon2id$v=19$m=262145,t=1,p=1$c2FsdHNhbHRzYWx0$Sm3MnLdCFk0Af+croKgebRoqqmhbKd88iiW3yUOXn78",
+        "$argon2id$v=19$m=96,t=9,p=1$c2FsdHNhbHRzYWx0$Sm3MnLdCFk0Af+croKgebRoqqmhbKd88iiW3yUOXn78",
+        "$argon2id$v=19$m=96,t=1,p=9$c2FsdHNhbHRzYWx0$Sm3MnLdCFk0Af+croKgebRoqqmhbKd88iiW3yUOXn78",
+    };
+    for (size_t i = 0; i < sizeof DEAR / sizeof *DEAR; i++)
+        NEED(pwcheck_check_login(password, 13, (const uint8_t *)DEAR[i], strlen(DEAR[i])) == PWCHECK_OVER_COST);
+    give_back(password, 13);
+    give_back(out, PWCHECK_TEXT_MAX);
+    give_back(again, PWCHECK_TEXT_MAX);
+}
+
 static void check_every_scheme(void)
 {
     for (size_t i = 0; i < sizeof ANY / sizeof *ANY; i++) {
@@ -117,14 +186,15 @@ static void check_every_scheme(void)
         NEED(pwcheck_check_any(secret, 6, stored, m, &limits) == own);
         NEED(pwcheck_check_any(other, 6, stored, m, &limits) == row->other);
         if (row->limit < 12) {
-            uint32_t numbers[12];
+            uint32_t numbers[13];
             memcpy(numbers, &limits, sizeof limits);
-            numbers[row->limit] = row->below;
+            numbers[row->limit + 1] = row->below;
             memcpy(&limits, numbers, sizeof limits);
             NEED(pwcheck_check_any(secret, 6, stored, m, &limits) == PWCHECK_OVER_COST);
-            numbers[row->limit] = row->below + (row->limit == 2 ? 30 : 1);
+            numbers[row->limit + 1] = row->below + (row->limit == 2 ? 30 : 1);
             memcpy(&limits, numbers, sizeof limits);
             NEED(pwcheck_check_any(secret, 6, stored, m, &limits) == PWCHECK_MATCH);
+            limits_of_other_sizes(row, stored, m);
         }
         give_back(stored, m);
         give_back(secret, 6);
@@ -132,7 +202,7 @@ static void check_every_scheme(void)
     }
     struct pwcheck_limits limits = PWCHECK_LIMITS_NONE;
     uint8_t *stored = copy(ANY[2].text, strlen(ANY[2].text)), *zero = copy("sec\0ret", 7), *no_text = copy("\xff", 1);
-    NEED(sizeof limits == 12 * sizeof(uint32_t));
+    NEED(sizeof limits == 13 * sizeof(uint32_t) && limits.size == sizeof limits);
     NEED(pwcheck_check_any(zero, 7, stored, strlen(ANY[2].text), &limits) == PWCHECK_ZERO_BYTE);
     NEED(pwcheck_check_any(no_text, 1, stored, strlen(ANY[2].text), &limits) == PWCHECK_NOT_UTF8);
     give_back(stored, strlen(ANY[2].text));
@@ -229,13 +299,6 @@ static int make_wanted(const struct maker_row *row, const uint8_t *password, siz
     if (!is_text) return PWCHECK_REFUSED_UTF8;
     if (!row->takes_zero && n && memchr(password, 0, n)) return PWCHECK_REFUSED_ZERO;
     return PWCHECK_DONE;
-}
-
-static int untouched(const uint8_t *out, size_t n, size_t len)
-{
-    for (size_t i = 0; i < n; i++)
-        if (out[i] != 'x') return 0;
-    return len == 77;
 }
 
 static void make_by(const struct maker_row *row, const uint8_t *password, size_t n, int is_text)
@@ -373,6 +436,7 @@ int main(int argc, char **argv)
     (void)argv;
     words();
     check_every_scheme();
+    log_in();
     make_refused();
     for (size_t n = 0; n <= 5000; n++)
         for (int is_text = NO_TEXT; is_text <= TEXT; is_text++) {

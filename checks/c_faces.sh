@@ -7,8 +7,9 @@
 # 1. The exports of libpwcheck; its calls over exact buffers, with numbers that differ (checks/c_calls.c); its callers in C, Python and
 #    Rust (bindings/try.py).
 # 2. crypt3/pwcrypt.c, compiled here over libpwcrypt_c.a, and libpwcrypt.so.1.0: crypt3/try.c, and calls beside libxcrypt.
-# 3. libpwcheck.so.1.1 linked anew from libpwcheck.a, and libpwcrypt.so.1.0 from crypt3/pwcrypt.c and libpwcrypt_c.a, are the same bytes,
-#    where the compiler and the linker are those that COMPILER names.
+# 3. libpwcheck.a made anew from libpwcheck_c.a and face/, libpwcheck.so.1.1 from that, and libpwcrypt.so.1.0 from crypt3/pwcrypt.c and
+#    libpwcrypt_c.a, are the same bytes, where the compiler and the linker are those that COMPILER names.
+# 4. What stack each call takes, and that it leaves nothing of a password (checks/stack.py).
 set -eu
 top=$(cd "$(dirname "$0")/.." && pwd)
 folder=$(cd "${1:-$top/dist}" && pwd)
@@ -25,7 +26,7 @@ for command in gcc ld objcopy; do
   command -v "$command" >/dev/null 2>&1 || { echo "c_faces.sh: no $command, so nothing was tried"; exit 0; }
 done
 mkdir -p "$work/tree"
-cp -r "$top"/{bindings,include,crypt3,examples} "$work/tree"
+cp -r "$top"/{bindings,include,crypt3,examples,face} "$work/tree"
 cp -r "$folder" "$work/tree/dist"
 export PWCHECK_DIST=1 PWCHECK=$work/tree/dist/pwcheck
 python3 "$work/tree/bindings/library.py" "$work/lib"
@@ -51,6 +52,12 @@ PY
     "$work/crypt_try"
   done
   python3 "$top/bench/crypt_differ.py" "$work/libpwcrypt.so.1" 100
+  peer=$(ldconfig -p | awk '/libcrypt\.so\.1 .*x86-64/ { print $NF; exit }')
+  versions() { nm -D --defined-only "$1" | awk '$2 == "T" { print $3 }' | LC_ALL=C sort; }
+  versions "$work/libpwcrypt.so.1" >"$work/ours"
+  versions "$peer" >"$work/theirs"
+  [ -s "$work/ours" ] && [ -z "$(LC_ALL=C comm -23 "$work/ours" "$work/theirs")" ] || fail "a symbol of libpwcrypt has another version than libxcrypt's"
+  echo "c_faces.sh: $(wc -l <"$work/ours") symbols of libpwcrypt have libxcrypt's versions"
 else
   echo "c_faces.sh: no <crypt.h>, so crypt(3) was not tried"
 fi
@@ -60,11 +67,20 @@ if { gcc --version; ld --version; } | grep -E '^(gcc|GNU ld)' | cmp -s - "$folde
 import sys
 sys.path.insert(0, sys.argv[1] + "/tree/bindings")
 import library
-library.link_shared(sys.argv[1] + "/libpwcheck.so", "libpwcheck.so.1", sys.argv[1] + "/tree/dist/libpwcheck.a")
+library.with_face(sys.argv[1] + "/tree/dist/libpwcheck_c.a", sys.argv[1] + "/libpwcheck.a")
+library.link_shared(sys.argv[1] + "/libpwcheck.so", "libpwcheck.so.1", sys.argv[1] + "/libpwcheck.a")
 PY
+  cmp "$work/libpwcheck.a" "$folder/libpwcheck.a" || fail "libpwcheck.a isn't what libpwcheck_c.a and the face give"
   cmp "$work/libpwcheck.so" "$folder/libpwcheck.so.1.1" || fail "libpwcheck.so.1.1 isn't what libpwcheck.a gives"
   [ ! -e "$work/libpwcrypt.so.1" ] || cmp "$work/libpwcrypt.so.1" "$folder/libpwcrypt.so.1.0" || fail "libpwcrypt.so.1.0 isn't what pwcrypt.c gives"
   echo "c_faces.sh: both shared libraries are what this compiler makes of the archives"
 else
   echo "c_faces.sh: another compiler than that of $folder/COMPILER, so the shared libraries weren't linked anew: $(tr '\n' ';' <"$folder/COMPILER" 2>/dev/null)"
 fi
+
+STACK_MOST=${STACK_MOST:-8192}
+python3 "$top/checks/stack.py" --clean --most $STACK_MOST "$folder/libpwcheck.so.1.1" "$folder/libpwcrypt.so.1.0" >"$work/stack" || {
+  cat "$work/stack" >&2
+  fail "a call takes more than $STACK_MOST bytes of stack, or leaves something of a password"
+}
+echo "c_faces.sh: no call of the C libraries takes more than $STACK_MOST bytes of stack, or leaves anything of a password"

@@ -1,16 +1,21 @@
 #!/usr/bin/env python3
 """Checks what the pages name: each path of the repository, and each must-fail edit of docs/ARCHITECTURE.md's list.
 
-usage: checks/pages.py      (it ends with 1 where a page names what isn't there)
+usage: checks/pages.py             (it ends with 1 where a page names what isn't there, or where one of PLAIN has a sentence of more than 40 words)
+       checks/pages.py sentences   (prints for each page its sentences, their mean length in words, and those of more than 40 words)
 """
 import glob
 import itertools
 import os
 import re
+import sys
 
 from page_texts import TOP, end, page_texts
 
-ROOTS = ("crates", "docs", "bench", "examples", "bindings", "include", "man", "scale", "packaging", "checks", "crypt3")
+# The pages that are held to sentences of at most LONG words. The others are reported by `sentences`.
+PLAIN = ("README.md", "SECURITY.md", "CONTRIBUTING.md", "CHANGELOG.md", "docs/FORMAT.md", "docs/GUIDE.md", "docs/PROOF.md", "docs/README.md", "bench/README.md")
+LONG = 40
+ROOTS = ("crates", "docs", "bench", "examples", "bindings", "include", "man", "scale", "packaging", "checks", "crypt3", "face")
 
 
 def spread(path):
@@ -46,11 +51,45 @@ def dead_edits(text):
                 yield f"docs/ARCHITECTURE.md: {crate} has no edit {name}"
 
 
+def sentences(text):
+    """The sentences of a page's paragraphs, list items and quotations: no blocks, no headings, no cells of tables."""
+    text = re.sub(r"^```.*?^```$", "", text, flags=re.M | re.S)
+    found = []
+    for paragraph in re.split(r"\n\s*\n|\n(?=\s*(?:[-*]|\d+\.) )", text):
+        if re.match(r"\s*(#|\||!|    )", paragraph.strip("\n")):
+            continue
+        plain = " ".join(re.sub(r"^\s*>\s?", "", paragraph, flags=re.M).split())
+        found += [each for each in re.split(r"(?<=[.!?:;])\s+(?=[A-Z`*_\"(])", plain) if each]
+    return found
+
+
+def words(sentence):
+    return len(re.findall(r"\S*\w\S*", sentence))
+
+
+def long_sentences(page, text):
+    return [f"{page}: a sentence of {words(each)} words: {each[:90]}.." for each in sentences(text) if words(each) > LONG]
+
+
+def print_sentences(pages):
+    for page, text in pages.items():
+        if not page.endswith(".md"):
+            continue
+        found = sentences(text)
+        print(f"{page}: {len(found)} sentences, {sum(map(words, found)) / max(len(found), 1):.1f} words on the average, "
+              f"{len(long_sentences(page, text))} of more than {LONG}")
+
+
 def main():
     faults = []
     pages = page_texts()
+    if sys.argv[1:] == ["sentences"]:
+        print_sentences(pages)
+        return
     for page, text in pages.items():
         faults += dead_paths(page, text)
+        if page in PLAIN:
+            faults += long_sentences(page, text)
         if page == "docs/ARCHITECTURE.md":
             faults += dead_edits(text)
     end(faults, f"pages: {len(pages)} read")

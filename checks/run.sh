@@ -1,7 +1,7 @@
 #!/usr/bin/env bash
 # The repository's own checks, after the prover's. Each ends with a status that isn't 0 where it finds a fault.
 #
-#     checks/run.sh quick    the numbers of the header and of the bindings, what the pages name, the layers, the pictures, dist/ and its
+#     checks/run.sh quick    the numbers of the header and of the bindings, what the pages name, the blocks of README and GUIDE, the layers, the pictures, dist/ and its
 #                            comparison, the faces in C over the libraries of dist/, the built pwtool over each form and option, and what crashes leave of a table of the built
 #                            pwstore, in a minute, without any proof: for each push; it needs strace
 #     checks/run.sh          that, and the C library, its callers, a run under sanitizers, the installation, the programs of README.md
@@ -17,6 +17,7 @@ python3 checks/pages.py
 python3 checks/same_numbers.py changed
 python3 checks/layers.py
 python3 bench/pictures.py check
+python3 bench/run.py --check
 python3 checks/dist.py
 checks/verify_try.sh
 if command -v mandoc >/dev/null 2>&1; then
@@ -31,6 +32,7 @@ trap 'rm -rf "$work"' EXIT
 PWCHECK_DIST=1 ./install.sh "$work/dist" >/dev/null
 ("$work/dist/bin/pwcheck" check --count <examples/passwords.txt || true) | cmp - crates/pwcheck/stdout
 echo "install.sh: what dist/ holds, installed, answers as the stored run"
+python3 checks/blocks.py "$work/dist/bin"
 [ "${1:-}" = quick ] && exit 0
 python3 bindings/library.py "$work/lib"
 python3 checks/exports.py "$work/lib"
@@ -42,7 +44,7 @@ if [ -e /usr/include/crypt.h ]; then
   python3 crypt3/library.py "$work/crypt"
   # pwcrypt.c is compiled for the sanitizers with the program that calls it. Its null pointers are meant.
   gcc -std=c11 -D_GNU_SOURCE -g -O1 -Wall -Wextra -Werror -fsanitize=address,undefined -fno-sanitize=nonnull-attribute \
-    -fno-sanitize-recover=all crypt3/try.c crypt3/pwcrypt.c ${LIBPWCRYPT_C:-crates/pwcrypt_c/out/libpwcrypt_c.a} \
+    -fno-sanitize-recover=all -I face crypt3/try.c crypt3/pwcrypt.c face/wipe.c ${LIBPWCRYPT_C:-crates/pwcrypt_c/out/libpwcrypt_c.a} \
     "${KIT:-$(dirname "$(rt doc)")}/c/liblibc_c.a" -o "$work/crypt_try" -lpthread
   "$work/crypt_try"
   python3 bench/crypt_differ.py "$work/crypt/lib/libpwcrypt.so.1" 2000
@@ -53,4 +55,5 @@ fi
 PWSTORE="$work/first/bin/pwstore" python3 bench/pwstore_hostile.py
 PWSTORE="$work/first/bin/pwtool table" python3 bench/pwstore_hostile.py
 checks/use_from.sh "$work/first"
+checks/other_languages.sh "$work/first"
 PWCHECK_AS_BUILT=1 checks/prefixes.sh "$work/prefixes"

@@ -7,7 +7,6 @@ usage: checks/same_numbers.py           (it ends with 1 where a page states anot
 A fact is a number, where it comes from, and the sentences that state it: patterns with one group, looked for in every page, where
 macros of manual pages, comment marks and line ends count as blanks. A fact without a source is stated by pages alone: these have to agree.
 """
-import csv
 import os
 import re
 import sys
@@ -132,15 +131,6 @@ def faults_of(fact, pages):
     return faults, stated
 
 
-def speeds(pages):
-    """Each number of bench/speeds.csv, which the picture shows, stands in docs/SPEED.md."""
-    with open(os.path.join(TOP, "bench/speeds.csv"), newline="", encoding="utf-8") as file:
-        for row in csv.DictReader(file):
-            for value in {row["least"], row["most"]}:
-                if not re.search(rf"(?<![\d.]){re.escape(value)}(?!\d)", pages["docs/SPEED.md"]):
-                    yield f"docs/SPEED.md: {row['what']} beside {row['peer']}: {value} isn't there"
-
-
 def unseen(fact, pages, stated):
     """The places of a fact where another number isn't noticed."""
     for page, (start, end), value in stated:
@@ -154,7 +144,7 @@ def unseen(fact, pages, stated):
 
 def main():
     pages = {page: plain(page, text) for page, text in page_texts().items()}
-    faults, count = list(speeds(pages)), 0
+    faults, count = [], 0
     for fact in FACTS:
         found, stated = faults_of(fact, pages)
         faults += found

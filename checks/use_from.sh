@@ -1,6 +1,6 @@
 #!/usr/bin/env bash
-# Takes the four programs of README.md, "Use it from other programs", out of the page, builds and runs each against what is installed
-# under a prefix, and compares what it prints. Then the same of each program with one word changed, which has to print something else.
+# Takes the program in C out of README.md and those in Python, Rust and for a shell out of docs/GUIDE.md, builds and runs each against what
+# is installed under a prefix, and compares what it prints. Then the same of each program with one word changed, which has to print something else.
 #
 #     checks/use_from.sh [PREFIX]      (without one, install.sh installs under a folder of its own, as it stands: PWCHECK_AS_BUILT=1)
 #
@@ -24,12 +24,13 @@ else
 fi
 
 block() { # LANGUAGE
+  local page=$top/docs/GUIDE.md
+  [ "$1" != c ] || page=$top/README.md
   awk -v fence='```'"$1" '
-    /^## / { here = ($0 == "## Use it from other programs") }
-    here && $0 == "```" { inside = 0 }
+    $0 == "```" { inside = 0 }
     inside { print }
-    here && $0 == fence { inside = 1; count++ }
-    END { exit count != 1 }' "$top/README.md" || fail "README.md has not one block of $1"
+    $0 == fence { inside = 1; count++ }
+    END { exit count != 1 }' "$page" || fail "$page has not one block of $1"
 }
 
 run_c() { # FILE
@@ -65,7 +66,7 @@ try() { # LANGUAGE SED-COMMAND THAT CHANGES IT
   cmp -s "$work/$1" "$work/changed" && fail "$1: nothing is there to be changed"
   answer=$("run_$1" "$work/changed" 2>/dev/null) || true
   [ "$answer" != match ] || fail "$1: it prints match where it was changed"
-  echo "use_from.sh: $1: $(wc -l <"$work/$1") lines, as README.md says"
+  echo "use_from.sh: $1: $(wc -l <"$work/$1") lines, as the page says"
 }
 
 tried=0
@@ -77,8 +78,8 @@ has() { # LANGUAGE COMMANDS
   tried=$((tried + 1))
 }
 # The stored text is cut, or the last password is another.
-if has c gcc pkg-config; then try c 's/stored, n, &/stored, n - 1, \&/'; fi
+if has c gcc pkg-config; then try c 's/stored, n)/stored, n - 1)/'; fi
 if has python python3; then try python '$s/correct horse/correct house/'; fi
 if has rust cargo; then try rust '$s/correct horse/correct house/'; fi
 if has sh sh; then try sh '$s/correct horse/correct house/'; fi
-echo "use_from.sh: $tried of 4 programs of README.md"
+echo "use_from.sh: $tried of 4 programs of README.md and docs/GUIDE.md"

@@ -12,6 +12,7 @@ import os
 import shlex
 import shutil
 import sys
+import tempfile
 
 HERE = os.path.dirname(os.path.abspath(__file__))
 TOP = os.path.dirname(HERE)
@@ -20,11 +21,7 @@ import library  # noqa: E402
 
 VERSION = "1.0"
 ARCHIVE = os.environ.get("LIBPWCRYPT_C", os.path.join(TOP, "crates", "pwcrypt_c", "out", "libpwcrypt_c.a"))
-# Those of Debian 12 with hardening=+all, and two that its later releases have. The folder stays out of what is built.
-FLAGS = [f"-ffile-prefix-map={TOP}=.", "-std=c11", "-D_GNU_SOURCE", "-O2", "-Wall", "-Wextra", "-Werror", "-fPIC",
-         "-fvisibility=default",
-         "-fstack-protector-strong", "-fstack-clash-protection", "-fcf-protection", "-Wformat", "-Werror=format-security",
-         "-D_FORTIFY_SOURCE=2"]
+FLAGS = [*library.FLAGS, "-fvisibility=default"]
 LINK = ["-Wl,-z,relro", "-Wl,-z,now", "-Wl,-z,defs", "-Wl,-z,text", "-Wl,-z,noexecstack", "-Wl,-Bsymbolic", "-Wl,--strip-debug",
         "-Wl,--version-script=" + os.path.join(HERE, "exports.map")]
 
@@ -39,8 +36,12 @@ def archives():
 
 def link(path, soname, calls):
     """The face in C over the proved calls, as a shared library."""
-    library.run("gcc", *FLAGS, *shlex.split(os.environ.get("CFLAGS", "")), "-shared", "-o", path, "-Wl,-soname," + soname, *LINK,
-                os.path.join(HERE, "pwcrypt.c"), os.path.abspath(calls), cwd=TOP)
+    with tempfile.TemporaryDirectory() as scratch:
+        proved = os.path.join(scratch, "proved.o")
+        library.renamed(calls, library.MEMORY, proved)
+        library.run("gcc", *FLAGS, *shlex.split(os.environ.get("CFLAGS", "")), "-shared", "-o", path, "-Wl,-soname," + soname, *LINK,
+                    os.path.join(HERE, "pwcrypt.c"), os.path.join(library.FACE, "wipe.c"), os.path.join(library.FACE, "memory.c"), proved,
+                    cwd=TOP)
 
 
 def laid_out(folder):

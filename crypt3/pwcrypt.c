@@ -7,8 +7,8 @@
 #include <stdbool.h>
 #include <stdlib.h>
 #include <string.h>
-#include <sys/random.h>
 
+#include "face.h"
 #include "pwcrypt_core.h"
 
 /* The strongest method that is there. */
@@ -32,17 +32,16 @@ static int error_of(int32_t status)
 }
 
 /* Writes the failure token, cut to the room that there is: `*0`, or `*1` where the setting begins with `*0`, so that a token is
- * never the text of a setting. */
+ * never the text of a setting. The setting is read after that, as libxcrypt does: one that stood in the output is `*0` by then. */
 static void write_token(const char *setting, char *output, int size)
 {
-    char token[] = "*0";
-    if (setting && setting[0] == '*' && setting[1] == '0')
-        token[1] = '1';
     if (size <= 0)
         return;
     size_t length = size < 3 ? (size_t)size - 1 : 2;
-    memcpy(output, token, length);
+    memcpy(output, "*0", length);
     output[length] = '\0';
+    if (length == 2 && setting && setting[0] == '*' && setting[1] == '0')
+        output[1] = '1';
 }
 
 static const uint8_t *bytes_of(const char *string)
@@ -62,9 +61,8 @@ static bool write_text(const char *phrase, const char *setting, struct crypt_dat
     size_t length = 0;
     int32_t status = pwcrypt_text(bytes_of(phrase), strlen(phrase), bytes_of(setting), strlen(setting), text,
                                   sizeof text - 1, &length);
+    face_wipe();
     if (status != PWCRYPT_DONE) {
-        /* Anew, as libxcrypt does: a setting that stood in the output is the first token now. */
-        write_token(setting, data->output, sizeof data->output);
         errno = error_of(status);
         return false;
     }
@@ -113,21 +111,6 @@ char *crypt_ra(const char *phrase, const char *setting, void **data, int *size)
     return write_text(phrase, setting, whole) ? whole->output : NULL;
 }
 
-/* Draws random bytes from the system, or answers false, and then errno says why. Fewer are never taken for enough. */
-static bool draw(uint8_t *bytes, size_t count)
-{
-    ssize_t drawn;
-    do {
-        drawn = getrandom(bytes, count, 0);
-    } while (drawn < 0 && errno == EINTR);
-    if (drawn < 0)
-        return false;
-    if ((size_t)drawn == count)
-        return true;
-    errno = EIO;
-    return false;
-}
-
 /* The new setting in `setting`, of which *length is told; or an answer other than 0, the number of errno. */
 static int make_setting(const char *prefix, unsigned long count, const char *rbytes, int nrbytes, uint8_t *setting,
                         size_t room, size_t *length)
@@ -141,7 +124,7 @@ static int make_setting(const char *prefix, unsigned long count, const char *rby
         bytes_len = pwcrypt_random_len(bytes_of(prefix), strlen(prefix));
         if (bytes_len == 0 || bytes_len > sizeof drawn)
             return EINVAL;
-        if (!draw(drawn, bytes_len))
+        if (!face_draw(drawn, bytes_len))
             return errno;
     }
     int32_t status = pwcrypt_setting(bytes_of(prefix), strlen(prefix), count, bytes, bytes_len, setting, room, length);

@@ -1,13 +1,29 @@
 /* Calls each function of libpwcrypt, for a run under sanitizers or valgrind: phrases of each length, null pointers, each size of a
- * buffer, strings at the end of a page, and eight threads. It ends with 1 where an answer is not what it has to be. */
+ * buffer, strings at the end of a page, eight threads, a thread of the least stack, little memory, and random bytes that are known.
+ * It ends with 1 where an answer is not what it has to be. */
 #include <crypt.h>
 #include <errno.h>
 #include <pthread.h>
+#include <stdbool.h>
 #include <stdio.h>
 #include <stdlib.h>
 #include <string.h>
 #include <sys/mman.h>
+#include <sys/random.h>
+#include <sys/resource.h>
+#include <sys/syscall.h>
+#include <sys/wait.h>
 #include <unistd.h>
+
+/* Sanitizers take address space and stack of their own. */
+#ifdef __SANITIZE_ADDRESS__
+enum { SANITIZED = 1 };
+#else
+enum { SANITIZED = 0 };
+#endif
+
+/* PTHREAD_STACK_MIN of x86-64. */
+enum { SMALL_STACK = 16384 };
 
 #define NEED(condition)                                                       \
     do {                                                                      \
@@ -149,9 +165,143 @@ static void try_threads(void)
         NEED(!pthread_join(threads[i], NULL));
 }
 
+/* getrandom of this program in the place of the system's: as the system gives it, or known bytes after so many interruptions, or an
+ * answer of its own. <crypt.h> says of its calls that they call nothing of this file, so it is volatile. */
+static volatile struct {
+    bool known;
+    int interruptions;
+    ssize_t answer; /* 0: as many as asked for */
+    int error;
+    size_t asked;
+} random_source;
+
+ssize_t getrandom(void *bytes, size_t count, unsigned int flags)
+{
+    if (!random_source.known)
+        return syscall(SYS_getrandom, bytes, count, flags);
+    random_source.asked = count;
+    if (random_source.interruptions > 0) {
+        random_source.interruptions--;
+        errno = EINTR;
+        return -1;
+    }
+    if (random_source.error) {
+        errno = random_source.error;
+        return -1;
+    }
+    for (size_t i = 0; i < count; i++)
+        ((unsigned char *)bytes)[i] = (unsigned char)(37 * i + 11);
+    return random_source.answer ? random_source.answer : (ssize_t)count;
+}
+
+/* A new setting by the bytes of getrandom is the one by the same bytes as an argument, whose number is that which was asked for. */
+static void try_drawn(void)
+{
+    static const char *const METHODS[] = {"$1$", "$5$", "$6$", "$2a$", "$2b$", "$2y$", "$7$", "$y$"};
+    char bytes[64], drawn[192], given[192];
+    for (size_t i = 0; i < sizeof bytes; i++)
+        bytes[i] = (char)(37 * i + 11);
+    random_source.known = true;
+    for (size_t i = 0; i < sizeof METHODS / sizeof METHODS[0]; i++) {
+        random_source.interruptions = 3;
+        errno = 77;
+        NEED(crypt_gensalt_rn(METHODS[i], 0, NULL, 0, drawn, sizeof drawn) && random_source.interruptions == 0);
+        NEED(random_source.asked >= 9 && random_source.asked <= 16);
+        NEED(crypt_gensalt_rn(METHODS[i], 0, bytes, (int)random_source.asked, given, sizeof given) && !strcmp(drawn, given));
+        random_source.answer = (ssize_t)random_source.asked - 1;
+        NEED(!crypt_gensalt_rn(METHODS[i], 0, NULL, 0, drawn, sizeof drawn) && errno == EIO && drawn[0] == '*');
+        random_source.answer = 0;
+        random_source.error = ENOSYS;
+        NEED(!crypt_gensalt_rn(METHODS[i], 0, NULL, 0, drawn, sizeof drawn) && errno == ENOSYS && drawn[0] == '*');
+        random_source.error = 0;
+    }
+    random_source.known = false;
+}
+
+/* errno is left alone beside a text, and so is all of the data but the output. */
+static void try_kept(void)
+{
+    struct crypt_data data;
+    for (int i = 0; i < TEXT_COUNT; i++) {
+        memset(&data, 'x', sizeof data);
+        errno = 77;
+        NEED(!strcmp(crypt_r("pw", TEXTS[i], &data), TEXTS[i]) && errno == 77);
+        const char *place = (const char *)&data;
+        for (size_t k = sizeof data.output; k < sizeof data; k++)
+            NEED(place[k] == 'x');
+    }
+    /* A setting in the output is answered by the second token, as libxcrypt answers it. */
+    static const char *const REFUSED[] = {"*0", "*1", "$9$x"};
+    for (size_t i = 0; i < sizeof REFUSED / sizeof REFUSED[0]; i++) {
+        memset(&data, 0, sizeof data);
+        strcpy(data.output, REFUSED[i]);
+        NEED(!strcmp(crypt_r("pw", data.output, &data), "*1"));
+    }
+    NEED(!strcmp(crypt_r("pw", "*0", &data), "*1") && !strcmp(crypt_r("pw", "*1", &data), "*0"));
+}
+
+/* crypt_ra grows memory that is too small, and keeps what is large enough. */
+static void try_grown(void)
+{
+    void *data = malloc(5);
+    int size = 5;
+    NEED(data && crypt_ra("pw", TEXTS[0], &data, &size) && size == (int)sizeof(struct crypt_data));
+    void *before = data;
+    NEED(!strcmp(crypt_ra("pw", TEXTS[0], &data, &size), TEXTS[0]) && data == before);
+    free(data);
+}
+
+/* In a child with little memory: the token and ENOMEM, and never the setting. */
+static void try_no_memory(void)
+{
+    fflush(NULL);
+    pid_t child = fork();
+    NEED(child >= 0);
+    if (!child) {
+        static struct crypt_data data;
+        struct rlimit little = {32 << 20, 32 << 20};
+        char setting[] = "$y$jFT$0123456789ab";
+        if (setrlimit(RLIMIT_AS, &little))
+            _exit(2);
+        errno = 0;
+        char *text = crypt_r("pw", setting, &data);
+        int error = errno;
+        bool none = !crypt_rn("pw", setting, &data, sizeof data) && errno == ENOMEM && !strcmp(data.output, "*0");
+        _exit(!strcmp(text, "*0") && error == ENOMEM && none ? 0 : 1);
+    }
+    int status = 0;
+    NEED(waitpid(child, &status, 0) == child && WIFEXITED(status) && WEXITSTATUS(status) == 0);
+}
+
+/* Every text in a thread of the least stack that the system has. */
+static void *run_small(void *data)
+{
+    for (int i = 0; i < TEXT_COUNT; i++)
+        NEED(!strcmp(crypt_r("pw", TEXTS[i], data), TEXTS[i]));
+    NEED(crypt_r("pw", "$9$refused", data)[0] == '*');
+    return NULL;
+}
+
+static void try_small_thread(void)
+{
+    static struct crypt_data data;
+    pthread_attr_t attributes;
+    pthread_t thread;
+    NEED(!pthread_attr_init(&attributes) && !pthread_attr_setstacksize(&attributes, SMALL_STACK));
+    NEED(!pthread_create(&thread, &attributes, run_small, &data) && !pthread_join(thread, NULL));
+    pthread_attr_destroy(&attributes);
+}
+
 int main(void)
 {
     try_texts();
+    try_drawn();
+    try_kept();
+    try_grown();
+    if (!SANITIZED) {
+        try_no_memory();
+        try_small_thread();
+    }
     try_phrases();
     try_null();
     try_sizes();

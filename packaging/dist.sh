@@ -20,7 +20,8 @@ install -m 755 "$work"/usr/bin/* "$folder"
 install -m 644 "$work/usr/lib/libpwcheck.a" "$top/include/pwcheck.h" "$folder"
 find "$work/usr/lib" -maxdepth 1 -type f -name '*.so.*' -exec install -m 644 {} "$folder" \;
 python3 "$top/crypt3/library.py" "$work/crypt" >&2
-install -m 644 "$work/crypt/lib/libpwcrypt_c.a" "$folder"
+python3 "$top/bindings/library.py" --proved "$work/libpwcheck_c.a" >&2
+install -m 644 "$work/crypt/lib/libpwcrypt_c.a" "$work/libpwcheck_c.a" "$folder"
 python3 "$top/packaging/sources.py" > "$folder/SOURCES"
 { gcc --version; ld --version; } | grep -E '^(gcc|GNU ld)' > "$folder/COMPILER"
 (cd "$folder" && find . -type f ! -name SHA256SUMS -printf '%f\0' | LC_ALL=C sort -z | xargs -0 sha256sum -- > SHA256SUMS)

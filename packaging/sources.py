@@ -1,6 +1,6 @@
 #!/usr/bin/env python3
 """Prints the checksum of the sources that the programs and libraries are built from: crates.txt, and what stands in crates/,
-include/, bindings/ and crypt3/, without what is built there.
+face/, include/, bindings/ and crypt3/, without what is built there.
 
 usage: packaging/sources.py
 """
@@ -8,7 +8,7 @@ import hashlib
 import os
 
 TOP = os.path.join(os.path.dirname(os.path.abspath(__file__)), "..")
-FOLDERS = ("crates", "include", "bindings", "crypt3")
+FOLDERS = ("crates", "face", "include", "bindings", "crypt3")
 BUILT = ("out", "target", "__pycache__", "Cargo.lock")
 
 

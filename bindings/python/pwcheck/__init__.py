@@ -4,8 +4,8 @@ Each check returns an `Answer`, of which `MATCH` alone is leave to enter: compar
 A number or a length that is out of range raises ValueError, a value of another type TypeError, out of memory for a key MemoryError.
 Passwords, stored texts and salts are bytes-like objects (bytes, bytearray, memoryview), of which the library keeps none.
 
-    stored = pwcheck.make("argon2id", b"correct horse")
-    if pwcheck.check_any(b"correct horse", stored, pwcheck.Limits(argon2_memory=65536)) == pwcheck.Answer.MATCH: ...
+    stored = pwcheck.make_recommended(b"correct horse")
+    if pwcheck.check_login(b"correct horse", stored) == pwcheck.Answer.MATCH: ...
 """
 import ctypes as c
 import enum
@@ -13,8 +13,8 @@ import os
 import secrets
 from typing import Any, Callable, Dict, List, Optional, Union
 
-__all__ = ["Answer", "Alphabet", "Data", "Limits", "PasswordRefused", "RECOMMENDED", "Status", "VERSION", "check", "check_any", "check_limited",
-           "make", "sha_check", "word", "version", "scrypt", "scrypt_text", "sha_digest", "sha_field", "sha_text", "b64encode",
+__all__ = ["Answer", "Alphabet", "Data", "LIMITS_LOGIN", "Limits", "PasswordRefused", "RECOMMENDED", "Status", "VERSION", "check", "check_any",
+           "check_limited", "check_login", "make", "make_recommended", "sha_check", "word", "version", "scrypt", "scrypt_text", "sha_digest", "sha_field", "sha_text", "b64encode",
            "b64decode", "same"]
 
 
@@ -93,6 +93,7 @@ class Status(enum.IntEnum):
     REFUSED_LENGTH = -5
     REFUSED_UTF8 = -6
     REFUSED_ZERO = -7
+    NO_RANDOM = -8
 
 
 class PasswordRefused(ValueError):
@@ -111,16 +112,18 @@ class Limits(c.Structure):
     """
 
     _fields_ = [(name, c.c_uint32) for name in (
-        "sha_rounds", "bcrypt_cost", "yescrypt_ln", "yescrypt_r", "yescrypt_t", "pbkdf2_rounds", "scrypt_ln", "scrypt_r",
+        "size", "sha_rounds", "bcrypt_cost", "yescrypt_ln", "yescrypt_r", "yescrypt_t", "pbkdf2_rounds", "scrypt_ln", "scrypt_r",
         "scrypt_p", "argon2_memory", "argon2_passes", "argon2_lanes")]
 
     def __init__(self, **limits: int) -> None:
-        super().__init__(*[(1 << 32) - 1] * len(self._fields_))
+        super().__setattr__("size", c.sizeof(type(self)))
+        for name, _ in self._fields_[1:]:
+            super().__setattr__(name, (1 << 32) - 1)
         for name, number in limits.items():
             setattr(self, name, number)
 
     def __setattr__(self, name: str, number: int) -> None:
-        if name not in dict(self._fields_):
+        if name not in dict(self._fields_[1:]):
             raise TypeError(f"{name} is no limit")
         super().__setattr__(name, _natural(number))
 
@@ -159,6 +162,8 @@ def _export(name: str, result: Any, *arguments: Any) -> Callable[..., int]:
 _check = _export("check", c.c_int32, *_bytes, *_bytes)
 _check_limited = _export("check_limited", c.c_int32, *_bytes, *_bytes, c.c_uint32, c.c_uint64)
 _check_any = _export("check_any", c.c_int32, *_bytes, *_bytes, c.POINTER(Limits))
+_check_login = _export("check_login", c.c_int32, *_bytes, *_bytes)
+_make = _export("make", c.c_int32, *_bytes, *_bytes, _len)
 _word = _export("word", c.c_size_t, c.c_int32, *_bytes)
 _version = _export("version", c.c_size_t, *_bytes)
 _scrypt = _export("scrypt", c.c_int32, *_bytes, *_bytes, *_cost, *_bytes)
@@ -217,6 +222,11 @@ def _data(*data: Data) -> List[Any]:
     return words
 
 
+# The limits of a login, whose sources include/pwcheck.h names.
+LIMITS_LOGIN = Limits(sha_rounds=5248000, bcrypt_cost=15, yescrypt_ln=15, yescrypt_r=32, yescrypt_t=0, pbkdf2_rounds=4800000, scrypt_ln=17,
+                      scrypt_r=32, scrypt_p=10, argon2_memory=262144, argon2_passes=8, argon2_lanes=8)
+
+
 def _of(calls: dict, bits: int) -> Any:
     """The entry of SHA-256-crypt or SHA-512-crypt."""
     if bits not in calls:
@@ -228,6 +238,8 @@ def _done(number: int) -> None:
     status = Status(number)
     if status == Status.NO_MEMORY:
         raise MemoryError("no memory for the key")
+    if status == Status.NO_RANDOM:
+        raise OSError("the system gave no random bytes")
     if status in (Status.REFUSED_LENGTH, Status.REFUSED_UTF8, Status.REFUSED_ZERO):
         raise PasswordRefused(status)
     if status != Status.DONE:
@@ -270,6 +282,11 @@ def check_any(password: Data, stored: Data, limits: Optional[Limits] = None) -> 
     if not isinstance(limits, (Limits, type(None))):
         raise TypeError(f"limits are Limits or None, not {type(limits).__name__}")
     return Answer(_check_any(*_data(password, stored), c.byref(Limits() if limits is None else limits)))
+
+
+def check_login(password: Data, stored: Data) -> Answer:
+    """Checks a password against a stored text of every scheme within `LIMITS_LOGIN`: what a login service asks."""
+    return Answer(_check_login(*_data(password, stored)))
 
 
 def sha_check(bits: int, password: Data, stored: Data) -> Answer:
@@ -358,6 +375,12 @@ def make(scheme: str, password: Data, salt: Optional[Data] = None, **costs: int)
     if _data(salt)[1] != size:
         raise ValueError(f"a salt of {scheme} has {size} bytes")
     return _made(scheme, password, salt, numbers)
+
+
+def make_recommended(password: Data) -> bytes:
+    """The text to store of a password by the scheme and the cost that the library recommends, with a salt that it draws. A password is
+    refused as by `make`; OSError where the system gives no random bytes."""
+    return _written(TEXT_MAX, _make, *_data(password))
 
 
 def b64encode(alphabet: int, data: Data) -> bytes:

@@ -6,10 +6,19 @@ type In = *const u8;
 type Out = *mut u8;
 type Len = *mut usize;
 
+/// The limits as the library takes them, after the size of both.
+#[repr(C)]
+pub struct SizedLimits {
+    pub size: u32,
+    pub limits: Limits,
+}
+
 unsafe extern "C" {
     pub fn pwcheck_check(password: In, password_len: usize, stored: In, stored_len: usize) -> i32;
     pub fn pwcheck_check_limited(p: In, p_len: usize, s: In, s_len: usize, max_rounds: u32, max_bytes: u64) -> i32;
-    pub fn pwcheck_check_any(p: In, p_len: usize, s: In, s_len: usize, limits: *const Limits) -> i32;
+    pub fn pwcheck_check_any(p: In, p_len: usize, s: In, s_len: usize, limits: *const SizedLimits) -> i32;
+    pub fn pwcheck_check_login(p: In, p_len: usize, s: In, s_len: usize) -> i32;
+    pub fn pwcheck_make(p: In, p_len: usize, out: Out, out_len: usize, len: Len) -> i32;
     pub fn pwcheck_sha256_check(password: In, password_len: usize, stored: In, stored_len: usize) -> i32;
     pub fn pwcheck_sha512_check(password: In, password_len: usize, stored: In, stored_len: usize) -> i32;
     pub fn pwcheck_word(number: i32, out: Out, out_len: usize) -> usize;

@@ -22,8 +22,8 @@ mod c;
 mod texts;
 
 #[cfg(feature = "std")]
-pub use texts::make;
-pub use texts::{BCRYPT_PASSWORD_MAX, SALT_SIZE, Scheme, TEXT_MAX, make_into};
+pub use texts::{make, make_recommended};
+pub use texts::{BCRYPT_PASSWORD_MAX, SALT_SIZE, Scheme, TEXT_MAX, make_into, make_recommended_into};
 
 use core::fmt;
 
@@ -188,6 +188,8 @@ pub enum Error {
     RefusedUtf8,
     /// The password has a zero byte, which the scheme doesn't take.
     RefusedZero,
+    /// The system gave no random bytes.
+    NoRandom,
     /// The status of a later library.
     Unknown(i32),
 }
@@ -202,6 +204,7 @@ impl fmt::Display for Error {
             Error::RefusedLength => write!(f, "the password is too long"),
             Error::RefusedUtf8 => write!(f, "the password isn't UTF-8"),
             Error::RefusedZero => write!(f, "the password has a zero byte"),
+            Error::NoRandom => write!(f, "the system gave no random bytes"),
             Error::Unknown(number) => write!(f, "the library answers {number}"),
         }
     }
@@ -241,6 +244,7 @@ fn done(status: i32) -> Result<(), Error> {
         -5 => Err(Error::RefusedLength),
         -6 => Err(Error::RefusedUtf8),
         -7 => Err(Error::RefusedZero),
+        -8 => Err(Error::NoRandom),
         other => Err(Error::Unknown(other)),
     }
 }
@@ -317,6 +321,22 @@ impl Limits {
         argon2_passes: u32::MAX,
         argon2_lanes: u32::MAX,
     };
+
+    /// For a login: `include/pwcheck.h` names the source of each number.
+    pub const LOGIN: Limits = Limits {
+        sha_rounds: 5_248_000,
+        bcrypt_cost: 15,
+        yescrypt_ln: 15,
+        yescrypt_r: 32,
+        yescrypt_t: 0,
+        pbkdf2_rounds: 4_800_000,
+        scrypt_ln: 17,
+        scrypt_r: 32,
+        scrypt_p: 10,
+        argon2_memory: 262_144,
+        argon2_passes: 8,
+        argon2_lanes: 8,
+    };
 }
 
 /// Checks a password against a stored text of every scheme, and answers [`Answer::OverCost`], and hashes nothing, for a valid
@@ -332,7 +352,14 @@ impl Limits {
 /// ```
 pub fn check_any(password: &[u8], stored: &[u8], limits: &Limits) -> Answer {
     let (p, s) = (password, stored);
-    Answer::of(unsafe { c::pwcheck_check_any(p.as_ptr(), p.len(), s.as_ptr(), s.len(), limits) })
+    let limits = c::SizedLimits { size: size_of::<c::SizedLimits>() as u32, limits: *limits };
+    Answer::of(unsafe { c::pwcheck_check_any(p.as_ptr(), p.len(), s.as_ptr(), s.len(), &limits) })
+}
+
+/// Checks a password against a stored text of every scheme within [`Limits::LOGIN`]: what a login service asks.
+pub fn check_login(password: &[u8], stored: &[u8]) -> Answer {
+    let (p, s) = (password, stored);
+    Answer::of(unsafe { c::pwcheck_check_login(p.as_ptr(), p.len(), s.as_ptr(), s.len()) })
 }
 
 /// Checks a password against a text of SHA-256-crypt alone.

@@ -147,6 +147,35 @@ pub fn make_into<'a>(scheme: Scheme, password: &[u8], salt: &[u8], out: &'a mut 
     Ok(out.get(..n).and_then(|text| core::str::from_utf8(text).ok()).unwrap_or(""))
 }
 
+/// Writes the text to store of a password by the scheme and the cost that the library recommends, with a salt that it draws, and
+/// gives the text. [`check_login`](crate::check_login) answers the text with a match.
+///
+/// # Errors
+///
+/// As [`make_into`], and [`Error::NoRandom`] where the system gives no random bytes.
+pub fn make_recommended_into<'a>(password: &[u8], out: &'a mut [u8]) -> Result<&'a str, Error> {
+    let mut n = 0;
+    done(unsafe { c::pwcheck_make(password.as_ptr(), password.len(), out.as_mut_ptr(), out.len(), &mut n) })?;
+    // A text is ASCII.
+    Ok(out.get(..n).and_then(|text| core::str::from_utf8(text).ok()).unwrap_or(""))
+}
+
+/// The text that [`make_recommended_into`] writes, in memory of its own.
+///
+/// ```
+/// use pwcheck::{Answer, check_login, make_recommended};
+///
+/// let stored = make_recommended(b"correct horse")?;
+/// assert_eq!(check_login(b"correct horse", stored.as_bytes()), Answer::Match);
+/// assert_eq!(check_login(b"battery staple", stored.as_bytes()), Answer::Mismatch);
+/// # Ok::<(), pwcheck::Error>(())
+/// ```
+#[cfg(feature = "std")]
+pub fn make_recommended(password: &[u8]) -> Result<String, Error> {
+    let mut out = [0; TEXT_MAX];
+    make_recommended_into(password, &mut out).map(String::from)
+}
+
 /// The text that [`make_into`] writes, in memory of its own.
 ///
 /// ```

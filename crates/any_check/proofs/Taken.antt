@@ -14,7 +14,8 @@ use Rattle.sha_crypt.specs.Records.{family_scheme}
 use Rattle.sha_crypt.specs.declared.errors.Family.{Family}
 use Rattle.stored_check.specs.Verdict.{key_answer, named_family, parts_answer, phc_answer, text_answer, verdict}
 use Rattle.stored_check.specs.declared.error.StoredError.{StoredError}
-use Rattle.any_check.specs.Laws.{Accepted, OfCheckStored, Tag, TakesRecords}
+use Rattle.any_check.specs.Laws.{OfCheckStored, TakesRecords}
+use Rattle.phc_kdf.specs.Either.{Accepted, Tag}
 use Rattle.any_check.specs.Table.{any_verdict, identifier, is_record, of_stored, scheme_answer, text_scheme}
 use Rattle.any_check.proofs.Families.{record_stored, sha_if_family, sha_stored}
 use Rattle.scheme_list.specs.Schemes.{scheme_named}

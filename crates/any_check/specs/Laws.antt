@@ -2,6 +2,7 @@
 use Rattle.std.specs.Prelude.{◌≡◌, ◌≢◌, ◌↔◌, ◌<◌, ◌≤◌, ℕ, Bool, false, true, List, length, None, Ok, Err, is_ok}
 use Rattle.phc.specs.declared.password_hash.PasswordHash.{PasswordHash}
 use Rattle.scheme_list.specs.Schemes.{scheme_named}
+use Rattle.phc_kdf.specs.Either.{Accepted, Tag}
 use Rattle.phc_kdf.specs.Limits.{password_max}
 use Rattle.stored_check.specs.Verdict.{verdict}
 use Rattle.stored_check.specs.declared.error.StoredError.TheVariants.{OutOfMemory, PasswordTooLong}
@@ -12,14 +13,6 @@ use Rattle.any_check.specs.Records as here
 use Rattle.any_check.specs.Table.{any_verdict, is_record, text_scheme}
 use Rattle.any_check.specs.declared.numbers.SchemeCosts.{SchemeCosts}
 use Rattle.any_check.specs.declared.error.AnyError.TheVariants.{NoScheme, Stored}
-
--- which records a key derivation takes
-abbrev pub Accepted : Type 0
-Accepted = PasswordHash → List ℕ → ℕ → Bool
-
--- the tags that it gives
-abbrev pub Tag : Type 0
-Tag = List ℕ → PasswordHash → List ℕ → ℕ → List ℕ
 
 -- it takes no record but those whose scheme the table has
 abbrev pub TakesRecords : Accepted → Type 0

@@ -137,6 +137,7 @@ pub(crate) fn first_block(h0: &[u8; 64], j: u32, i: u32, block: &mut [u64])
 }
 
 /// H' of a block of words.
+#[inline(never)]
 pub(crate) fn tag_of(block: &[u64; 128], out: &mut [u8])
     requires some_bytes { 1 ≤ length out.old }
     requires hash_length { length out.old < 2 ^ 32 }

@@ -4,4 +4,4 @@ mod FirstBytes
 mod Vectors
 pub mod Fields
 pub mod MadeTexts
-mod ReadTexts
+pub mod ReadTexts

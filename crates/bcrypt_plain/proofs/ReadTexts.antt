@@ -12,9 +12,9 @@ use Rattle.base64ct.specs.Encoding.{EachBelow}
 use Rattle.base64ct.proofs.DecodingLaws.{same_true}
 use Rattle.pieces.specs.Lists.{is_empty}
 use Rattle.pieces.specs.Pieces.{LacksByte, pieces_at}
-use Rattle.pieces.proofs.ByteTests.{lacks}
+use Rattle.pieces.proofs.ByteTests.{is_not, lacks}
 use Rattle.pieces.proofs.Cuts.{join_pieces}
-use Rattle.pieces.proofs.FaultLaws.{err_ok}
+use Rattle.pieces.proofs.FaultLaws.{err_ok, where_so}
 use Rattle.pieces.proofs.ListLaws.{nil_of_empty}
 use Rattle.bcrypt_plain.specs.Bcrypt.{bcrypt}
 use Rattle.bcrypt_plain.specs.Check.{bcrypt_answer, has_zero, hash_matches, parts_answer}
@@ -33,12 +33,7 @@ use Rattle.bcrypt_plain.specs.declared.error.BcryptFault.TheVariants as of_fault
 use Rattle.bcrypt_plain.specs.declared.version.Version.{Version}
 use Rattle.bcrypt_plain.specs.declared.version.Version.TheVariants.{Current, Obsolete}
 use Rattle.bcrypt_plain.proofs.Fields.{decoded}
-use Rattle.bcrypt_plain.proofs.MadeTexts.{is_not, text_matches}
-
-where_so : {A : Type 0} {E : Type 0} (t : Bool) (e : E) (x : Result A E) (a : A) → (if t then x else Err e) ≡ Ok a
-    → (t ≡ true) × (x ≡ Ok a)
-where_so true e x a h = (refl, h)
-where_so false e x a h = absurd (err_ok e a h)
+use Rattle.bcrypt_plain.proofs.MadeTexts.{text_matches}
 
 -- ---- the pieces
 
@@ -99,18 +94,25 @@ one_of_three false true c h = inr (inl refl)
 one_of_three false false true h = inr (inr refl)
 one_of_three false false false h = absurd (false≢true h)
 
-lacks_dollar : (id other : List ℕ) → pointwise nat_eq id other ≡ true → LacksByte 36 other → LacksByte 36 id
-lacks_dollar id other same h = subst (LacksByte 36) (sym (same_true id other same)) h
-
-current_lacks : (id : List ℕ) → version_of id ≡ Some Current → LacksByte 36 id
-current_lacks id h =
+-- the identifiers that are checked
+pub current_is : (id : List ℕ) → version_of id ≡ Some Current
+    → (id ≡ codes "2a") ⊎ ((id ≡ codes "2b") ⊎ (id ≡ codes "2y"))
+current_is id h =
     let a = pointwise nat_eq id (codes "2a") in
     let b = pointwise nat_eq id (codes "2b") in
     let c = pointwise nat_eq id (codes "2y") in
     elim (one_of_three a b c (is_current (a || b || c) _ h)) [
-      | inl is ↦ lacks_dollar id (codes "2a") is (lacks (is_not 36) 36 refl (codes "2a") refl)
-      | inr (inl is) ↦ lacks_dollar id (codes "2b") is (lacks (is_not 36) 36 refl (codes "2b") refl)
-      | inr (inr is) ↦ lacks_dollar id (codes "2y") is (lacks (is_not 36) 36 refl (codes "2y") refl)
+      | inl is ↦ inl (same_true id (codes "2a") is)
+      | inr (inl is) ↦ inr (inl (same_true id (codes "2b") is))
+      | inr (inr is) ↦ inr (inr (same_true id (codes "2y") is))
+    ]
+
+pub current_lacks : (id : List ℕ) → version_of id ≡ Some Current → LacksByte 36 id
+current_lacks id h =
+    elim (current_is id h) [
+      | inl is ↦ subst (LacksByte 36) (sym is) (lacks (is_not 36) 36 refl (codes "2a") refl)
+      | inr (inl is) ↦ subst (LacksByte 36) (sym is) (lacks (is_not 36) 36 refl (codes "2b") refl)
+      | inr (inr is) ↦ subst (LacksByte 36) (sym is) (lacks (is_not 36) 36 refl (codes "2y") refl)
     ]
 
 -- ---- the cost
@@ -124,7 +126,7 @@ two_of (a ∷ (b ∷ [])) h =
     ap (λ (x : ℕ). x ∷ (b ∷ [])) first ∙ ap (λ (y : ℕ). (48 + (10 * (a - 48) + (b - 48)) / 10) ∷ (y ∷ [])) second
 two_of (a ∷ (b ∷ (c ∷ t))) h = absurd (grind (arith, nat_tests, h))
 
-kept : (t : Bool) (m n : ℕ) → (if t then Some m else None) ≡ Some n → (t ≡ true) × (m ≡ n)
+pub kept : (t : Bool) (m n : ℕ) → (if t then Some m else None) ≡ Some n → (t ≡ true) × (m ≡ n)
 kept true m n h = (refl, cc)
 kept false m n h = absurd (none-some n h)
 
@@ -153,6 +155,7 @@ of_bytes cost None h fault p e = absurd (err_ok fault p e)
 
 rest_is : (cost : ℕ) (rest : List ℕ) (p : Parts) → by_rest cost rest ≡ Ok p
     → (p.cost ≡ cost) × (length p.salt ≡ 16) × EachBelow 256 p.salt × (rest ≡ bcrypt_field p.salt ++ bcrypt_field p.hash)
+    × (length p.hash ≡ 23) × EachBelow 256 p.hash
 rest_is cost rest p e =
     let both = where_so (length rest == 53) Length
     (by_bytes cost (field_bytes 22 (take 22 rest)) (field_bytes 31 (drop 22 rest)) (encoding_fault rest)) p e in
@@ -167,6 +170,8 @@ rest_is cost rest p e =
       salt.1,
       sym (take-append-drop 22 rest) ∙ ap (λ (xs : List ℕ). xs ++ drop 22 rest) salt.2
           ∙ ap (λ (ys : List ℕ). bcrypt_field p.salt ++ ys) hash.2,
+      hash.0,
+      hash.1,
     )
 
 -- ---- the parts
@@ -178,6 +183,8 @@ pub record IsTextOf (text : List ℕ) (p : Parts) : Type 0 where
   pub most : p.cost ≤ 31
   pub long : length p.salt ≡ 16
   pub below : EachBelow 256 p.salt
+  pub hash_long : length p.hash ≡ 23
+  pub hash_below : EachBelow 256 p.hash
   pub is : text ≡ text_of id p.cost p.salt p.hash
 
 by_fields : (text : List ℕ) (f : Fields) (o : Option ℕ) (p : Parts) → text_fields text ≡ Ok f → cost_of f.cost ≡ o
@@ -194,6 +201,8 @@ by_fields text f (Some n) p read some e =
       most = omega (arith, rest.0, cost.2);
       long = rest.1;
       below = rest.2;
+      hash_long = rest.4;
+      hash_below = rest.5;
       is = joined.2 ∙ ap (λ (c : List ℕ). 36 ∷ (joined.0 ++ 36 ∷ (c ++ 36 ∷ f.rest))) (cost.0 ∙ ap two_digits (sym rest.0))
           ∙ ap (λ (r : List ℕ). 36 ∷ (joined.0 ++ 36 ∷ (two_digits p.cost ++ 36 ∷ r))) rest.3;
     }
@@ -203,7 +212,7 @@ by_text : (text : List ℕ) (r : Result Fields BcryptFault) (p : Parts) → text
 by_text text (Err e) p read h = absurd (err_ok e p h)
 by_text text (Ok f) p read h = by_fields text f (cost_of f.cost) p read refl h
 
--- a text is that of its parts
+-- a text prints what is read from it
 pub text_is : (text : List ℕ) (p : Parts) → text_parts text ≡ Ok p → IsTextOf text p
 unfolding text_parts
 text_is text p h = by_text text (text_fields text) p refl h

@@ -4,7 +4,7 @@ use Rattle.std.specs.Prelude.{ℕ, ◌+◌, ◌-◌, ◌*◌, ◌==◌, ◌&&◌
 use Rattle.std.specs.Prelude.{nat_eq, nat_le, slice_index, Option, Some, None, Result, Ok, Err, if◌then◌else◌, codes}
 use Rattle.std.specs.Cmp.Lexicographic.{pointwise}
 use Rattle.std.specs.List.{list_all}
-use Rattle.pieces.specs.Characters.{dollar}
+use Rattle.pieces.specs.Characters.{dollar, is_crypt_character}
 use Rattle.pieces.specs.Lists.{is_empty}
 use Rattle.pieces.specs.Pieces.{pieces_at}
 use Rattle.bcrypt_plain.specs.Field.{field_bytes}
@@ -79,10 +79,6 @@ cost_of t = if is_two_digits t && is_cost (two_digit_number t) then Some (two_di
 
 -- ---- the salt and the hash
 
--- `.`, `/`, `0` to `9`, `A` to `Z` and `a` to `z`
-abbrev pub is_character : ℕ → Bool
-is_character c = (nat_le 46 c && nat_le c 57) || (nat_le 65 c && nat_le c 90) || (nat_le 97 c && nat_le c 122)
-
 -- a cost, the 16 bytes of a salt and the 23 of a hash
 pub record Parts : Type 0 where
   pub cost : ℕ
@@ -92,7 +88,7 @@ pub record Parts : Type 0 where
 -- why 53 characters are not those of a salt and a hash: one is outside of the alphabet, or the bits that are left over
 -- behind the bytes of the salt or of the hash are not zero
 abbrev pub encoding_fault : List ℕ → BcryptFault
-encoding_fault rest = if list_all is_character rest then SpareBits else Character
+encoding_fault rest = if list_all is_crypt_character rest then SpareBits else Character
 
 -- the parts, where there are a salt and a hash
 abbrev pub by_bytes : ℕ → Option (List ℕ) → Option (List ℕ) → BcryptFault → Result Parts BcryptFault

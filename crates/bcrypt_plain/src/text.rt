@@ -4,13 +4,14 @@ ghost use Rattle.std.specs.Prelude.{◌≡◌, ◌≤◌, ◌+◌, ◌^◌, IfOk
 ghost use Rattle.std.specs.List.{list_all};
 ghost use Rattle.pieces.specs.Characters.{dollar};
 ghost use Rattle.pieces.specs.Pieces.{pieces_left};
-ghost use Rattle.bcrypt_plain.specs.Text.{by_rest, cost_of, encoding_fault, is_character, is_cost, is_digit, split_fields, text_fields, text_parts};
+ghost use Rattle.bcrypt_plain.specs.Text.{by_rest, cost_of, encoding_fault, is_cost, is_digit, split_fields, text_fields, text_parts};
 ghost use Rattle.bcrypt_plain.specs.Views.{as_fields, as_parts};
 
 use crate::BcryptFault;
 use crate::field::counted_bytes;
 use crate::version::{Version, version_of};
 use base64ct::Counts;
+use pieces::characters::are_crypt_characters;
 use pieces::{first_piece, is_end};
 
 /// The text of a cost, and the characters behind it.
@@ -93,24 +94,11 @@ fn cost_of(text: &[u8]) -> Option<u32>
     None
 }
 
-// Whether a byte is a character of bcrypt's alphabet.
-fn is_character(c: u8) -> bool
-    ensures { result ≡ is_character c }
-{
-    46 <= c && c <= 57 || 65 <= c && c <= 90 || 97 <= c && c <= 122
-}
-
-fn are_characters(text: &[u8]) -> bool
-    ensures { result ≡ list_all is_character text.now }
-{
-    text.iter().all(|c| is_character(*c))
-}
-
 // What is wrong with characters that are not those of a salt and a hash.
 fn encoding_fault(rest: &[u8]) -> BcryptFault
     ensures { result ≡ encoding_fault rest.now }
 {
-    if are_characters(rest) {
+    if are_crypt_characters(rest) {
         BcryptFault::SpareBits
     } else {
         BcryptFault::Character

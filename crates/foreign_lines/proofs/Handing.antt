@@ -14,11 +14,11 @@ module _ (foreign : Foreign) (form : LineForm) (l : List ℕ) where
   of_long long = rw long refl
 
   module _ (short : nat_lt 8192 (length l) ≡ false) where
-    pub of_parts : (p : Parts) → parts_in form l ≡ Some p → handed foreign form l ≡ by_answer form p (converted foreign p.text)
+    pub of_parts : (p : Parts) → parts_in foreign form l ≡ Some p → handed foreign form l ≡ by_answer form p (converted foreign p.text)
     unfolding handed
     of_parts p is = rw (short, is) refl
 
-    pub of_none : parts_in form l ≡ None → handed foreign form l ≡ Ok l
+    pub of_none : parts_in foreign form l ≡ None → handed foreign form l ≡ Ok l
     unfolding handed
     of_none is = rw (short, is) refl
 

@@ -25,9 +25,10 @@ use Rattle.any_check.specs.Table.{any_verdict, is_record, of_stored, text_scheme
 use Rattle.any_check.proofs.Families.{record_stored}
 use Rattle.scheme_list.specs.Schemes.{scheme_named}
 use Rattle.foreign_text.specs.Laws.{AreHeld}
-use Rattle.foreign_text.specs.Pbkdf2.{identifier, pbkdf2_record, pbkdf2_text}
-use Rattle.foreign_text.specs.declared.pbkdf2.Pbkdf2Hash.{Pbkdf2Hash}
-use Rattle.foreign_text.specs.declared.pbkdf2.Pbkdf2Hash.TheVariants.{Sha256, Sha512}
+use Rattle.foreign_text.specs.Records.{identifier, made_text, record_of}
+use Rattle.foreign_text.specs.declared.kdf.Kdf.TheVariants.{Pbkdf2}
+use Rattle.foreign_text.specs.declared.kdf.Pbkdf2Hash.{Pbkdf2Hash}
+use Rattle.foreign_text.specs.declared.kdf.Pbkdf2Hash.TheVariants.{Sha256, Sha512}
 use Rattle.foreign_lines.specs.Laws.{derivation}
 use Rattle.foreign_text.proofs.Records.{read_again}
 
@@ -53,13 +54,13 @@ rounds_good n small =
 
 abbrev made_parts : Pbkdf2Hash → ℕ → List ℕ → List ℕ → Parts
 made_parts hash rounds salt key = record {
-  id = identifier hash;
+  id = identifier (Pbkdf2 hash rounds);
   fields = (105 ∷ 61 ∷ decimal rounds) ∷ encoding salt ∷ encoding key ∷ [];
 }
 
 printed : (hash : Pbkdf2Hash) (rounds : ℕ) (salt key : List ℕ)
-    → parts_text (made_parts hash rounds salt key) ≡ pbkdf2_text hash rounds salt key
-unfolding pbkdf2_text record_text
+    → parts_text (made_parts hash rounds salt key) ≡ made_text (Pbkdf2 hash rounds) salt key
+unfolding made_text record_text
 printed Sha256 rounds salt key =
     let params : List ℕ = 36 ∷ 105 ∷ 61 ∷ decimal rounds in
     ap (λ (t : List ℕ). codes "$pbkdf2-sha256" ++ (params ++ ((36 ∷ encoding salt) ++ t))) (append-nil (36 ∷ encoding key))
@@ -83,87 +84,87 @@ named text p h =
 
 -- ---- by the hash
 
-id_good : (hash : Pbkdf2Hash) → is_identifier (identifier hash) ≡ true
-id_good Sha256 = refl
-id_good Sha512 = refl
+id_good : (hash : Pbkdf2Hash) (rounds : ℕ) → is_identifier (identifier (Pbkdf2 hash rounds)) ≡ true
+id_good Sha256 rounds = refl
+id_good Sha512 rounds = refl
 
-no_family : (hash : Pbkdf2Hash) → scheme_of (identifier hash) ≡ None
-no_family Sha256 = refl
-no_family Sha512 = refl
+no_family : (hash : Pbkdf2Hash) (rounds : ℕ) → scheme_of (identifier (Pbkdf2 hash rounds)) ≡ None
+no_family Sha256 rounds = refl
+no_family Sha512 rounds = refl
 
-named_record : (hash : Pbkdf2Hash) → is_record (scheme_named (identifier hash)) ≡ true
-named_record Sha256 = refl
-named_record Sha512 = refl
+named_record : (hash : Pbkdf2Hash) (rounds : ℕ) → is_record (scheme_named (identifier (Pbkdf2 hash rounds))) ≡ true
+named_record Sha256 rounds = refl
+named_record Sha512 rounds = refl
 
-module _ (rounds : ℕ) (salt key : List ℕ) (held : AreHeld rounds salt key) where
-  number_read : decimal_value (decimal rounds) ≡ Some rounds
-  number_read = decimal_read (2 ^ 32) rounds (omega arith) held.rounds_below
+number_read : (rounds : ℕ) → rounds < 2 ^ 32 → decimal_value (decimal rounds) ≡ Some rounds
+number_read rounds small = decimal_read (2 ^ 32) rounds (omega arith) small
 
-  accepts : (hash : Pbkdf2Hash) → 1 ≤ rounds → rounds ≤ 10000000
-      → accepted (pbkdf2_record hash rounds salt key) salt (length key) ≡ true
+module _ (rounds : ℕ) (salt key : List ℕ) where
+  accepts : (hash : Pbkdf2Hash) → AreHeld (Pbkdf2 hash rounds) salt key → 1 ≤ rounds → rounds ≤ 10000000
+      → accepted (record_of (Pbkdf2 hash rounds) salt key) salt (length key) ≡ true
   unfolding pbkdf2_accepts
-  accepts Sha256 least most =
+  accepts Sha256 held least most =
       let some : nat_le 1 rounds ≡ true = grind (arith, nat_tests, least) in
       let few : nat_le rounds 10000000 ≡ true = grind (arith, nat_tests, most) in
       let long : nat_le 10 (length key) ≡ true = grind (arith, nat_tests, held.key_least) in
       let short : nat_le (length key) 64 ≡ true = grind (arith, nat_tests, held.key_most) in
-      rw (number_read, some, few, long, short) refl
-  accepts Sha512 least most =
+      rw (number_read rounds held.cost_fits, some, few, long, short) refl
+  accepts Sha512 held least most =
       let some : nat_le 1 rounds ≡ true = grind (arith, nat_tests, least) in
       let few : nat_le rounds 10000000 ≡ true = grind (arith, nat_tests, most) in
       let long : nat_le 10 (length key) ≡ true = grind (arith, nat_tests, held.key_least) in
       let short : nat_le (length key) 64 ≡ true = grind (arith, nat_tests, held.key_most) in
-      rw (number_read, some, few, long, short) refl
+      rw (number_read rounds held.cost_fits, some, few, long, short) refl
 
-  tags : (hash : Pbkdf2Hash) (password : List ℕ)
-      → tag password (pbkdf2_record hash rounds salt key) salt (length key)
+  tags : (hash : Pbkdf2Hash) (password : List ℕ) → rounds < 2 ^ 32
+      → tag password (record_of (Pbkdf2 hash rounds) salt key) salt (length key)
       ≡ pbkdf2_with (derivation hash) password salt rounds (length key)
   unfolding pbkdf2_key
-  tags Sha256 password = rw number_read refl
-  tags Sha512 password = rw number_read refl
+  tags Sha256 password small = rw (number_read rounds small) refl
+  tags Sha512 password small = rw (number_read rounds small) refl
 
-  module _ (hash : Pbkdf2Hash) where
-    made_read : mcf (pbkdf2_text hash rounds salt key) ≡ Ok (made_parts hash rounds salt key)
+  module _ (hash : Pbkdf2Hash) (held : AreHeld (Pbkdf2 hash rounds) salt key) where
+    made_read : mcf (made_text (Pbkdf2 hash rounds) salt key) ≡ Ok (made_parts hash rounds salt key)
     made_read =
-        let of_rounds = rounds_good rounds held.rounds_below in
+        let of_rounds = rounds_good rounds held.cost_fits in
         let of_salt = encoded_good salt held.salt_bytes (omega (arith, held.salt_least)) in
         let of_key = encoded_good key held.key_bytes (omega (arith, held.key_least)) in
         let good : first_field_fault (made_parts hash rounds salt key).fields ≡ None = rw (of_rounds, of_salt, of_key) refl in
         ap mcf (sym (printed hash rounds salt key))
-        ∙ mcf-parts_text (made_parts hash rounds salt key) (id_good hash) good
+        ∙ mcf-parts_text (made_parts hash rounds salt key) (id_good hash rounds) good
 
-    record_read : phc (identifier hash) ((105 ∷ 61 ∷ decimal rounds) ∷ encoding salt ∷ encoding key ∷ [])
-        ≡ Ok (pbkdf2_record hash rounds salt key)
+    record_read : phc (identifier (Pbkdf2 hash rounds)) ((105 ∷ 61 ∷ decimal rounds) ∷ encoding salt ∷ encoding key ∷ [])
+        ≡ Ok (record_of (Pbkdf2 hash rounds) salt key)
     record_read =
-        sym (read_phc (pbkdf2_text hash rounds salt key) (made_parts hash rounds salt key) made_read)
-        ∙ read_again hash rounds salt key held
+        sym (read_phc (made_text (Pbkdf2 hash rounds) salt key) (made_parts hash rounds salt key) made_read)
+        ∙ read_again (Pbkdf2 hash rounds) salt key held
 
     stored_verdict : (password : List ℕ) → 1 ≤ rounds → rounds ≤ 10000000 → length password ≤ 4096
-        → verdict accepted tag password (pbkdf2_text hash rounds salt key)
+        → verdict accepted tag password (made_text (Pbkdf2 hash rounds) salt key)
         ≡ Ok (same_text (encoding key) (encoding (pbkdf2_with (derivation hash) password salt rounds (length key))))
     stored_verdict password least most fits =
         let made : Parts = made_parts hash rounds salt key in
-        of_parts accepted tag password (pbkdf2_text hash rounds salt key) made fits made_read
-        ∙ ap (λ s. parts_answer accepted tag password s made) (no_family hash)
+        of_parts accepted tag password (made_text (Pbkdf2 hash rounds) salt key) made fits made_read
+        ∙ ap (λ s. parts_answer accepted tag password s made) (no_family hash rounds)
         ∙ ap (phc_answer accepted tag password) record_read
-        ∙ rw (accepts hash least most)
-        (ap (λ (t : List ℕ). Ok (same_text (encoding key) (encoding t))) (tags hash password))
+        ∙ rw (accepts hash held least most)
+        (ap (λ (t : List ℕ). Ok (same_text (encoding key) (encoding t))) (tags hash password held.cost_fits))
 
     of_key_of : (password : List ℕ) → 1 ≤ rounds → rounds ≤ 10000000 → length password ≤ 4096
-        → any_verdict accepted tag password (pbkdf2_text hash rounds salt key)
+        → any_verdict accepted tag password (made_text (Pbkdf2 hash rounds) salt key)
         ≡ Ok (same_text (encoding key) (encoding (pbkdf2_with (derivation hash) password salt rounds (length key))))
     unfolding any_verdict
     of_key_of password least most fits =
         let test : nat_lt 4096 (length password) ≡ false = grind (arith, nat_tests, fits) in
-        let text : List ℕ = pbkdf2_text hash rounds salt key in
+        let text : List ℕ = made_text (Pbkdf2 hash rounds) salt key in
         let scheme : is_record (text_scheme text) ≡ true =
-        ap is_record (named text (made_parts hash rounds salt key) made_read) ∙ named_record hash in
+        ap is_record (named text (made_parts hash rounds salt key) made_read) ∙ named_record hash rounds in
         rw test
         (record_stored accepted tag password text (text_scheme text) scheme
         ∙ ap of_stored (stored_verdict password least most fits))
 
-pub of_key : (hash : Pbkdf2Hash) (rounds : ℕ) (salt key : List ℕ) → AreHeld rounds salt key → (password : List ℕ)
+pub of_key : (hash : Pbkdf2Hash) (rounds : ℕ) (salt key : List ℕ) → AreHeld (Pbkdf2 hash rounds) salt key → (password : List ℕ)
     → 1 ≤ rounds → rounds ≤ 10000000 → length password ≤ 4096
-    → any_verdict accepted tag password (pbkdf2_text hash rounds salt key)
+    → any_verdict accepted tag password (made_text (Pbkdf2 hash rounds) salt key)
     ≡ Ok (same_text (encoding key) (encoding (pbkdf2_with (derivation hash) password salt rounds (length key))))
-of_key hash rounds salt key held = of_key_of rounds salt key held hash
+of_key hash rounds salt key held = of_key_of rounds salt key hash held

@@ -39,7 +39,7 @@ by_parts foreign form line (Some p) = by_answer form p (converted foreign p.text
 -- of a line; one of more than 8,192 bytes is handed on as it is
 unfoldable pub handed : Foreign → LineForm → List ℕ → Handed
 handed foreign form line =
-    if nat_lt line_max (length line) then Ok line else by_parts foreign form line (parts_in form line)
+    if nat_lt line_max (length line) then Ok line else by_parts foreign form line (parts_in foreign form line)
 
 -- ---- by what the program does with a line
 

@@ -9,21 +9,22 @@ use Rattle.stored_check.specs.Verdict.{same_text}
 use Rattle.any_check.specs.Records.{accepted, tag}
 use Rattle.any_check.specs.Table.{any_verdict}
 use Rattle.foreign_text.specs.Laws.{AreHeld}
-use Rattle.foreign_text.specs.Pbkdf2.{pbkdf2_text}
-use Rattle.foreign_text.specs.declared.pbkdf2.Pbkdf2Hash.{Pbkdf2Hash}
-use Rattle.foreign_text.specs.declared.pbkdf2.Pbkdf2Hash.TheVariants.{Sha256, Sha512}
+use Rattle.foreign_text.specs.Records.{made_text}
+use Rattle.foreign_text.specs.declared.kdf.Kdf.TheVariants.{Pbkdf2}
+use Rattle.foreign_text.specs.declared.kdf.Pbkdf2Hash.{Pbkdf2Hash}
+use Rattle.foreign_text.specs.declared.kdf.Pbkdf2Hash.TheVariants.{Sha256, Sha512}
 
 -- the hash function of the derivation that a text names
 abbrev pub derivation : Pbkdf2Hash → derived.Pbkdf2Hash
 derivation Sha256 = with.Sha256
 derivation Sha512 = with.Sha512
 
--- The text of a hash, rounds, a salt and a key, as the converters give it for what Django, OpenLDAP and passlib write: a password
+-- The text of a hash, rounds, a salt and a key, as the converters give it for the makers of PBKDF2: a password
 -- of at most 4,096 bytes matches exactly where PBKDF2 (RFC 8018, section 5.2) with that hash gives the key for it, the salt and
 -- the rounds.
 abbrev pub PasswordOfKey : Type 0
 PasswordOfKey =
-    (hash : Pbkdf2Hash) (password : List ℕ) (rounds : ℕ) (salt key : List ℕ) → AreHeld rounds salt key
+    (hash : Pbkdf2Hash) (password : List ℕ) (rounds : ℕ) (salt key : List ℕ) → AreHeld (Pbkdf2 hash rounds) salt key
     → 1 ≤ rounds → rounds ≤ 10000000 → length password ≤ password_max
-    → any_verdict accepted tag password (pbkdf2_text hash rounds salt key)
+    → any_verdict accepted tag password (made_text (Pbkdf2 hash rounds) salt key)
     ≡ Ok (same_text (encoding key) (encoding (pbkdf2_with (derivation hash) password salt rounds (length key))))

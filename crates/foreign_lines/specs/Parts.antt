@@ -3,7 +3,9 @@ use Rattle.std.specs.Prelude.{ℕ, List, [], ◌∷◌, ◌++◌, ◌==◌, leng
 use Rattle.std.specs.List.{after_last, before_last, list_any}
 use Rattle.std.specs.Str.{is_utf8}
 use Rattle.pieces.specs.Characters.{is_tab}
-use Rattle.shadow_fields.specs.Fields.{has_user, is_locked, rest_of, text_of_line, user_of}
+use Rattle.foreign_text.specs.Converted.{has_colons}
+use Rattle.foreign_text.specs.declared.converted.Foreign.{Foreign}
+use Rattle.shadow_fields.specs.Fields.{first_field, has_user, is_locked, rest_of, user_of}
 use Rattle.foreign_lines.specs.declared.parts.LineForm.{LineForm}
 use Rattle.foreign_lines.specs.declared.parts.LineForm.TheVariants.{Password, Surveyed, UserPassword, UserText}
 
@@ -31,12 +33,20 @@ utf8_parts user text = if is_utf8 text then Some (record { user = user; password
 abbrev pub text_parts : List ℕ → List ℕ → Option Parts
 text_parts user text = if length text == 0 then None else if is_locked text then None else utf8_parts user text
 
+-- the stored text of a user: it ends at the next colon, but where the maker's texts have colons
+abbrev pub text_in : Foreign → List ℕ → List ℕ
+text_in foreign rest = if has_colons foreign then rest else first_field rest
+
+-- the parts of a user, a colon and a stored text
+abbrev pub user_text_parts : Foreign → List ℕ → Option Parts
+user_text_parts foreign line = if has_user line then text_parts (user_of line) (text_in foreign (rest_of line)) else None
+
 -- the parts of a line; none where no text is converted in it
-unfoldable pub parts_in : LineForm → List ℕ → Option Parts
-parts_in Password line = password_parts [] line
-parts_in UserPassword line = if has_user line then password_parts (user_of line) (rest_of line) else None
-parts_in UserText line = if has_user line then text_parts (user_of line) (text_of_line line) else None
-parts_in Surveyed line = if has_user line then text_parts (user_of line) (text_of_line line) else None
+unfoldable pub parts_in : Foreign → LineForm → List ℕ → Option Parts
+parts_in foreign Password line = password_parts [] line
+parts_in foreign UserPassword line = if has_user line then password_parts (user_of line) (rest_of line) else None
+parts_in foreign UserText line = user_text_parts foreign line
+parts_in foreign Surveyed line = user_text_parts foreign line
 
 -- the line with another stored text; of a line of texts no field behind it is kept
 abbrev pub line_with : LineForm → Parts → List ℕ → List ℕ

@@ -178,7 +178,7 @@ fn answer_foreign<R: Responder, K: Sink>(
     ensures nothing { OnErr result (Puts (K.written sink.old) (K.written sink.new) (K.faults sink.old) (K.faults sink.new) out.old out.new []) }
     ensures unchanged { OnErr result (inner.new ≡ inner.old) }
 {
-    match parts_in(form, line) {
+    match parts_in(foreign, form, line) {
         Some(parts) => answer_parts(inner, foreign, form, parts, out, sink),
         None => inner.answer(line, out, sink),
     }

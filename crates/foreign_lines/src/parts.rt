@@ -2,9 +2,11 @@
 
 ghost use Rattle.std.specs.Prelude.{◌≡◌, MatchOption, false, true};
 ghost use Rattle.std.specs.Str.{is_utf8};
-ghost use Rattle.foreign_lines.specs.Parts.{cut_parts, parts_in, password_parts, text_parts, utf8_parts};
+ghost use Rattle.foreign_lines.specs.Parts.{cut_parts, parts_in, password_parts, text_in, text_parts, user_text_parts, utf8_parts};
+ghost use Rattle.foreign_text.specs.declared.converted.Foreign.{Foreign};
 ghost use Rattle.foreign_lines.specs.Views.{as_parts};
 
+use foreign_text::Foreign;
 use line_program::cut_at_last_tab;
 use pieces::text::text_of;
 use shadow_fields::{cut_field, cut_user, is_locked};
@@ -16,7 +18,7 @@ pub enum LineForm {
     Password,
     /// A user, a colon, and the same.
     UserPassword,
-    /// A user, a colon and a stored text, which ends at the next colon.
+    /// A user, a colon and a stored text, which ends at the next colon, or at the line's end where the maker's texts have colons.
     UserText,
     /// The same, for a survey.
     Surveyed,
@@ -92,7 +94,7 @@ fn text_parts<'a>(user: &'a [u8], text: &'a [u8]) -> Option<LineParts<'a>>
 // The parts of a user, a colon, a password, a tab and a stored text.
 #[tactic(auto, unfolding(crate::specs::Parts::parts_in))]
 fn user_password_parts(line: &[u8]) -> Option<LineParts<'_>>
-    ensures { as_parts result ≡ parts_in LineForm.UserPassword line.now }
+    ensures { (foreign : Foreign) → as_parts result ≡ parts_in foreign LineForm.UserPassword line.now }
 {
     match cut_user(line) {
         Some((user, rest)) => password_parts(user, rest),
@@ -100,25 +102,35 @@ fn user_password_parts(line: &[u8]) -> Option<LineParts<'_>>
     }
 }
 
+// The stored text at the front of what comes after a user.
+fn text_in(foreign: Foreign, rest: &[u8]) -> &[u8]
+    ensures { result.now ≡ text_in foreign rest.now }
+{
+    if foreign.has_colons() {
+        rest
+    } else {
+        cut_field(rest)
+    }
+}
+
 // The parts of a user, a colon and a stored text.
-#[tactic(auto, unfolding(crate::specs::Parts::parts_in))]
-fn user_text_parts(line: &[u8]) -> Option<LineParts<'_>>
-    ensures { as_parts result ≡ parts_in LineForm.UserText line.now }
+fn user_text_parts(foreign: Foreign, line: &[u8]) -> Option<LineParts<'_>>
+    ensures { as_parts result ≡ user_text_parts foreign line.now }
 {
     match cut_user(line) {
-        Some((user, rest)) => text_parts(user, cut_field(rest)),
+        Some((user, rest)) => text_parts(user, text_in(foreign, rest)),
         None => None,
     }
 }
 
 /// The parts of a line; none where no text is converted in it.
 #[tactic(auto, unfolding(crate::specs::Parts::parts_in))]
-pub(crate) fn parts_in(form: LineForm, line: &[u8]) -> Option<LineParts<'_>>
-    ensures { as_parts result ≡ parts_in form line.now }
+pub(crate) fn parts_in(foreign: Foreign, form: LineForm, line: &[u8]) -> Option<LineParts<'_>>
+    ensures { as_parts result ≡ parts_in foreign form line.now }
 {
     match form {
         LineForm::Password => password_parts(&[], line),
         LineForm::UserPassword => user_password_parts(line),
-        LineForm::UserText | LineForm::Surveyed => user_text_parts(line),
+        LineForm::UserText | LineForm::Surveyed => user_text_parts(foreign, line),
     }
 }

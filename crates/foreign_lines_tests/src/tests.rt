@@ -204,6 +204,52 @@ fn users_read_first(rt: HostRuntime) -> Result<(), Fail> {
     Ok(())
 }
 
+// A user's text goes on to the end of the line where the maker's texts have colons. The keys are hashlib's.
+const WITH_COLONS: [(Foreign, &[u8], &[u8]); 3] = [
+    (
+        Foreign::Werkzeug,
+        b"ann:pbkdf2:sha256:7$saltsalt$fdd683fab6b91733300fb18384a4ceff79246d4f1aaa54fd81b44ff5eedb1ed7\nbob:pbkdf2:sha256:7$saltsalt$fdd683fab6b91733300fb18384a4ceff79246d4f1aaa54fd81b44ff5eedb1ed7\n",
+        b"ann\tmatch\nbob\tmismatch\n",
+    ),
+    (
+        Foreign::MediaWiki,
+        b"ann::pbkdf2:sha512:9:64:c2FsdHNhbHQ=:6vUzTVFOdRhVTzjL1KkVCWtTaLGCIYFWDfDJDjaW4EiFUeq8jAZ/a3Ef74LY0iVECU0Sp22oEkAzuq5+C9jFJg==\nbob::pbkdf2:sha512:9:64:c2FsdHNhbHQ=:6vUzTVFOdRhVTzjL1KkVCWtTaLGCIYFWDfDJDjaW4EiFUeq8jAZ/a3Ef74LY0iVECU0Sp22oEkAzuq5+C9jFJg==:\n",
+        b"ann\tmatch\nbob\tforeign-form\n",
+    ),
+    (
+        Foreign::Mosquitto,
+        b"ann:secret:pbkdf2\n",
+        b"ann\tunsupported-scheme\n",
+    ),
+];
+
+#[test]
+fn texts_with_colons(rt: HostRuntime) -> Result<(), Fail> {
+    for (foreign, lines, answers) in WITH_COLONS {
+        let mut room = [0; 64];
+        let mut passwords = MemorySource::new(PASSWORDS, 9, &[]);
+        let mut texts = MemorySource::new(lines, 9, &[]);
+        let mut sink = MemorySink::new(&mut room, 64, &[]);
+        let joining = ForeignJoin {
+            alloc: rt.alloc(),
+            foreign,
+            limits: None,
+        };
+        let end = run_join(
+            rt.alloc(),
+            RandomState::new(&rt)?,
+            &joining,
+            &mut passwords,
+            &mut texts,
+            &mut sink,
+            10_000,
+        );
+        assert!(rt; end == JoinEnd::Texts(1));
+        assert!(rt; sink.bytes() == answers);
+    }
+    Ok(())
+}
+
 const LEAST: SchemeCosts = SchemeCosts {
     sha_crypt: Costs {
         rounds: 1_000,

@@ -1,173 +1,196 @@
 -- What a converter gives converts to itself.
 use Rattle.std.proofs.Common.{◌≡◌, ◌⊎◌, ℕ, Bool, true, false, List, [], ◌∷◌, length, refl, ap, ◌∙◌, sym, inl, inr, Ok, Err}
-use Rattle.std.specs.Prelude.{nat_eq, take, codes, Option, Some, None, Result, if◌then◌else◌}
-use Rattle.std.specs.Cmp.Lexicographic.{pointwise}
-use Rattle.std.proofs.lemmas.Bool.{and_parts}
-use Rattle.phc.specs.Parts.{output_of_bytes, salt_of_bytes}
+use Rattle.std.specs.Prelude.{nat_le, take, drop, codes, ◌==◌, ◌&&◌, Option, Some, None, Result, if◌then◌else◌}
+use Rattle.base64ct.specs.Alphabets.{base64, base64_crypt, base64_pbkdf2}
 use Rattle.phc.specs.Record.{record_text}
-use Rattle.phc.specs.declared.error.Error as phc_error
-use Rattle.foreign_text.specs.Converted.{Answer, adapted_fields, adapted_pbkdf2, begins_with_digit, converted, django}
-use Rattle.foreign_text.specs.Converted.{django_argon2, django_bcrypt, django_fields, django_pbkdf2, ldap, ldap_argon2, ldap_crypt}
-use Rattle.foreign_text.specs.Converted.{or_behind, passlib, passlib_other, passlib_pbkdf2}
+use Rattle.pieces.specs.Pieces.{behind, pieces_at}
+use Rattle.foreign_text.specs.Answers.{Answer, as_it_is, stored_or_unread}
+use Rattle.foreign_text.specs.AspNet.{aspnet, aspnet_bytes, aspnet_hash, aspnet_sized, aspnet_v3, aspnet_with, by_format, first_of, number_at}
+use Rattle.foreign_text.specs.Cisco.{cisco, cisco_fields, cisco_type, is_crypt_field}
+use Rattle.foreign_text.specs.Converted.{converted}
+use Rattle.foreign_text.specs.Django.{django, django_argon2, django_bcrypt, django_pbkdf2, django_pbkdf2_fields}
+use Rattle.foreign_text.specs.Django.{django_scrypt, django_scrypt_fields}
+use Rattle.foreign_text.specs.Dovecot.{dovecot}
+use Rattle.foreign_text.specs.Elasticsearch.{elasticsearch}
+use Rattle.foreign_text.specs.Encoded.{either_pbkdf2, encoded_pbkdf2}
+use Rattle.foreign_text.specs.Fields.{field_bytes, five_of, number_of, pbkdf2_cost, plain_hex, scrypt_cost, small_hex, three_of}
+use Rattle.foreign_text.specs.Grub.{grub, grub_fields, grub_pbkdf2}
+use Rattle.foreign_text.specs.Ldap.{ldap, ldap_argon2, ldap_bcrypt, ldap_crypt}
+use Rattle.foreign_text.specs.MediaWiki.{if_sized, is_size, mediawiki, mediawiki_cost, mediawiki_fields, mediawiki_pbkdf2}
+use Rattle.foreign_text.specs.Mosquitto.{mosquitto}
 use Rattle.foreign_text.specs.Names.{begins, behind_tag, passlib_unread}
-use Rattle.foreign_text.specs.Pbkdf2.{Fields, by_key, by_salt, field_bytes, fields_of, pbkdf2_text, rounds_of, with_key, with_rounds}
-use Rattle.foreign_text.specs.Pbkdf2.{with_salt}
+use Rattle.foreign_text.specs.Passlib.{begins_with_digit, passlib, passlib_other, passlib_pbkdf2}
+use Rattle.foreign_text.specs.Records.{made_text, with_kdf}
+use Rattle.foreign_text.specs.Spring.{spring, spring_cost, spring_fields, spring_pbkdf2, spring_scrypt, spring_scrypt_fields}
+use Rattle.foreign_text.specs.Werkzeug.{werkzeug, werkzeug_fields, werkzeug_method}
 use Rattle.foreign_text.specs.declared.converted.Foreign.{Foreign}
-use Rattle.foreign_text.specs.declared.converted.Foreign.TheVariants.{Django, Ldap, Passlib}
+use Rattle.foreign_text.specs.declared.converted.Foreign.TheVariants as of
 use Rattle.foreign_text.specs.declared.fault.ForeignFault.{ForeignFault}
 use Rattle.foreign_text.specs.declared.fault.ForeignFault.TheVariants.{Form, Unread}
 use Rattle.foreign_text.specs.declared.fault.Unread as unread
 use Rattle.foreign_text.specs.declared.fault.Unread.TheVariants.{DesCrypt}
-use Rattle.foreign_text.specs.declared.pbkdf2.Pbkdf2Hash.{Pbkdf2Hash}
-use Rattle.foreign_text.specs.declared.pbkdf2.Pbkdf2Hash.TheVariants.{Sha256, Sha512}
-use Rattle.pieces.specs.Pieces.{behind, pieces_at}
-use Rattle.base64ct.specs.Alphabets.{base64, base64_pbkdf2}
+use Rattle.foreign_text.specs.declared.kdf.Kdf.{Kdf}
+use Rattle.foreign_text.specs.declared.kdf.Kdf.TheVariants.{Pbkdf2, Scrypt}
+use Rattle.foreign_text.specs.declared.kdf.Pbkdf2Hash.{Pbkdf2Hash}
+use Rattle.foreign_text.specs.declared.kdf.Pbkdf2Hash.TheVariants.{Sha256, Sha512}
+use Rattle.foreign_text.proofs.Made.{First, IsMade, by_front, by_test, either_made, encoded_made, five_made, given, held}
+use Rattle.foreign_text.proofs.Made.{made_first, no_ok, same_ok, signed, stays, three_made, with_kdf_made}
 
--- ---- answers
-
-abbrev given : List ℕ → Answer
-given stored = Ok stored
-
-abbrev cause : ForeignFault → Answer
-cause e = Err e
-
-same_ok : (a b : List ℕ) → given a ≡ Ok b → a ≡ b
-same_ok a b h = cc
-
-no_ok : {P : Type 0} (e : ForeignFault) (b : List ℕ) → cause e ≡ Ok b → P
-no_ok e b h = absurd cc
-
-by_front : {P : Type 0} (read : List ℕ → Answer) (o : Option (List ℕ)) (other : Answer) (stored : List ℕ)
-    → ((rest : List ℕ) → read rest ≡ Ok stored → P) → (other ≡ Ok stored → P) → or_behind read o other ≡ Ok stored → P
-by_front read None other stored f g h = g h
-by_front read (Some rest) other stored f g h = f rest h
-
-by_test : {P : Type 0} (t : Bool) (a b : Answer) (stored : List ℕ) → (t ≡ true → a ≡ Ok stored → P)
-    → (b ≡ Ok stored → P) → (if t then a else b) ≡ Ok stored → P
-by_test true a b stored f g h = f refl h
-by_test false a b stored f g h = g h
-
--- ---- a text that was made
-
-abbrev IsMade : List ℕ → Type 0
-IsMade stored =
-    (hash : Pbkdf2Hash) × (rounds : ℕ) × (salt : List ℕ) × (key : List ℕ) × (pbkdf2_text hash rounds salt key ≡ stored)
-
-module _ (hash : Pbkdf2Hash) where
-  by_key_made : (rounds : ℕ) (salt : List ℕ) (k : Result (List ℕ) phc_error.Error) (stored : List ℕ)
-      → by_key hash rounds salt k ≡ Ok stored → IsMade stored
-  by_key_made rounds salt (Err e) stored h = no_ok _ stored h
-  by_key_made rounds salt (Ok key) stored h =
-      (hash, rounds, salt, key, same_ok (pbkdf2_text hash rounds salt key) stored h)
-
-  with_key_made : (rounds : ℕ) (salt : List ℕ) (key : Option (List ℕ)) (stored : List ℕ)
-      → with_key hash rounds salt key ≡ Ok stored → IsMade stored
-  with_key_made rounds salt None stored h = no_ok _ stored h
-  with_key_made rounds salt (Some key) stored h = by_key_made rounds salt (output_of_bytes key) stored h
-
-  by_salt_made : (rounds : ℕ) (s : Result (List ℕ) phc_error.Error) (key : Option (List ℕ)) (stored : List ℕ)
-      → by_salt hash rounds s key ≡ Ok stored → IsMade stored
-  by_salt_made rounds (Err e) key stored h = no_ok _ stored h
-  by_salt_made rounds (Ok salt) key stored h = with_key_made rounds salt key stored h
-
-  with_salt_made : (rounds : ℕ) (salt key : Option (List ℕ)) (stored : List ℕ)
-      → with_salt hash rounds salt key ≡ Ok stored → IsMade stored
-  with_salt_made rounds None key stored h = no_ok _ stored h
-  with_salt_made rounds (Some salt) key stored h = by_salt_made rounds (salt_of_bytes salt) key stored h
-
-  with_rounds_made : (rounds : Option ℕ) (salt key : Option (List ℕ)) (stored : List ℕ)
-      → with_rounds hash rounds salt key ≡ Ok stored → IsMade stored
-  with_rounds_made None salt key stored h = no_ok _ stored h
-  with_rounds_made (Some rounds) salt key stored h = with_salt_made rounds salt key stored h
-
-django_made : (f : Result Fields ForeignFault) (stored : List ℕ) → django_fields f ≡ Ok stored → IsMade stored
-django_made (Err e) stored h = no_ok _ stored h
-django_made (Ok f) stored h =
-    with_rounds_made Sha256 (rounds_of f.rounds) (Some f.salt) (field_bytes base64 f.key) stored h
-
-adapted_made : (hash : Pbkdf2Hash) (f : Result Fields ForeignFault) (stored : List ℕ) → adapted_fields hash f ≡ Ok stored
-    → IsMade stored
-adapted_made hash (Err e) stored h = no_ok _ stored h
-adapted_made hash (Ok f) stored h =
-    with_rounds_made hash (rounds_of f.rounds) (field_bytes base64_pbkdf2 f.salt) (field_bytes base64_pbkdf2 f.key) stored h
-
--- ---- a stored text begins with `$`
-
-begins_longer : (stored front : List ℕ) → begins stored (36 ∷ front) ≡ true → begins stored (codes "$") ≡ true
-begins_longer [] front h = h
-begins_longer (b ∷ stored) front h =
-    rw ((and_parts (nat_eq 36 b) (pointwise nat_eq front (take (length front) stored)) h).0) refl
-
-made_begins : (stored : List ℕ) → IsMade stored → begins stored (codes "$") ≡ true
-unfolding pbkdf2_text record_text
-made_begins stored made = ap (λ (t : List ℕ). begins t (codes "$")) (sym made.4) ∙ refl
-
-by_sign : (t : Bool) (rest stored : List ℕ) (e : ForeignFault) → (if t then Ok rest else Err e) ≡ Ok stored
-    → (t ≡ true) × (rest ≡ stored)
-by_sign true rest stored e h = (refl, same_ok rest stored h)
-by_sign false rest stored e h = no_ok e stored h
-
-signed : (front rest stored : List ℕ) (e : ForeignFault)
-    → (if begins rest (36 ∷ front) then Ok rest else Err e) ≡ Ok stored → begins stored (codes "$") ≡ true
-signed front rest stored e h =
-    let parts = by_sign (begins rest (36 ∷ front)) rest stored e h in
-    begins_longer stored front (ap (λ (t : List ℕ). begins t (36 ∷ front)) (sym parts.1) ∙ parts.0)
-
-held : (text stored : List ℕ) → begins text (codes "$") ≡ true → given text ≡ Ok stored
-    → begins stored (codes "$") ≡ true
-held text stored first h = ap (λ (t : List ℕ). begins t (codes "$")) (sym (same_ok text stored h)) ∙ first
-
-django_begins : (text stored : List ℕ) → django text ≡ Ok stored → begins stored (codes "$") ≡ true
-unfolding django
-django_begins text stored =
-    by_test (begins text (codes "$")) (Ok text) _ stored (held text stored)
-    (by_front django_pbkdf2 (behind text (codes "pbkdf2_sha256$")) _ stored
-    (λ rest h. made_begins stored (django_made (fields_of (pieces_at 36 rest)) stored h))
-    (by_front django_argon2 (behind text (codes "argon2")) _ stored
-    (λ rest h. signed (codes "argon2") rest stored Form h)
-    (by_front django_bcrypt (behind text (codes "bcrypt$")) _ stored
-    (λ rest h. signed (codes "2") rest stored Form h)
-    (λ h. no_ok _ stored h))))
-
-ldap_begins : (text stored : List ℕ) → ldap text ≡ Ok stored → begins stored (codes "$") ≡ true
-unfolding ldap
-ldap_begins text stored =
-    by_test (begins text (codes "$")) (Ok text) _ stored (held text stored)
-    (by_front ldap_crypt (behind_tag text (codes "{CRYPT}") (codes "{crypt}")) _ stored
-    (λ rest h. signed [] rest stored (Unread DesCrypt) h)
-    (by_front ldap_argon2 (behind_tag text (codes "{ARGON2}") (codes "{argon2}")) _ stored
-    (λ rest h. signed (codes "argon2") rest stored Form h)
-    (by_front (adapted_pbkdf2 Sha256) (behind_tag text (codes "{PBKDF2-SHA256}") (codes "{pbkdf2-sha256}")) _ stored
-    (λ rest h. made_begins stored (adapted_made Sha256 (fields_of (pieces_at 36 rest)) stored h))
-    (by_front (adapted_pbkdf2 Sha512) (behind_tag text (codes "{PBKDF2-SHA512}") (codes "{pbkdf2-sha512}")) _ stored
-    (λ rest h. made_begins stored (adapted_made Sha512 (fields_of (pieces_at 36 rest)) stored h))
-    (λ h. no_ok _ stored h)))))
-
--- ---- passlib's
-
-other_kept : (text stored : List ℕ) (o : Option unread.Unread) → passlib_other text o ≡ Ok stored → text ≡ stored
-other_kept text stored None h = same_ok text stored h
-other_kept text stored (Some name) h = no_ok _ stored h
-
-made_kept : (hash : Pbkdf2Hash) (rounds : ℕ) (salt key : List ℕ)
-    → passlib (pbkdf2_text hash rounds salt key) ≡ Ok (pbkdf2_text hash rounds salt key)
-unfolding passlib pbkdf2_text record_text
-made_kept Sha256 rounds salt key = refl
-made_kept Sha512 rounds salt key = refl
-
-as_made : (stored : List ℕ) → IsMade stored → passlib stored ≡ Ok stored
-as_made stored made =
-    ap passlib (sym made.4) ∙ made_kept made.0 made.1 made.2 made.3 ∙ ap given made.4
-
-as_text : (text stored : List ℕ) → passlib text ≡ Ok stored → text ≡ stored → passlib stored ≡ Ok stored
-as_text text stored h same = ap passlib (sym same) ∙ h
+-- ---- makers whose own texts don't begin with `$`
 
 module _ (text stored : List ℕ) where
+  django_first : django text ≡ Ok stored → First stored
+  unfolding django
+  django_first =
+      by_front django_pbkdf2 (behind text (codes "pbkdf2_sha256$")) _ stored
+      (λ rest h. made_first stored (three_made django_pbkdf2_fields (three_of (pieces_at 36 rest)) stored
+      (λ r s k. with_kdf_made (pbkdf2_cost Sha256 r) (Some s) (field_bytes base64 k) stored) h))
+      (by_front django_scrypt (behind text (codes "scrypt$")) _ stored
+      (λ rest h. made_first stored (five_made django_scrypt_fields (five_of (pieces_at 36 rest)) stored
+      (λ n s r p k. with_kdf_made (scrypt_cost n r p) (Some s) (field_bytes base64 k) stored) h))
+      (by_front django_argon2 (behind text (codes "argon2")) _ stored
+      (λ rest h. signed (codes "argon2") rest stored Form h)
+      (by_front django_bcrypt (behind text (codes "bcrypt$")) _ stored
+      (λ rest h. signed (codes "2") rest stored Form h)
+      (λ h. no_ok _ stored h))))
+
+  werkzeug_first : werkzeug text ≡ Ok stored → First stored
+  unfolding werkzeug
+  werkzeug_first h =
+      made_first stored (three_made werkzeug_fields (three_of (pieces_at 36 text)) stored
+      (λ m s k. with_kdf_made (werkzeug_method m) (Some s) (small_hex k) stored) h)
+
+  ldap_first : ldap text ≡ Ok stored → First stored
+  unfolding ldap
+  ldap_first =
+      by_front ldap_crypt (behind_tag text (codes "{CRYPT}") (codes "{crypt}")) _ stored
+      (λ rest h. signed [] rest stored (Unread DesCrypt) h)
+      (by_front ldap_argon2 (behind_tag text (codes "{ARGON2}") (codes "{argon2}")) _ stored
+      (λ rest h. signed (codes "argon2") rest stored Form h)
+      (by_front ldap_bcrypt (behind_tag text (codes "{BCRYPT}") (codes "{bcrypt}")) _ stored
+      (λ rest h. signed (codes "2") rest stored Form h)
+      (by_front (either_pbkdf2 Sha256) (behind_tag text (codes "{PBKDF2-SHA256}") (codes "{pbkdf2-sha256}")) _ stored
+      (λ rest h. made_first stored (either_made Sha256 rest stored h))
+      (by_front (either_pbkdf2 Sha512) (behind_tag text (codes "{PBKDF2-SHA512}") (codes "{pbkdf2-sha512}")) _ stored
+      (λ rest h. made_first stored (either_made Sha512 rest stored h))
+      (λ h. no_ok _ stored h)))))
+
+  dovecot_first : dovecot text ≡ Ok stored → First stored
+  unfolding dovecot
+  dovecot_first =
+      by_front (as_it_is (codes "$6$")) (behind_tag text (codes "{SHA512-CRYPT}") (codes "{sha512-crypt}")) _ stored
+      (λ rest h. signed (codes "6$") rest stored Form h)
+      (by_front (as_it_is (codes "$5$")) (behind_tag text (codes "{SHA256-CRYPT}") (codes "{sha256-crypt}")) _ stored
+      (λ rest h. signed (codes "5$") rest stored Form h)
+      (by_front (as_it_is (codes "$1$")) (behind_tag text (codes "{MD5-CRYPT}") (codes "{md5-crypt}")) _ stored
+      (λ rest h. signed (codes "1$") rest stored Form h)
+      (by_front (as_it_is (codes "$2")) (behind_tag text (codes "{BLF-CRYPT}") (codes "{blf-crypt}")) _ stored
+      (λ rest h. signed (codes "2") rest stored Form h)
+      (by_front (as_it_is (codes "$argon2i$")) (behind_tag text (codes "{ARGON2I}") (codes "{argon2i}")) _ stored
+      (λ rest h. signed (codes "argon2i$") rest stored Form h)
+      (by_front (as_it_is (codes "$argon2id$")) (behind_tag text (codes "{ARGON2ID}") (codes "{argon2id}")) _ stored
+      (λ rest h. signed (codes "argon2id$") rest stored Form h)
+      (by_front ldap_crypt (behind_tag text (codes "{CRYPT}") (codes "{crypt}")) _ stored
+      (λ rest h. signed [] rest stored (Unread DesCrypt) h)
+      (λ h. no_ok _ stored h)))))))
+
+  spring_fields_made : (rest : List ℕ) → spring_fields rest ≡ Ok stored → First stored
+  spring_fields_made rest h =
+      made_first stored (three_made spring_scrypt_fields (three_of (pieces_at 36 rest)) stored
+      (λ c s k. with_kdf_made (spring_cost c) (field_bytes base64 s) (field_bytes base64 k) stored) h)
+
+  spring_digits_made : (rest : List ℕ) → spring_pbkdf2 rest ≡ Ok stored → First stored
+  spring_digits_made rest =
+      by_test (length rest == 96)
+      (with_kdf (Ok (Pbkdf2 Sha256 310000)) (small_hex (take 32 rest)) (small_hex (drop 32 rest))) _ stored
+      (λ t h. made_first stored (with_kdf_made (Ok (Pbkdf2 Sha256 310000)) (small_hex (take 32 rest))
+      (small_hex (drop 32 rest)) stored h))
+      (λ h. no_ok _ stored h)
+
+  spring_first : spring text ≡ Ok stored → First stored
+  unfolding spring
+  spring_first =
+      by_front (as_it_is (codes "$2")) (behind_tag text (codes "{BCRYPT}") (codes "{bcrypt}")) _ stored
+      (λ rest h. signed (codes "2") rest stored Form h)
+      (by_front (as_it_is (codes "$argon2"))
+      (behind_tag text (codes "{argon2@SpringSecurity_v5_8}") (codes "{argon2}")) _ stored
+      (λ rest h. signed (codes "argon2") rest stored Form h)
+      (by_front spring_scrypt (behind_tag text (codes "{scrypt@SpringSecurity_v5_8}") (codes "{scrypt}")) _ stored
+      (λ rest. by_front spring_fields (behind rest (codes "$")) _ stored spring_fields_made (λ h. no_ok _ stored h))
+      (by_front spring_pbkdf2 (behind text (codes "{pbkdf2@SpringSecurity_v5_8}")) _ stored spring_digits_made
+      (λ h. no_ok _ stored h))))
+
+  elasticsearch_first : elasticsearch text ≡ Ok stored → First stored
+  unfolding elasticsearch
+  elasticsearch_first =
+      by_front (encoded_pbkdf2 base64 Sha512) (behind text (codes "{PBKDF2}")) _ stored
+      (λ rest h. made_first stored (encoded_made base64 Sha512 rest stored h)) (λ h. no_ok _ stored h)
+
+  sized_made : (t : Bool) (answer : Answer) → if_sized t answer ≡ Ok stored → answer ≡ Ok stored
+  sized_made true answer h = h
+  sized_made false (Err e) h = no_ok _ stored h
+  sized_made false (Ok text) h = no_ok _ stored h
+
+  mediawiki_first : mediawiki text ≡ Ok stored → First stored
+  unfolding mediawiki
+  mediawiki_first =
+      by_front mediawiki_pbkdf2 (behind text (codes ":pbkdf2:")) _ stored
+      (λ rest h. made_first stored (five_made mediawiki_fields (five_of (pieces_at 58 rest)) stored
+      (λ name r n s k i. with_kdf_made (mediawiki_cost name r) (field_bytes base64 s) (field_bytes base64 k) stored
+      (sized_made (is_size (number_of n) (field_bytes base64 k))
+      (with_kdf (mediawiki_cost name r) (field_bytes base64 s) (field_bytes base64 k)) i)) h))
+      (λ h. no_ok _ stored h)
+
+  grub_first : grub text ≡ Ok stored → First stored
+  unfolding grub
+  grub_first =
+      by_front grub_pbkdf2 (behind text (codes "grub.pbkdf2.sha512.")) _ stored
+      (λ rest h. made_first stored (three_made grub_fields (three_of (pieces_at 46 rest)) stored
+      (λ r s k. with_kdf_made (pbkdf2_cost Sha512 r) (plain_hex s) (plain_hex k) stored) h))
+      (λ h. no_ok _ stored h)
+
+  aspnet_sized_first : (hash : Pbkdf2Hash) (rounds size : ℕ) (rest : List ℕ) → aspnet_sized hash rounds size rest ≡ Ok stored
+      → First stored
+  aspnet_sized_first hash rounds size rest =
+      by_test (nat_le size (length rest)) _ _ stored
+      (λ t. by_test (rounds == 0) _ _ stored (λ z h. no_ok _ stored h)
+      (λ h. made_first stored (with_kdf_made (Ok (Pbkdf2 hash rounds)) (Some (take size rest)) (Some (drop size rest)) stored h)))
+      (λ h. no_ok _ stored h)
+
+  aspnet_with_first : (hash : Result Pbkdf2Hash ForeignFault) (rounds size : ℕ) (rest : List ℕ)
+      → aspnet_with hash rounds size rest ≡ Ok stored → First stored
+  aspnet_with_first (Err e) rounds size rest h = no_ok _ stored h
+  aspnet_with_first (Ok hash) rounds size rest h = aspnet_sized_first hash rounds size rest h
+
+  by_format_first : (format : Option ℕ) (b : List ℕ) → by_format format b ≡ Ok stored → First stored
+  by_format_first None b h = no_ok _ stored h
+  by_format_first (Some format) b h =
+      by_test (format == 0) _ (if (format == 1) && nat_le 13 (length b) then aspnet_v3 b else Err Form) stored
+      (λ z i. no_ok _ stored i)
+      (by_test ((format == 1) && nat_le 13 (length b)) (aspnet_v3 b) _ stored
+      (λ t. aspnet_with_first (aspnet_hash (number_at b 1)) (number_at b 5) (number_at b 9) (drop 13 b))
+      (λ i. no_ok _ stored i)) h
+
+  aspnet_bytes_first : (b : Option (List ℕ)) → aspnet_bytes b ≡ Ok stored → First stored
+  aspnet_bytes_first None h = no_ok _ stored h
+  aspnet_bytes_first (Some b) h = by_format_first (first_of b) b h
+
+  aspnet_first : aspnet text ≡ Ok stored → First stored
+  unfolding aspnet
+  aspnet_first h = aspnet_bytes_first (field_bytes base64 text) h
+
+-- ---- makers whose own texts begin with `$`: the text stays, or one is made
+
+module _ (text stored : List ℕ) where
+  other_kept : (o : Option unread.Unread) → passlib_other text o ≡ Ok stored → text ≡ stored
+  other_kept None h = same_ok text stored h
+  other_kept (Some name) h = no_ok _ stored h
+
   of_pbkdf2 : (hash : Pbkdf2Hash) (rest : List ℕ) → passlib_pbkdf2 hash text rest ≡ Ok stored
       → (text ≡ stored) ⊎ IsMade stored
   of_pbkdf2 hash rest =
-      by_test (begins_with_digit rest) (adapted_pbkdf2 hash rest) (Ok text) stored
-      (λ digit h. inr (adapted_made hash (fields_of (pieces_at 36 rest)) stored h))
+      by_test (begins_with_digit rest) (encoded_pbkdf2 base64_pbkdf2 hash rest) (Ok text) stored
+      (λ digit h. inr (encoded_made base64_pbkdf2 hash rest stored h))
       (λ h. inl (same_ok text stored h))
 
   passlib_gives : passlib text ≡ Ok stored → (text ≡ stored) ⊎ IsMade stored
@@ -175,28 +198,81 @@ module _ (text stored : List ℕ) where
   passlib_gives =
       by_front (passlib_pbkdf2 Sha256 text) (behind text (codes "$pbkdf2-sha256$")) _ stored (of_pbkdf2 Sha256)
       (by_front (passlib_pbkdf2 Sha512 text) (behind text (codes "$pbkdf2-sha512$")) _ stored (of_pbkdf2 Sha512)
-      (λ h. inl (other_kept text stored (passlib_unread text) h)))
+      (λ h. inl (other_kept (passlib_unread text) h)))
 
-by_kind : (text stored : List ℕ) → passlib text ≡ Ok stored → (text ≡ stored) ⊎ IsMade stored
-    → passlib stored ≡ Ok stored
-by_kind text stored h (inl same) = as_text text stored h same
-by_kind text stored h (inr made) = as_made stored made
+  cisco_fields_made : (kdf : Kdf) (pieces : List (List ℕ)) → cisco_fields kdf pieces ≡ Ok stored → IsMade stored
+  cisco_fields_made kdf [] h = no_ok _ stored h
+  cisco_fields_made kdf (salt ∷ []) h = no_ok _ stored h
+  cisco_fields_made kdf (salt ∷ (key ∷ [])) h =
+      by_test (is_crypt_field 14 salt && is_crypt_field 43 key)
+      (with_kdf (Ok kdf) (Some salt) (field_bytes base64_crypt key)) _ stored
+      (λ t i. with_kdf_made (Ok kdf) (Some salt) (field_bytes base64_crypt key) stored i)
+      (λ i. no_ok _ stored i) h
+  cisco_fields_made kdf (salt ∷ (key ∷ (one ∷ more))) h = no_ok _ stored h
 
-passlib_again : (text stored : List ℕ) → passlib text ≡ Ok stored → passlib stored ≡ Ok stored
-passlib_again text stored h = by_kind text stored h (passlib_gives text stored h)
+  cisco_gives : cisco text ≡ Ok stored → (text ≡ stored) ⊎ IsMade stored
+  unfolding cisco
+  cisco_gives =
+      by_front (cisco_type (Pbkdf2 Sha256 20000)) (behind text (codes "$8$")) _ stored
+      (λ rest h. inr (cisco_fields_made (Pbkdf2 Sha256 20000) (pieces_at 36 rest) h))
+      (by_front (cisco_type (Scrypt 14 1 1)) (behind text (codes "$9$")) _ stored
+      (λ rest h. inr (cisco_fields_made (Scrypt 14 1 1) (pieces_at 36 rest) h))
+      (λ h. inl (stays text stored h)))
+
+  mosquitto_gives : mosquitto text ≡ Ok stored → (text ≡ stored) ⊎ IsMade stored
+  unfolding mosquitto
+  mosquitto_gives =
+      by_front (encoded_pbkdf2 base64 Sha512) (behind text (codes "$7$")) _ stored
+      (λ rest h. inr (encoded_made base64 Sha512 rest stored h))
+      (by_test (begins text (codes "$6$")) _ (stored_or_unread text) stored (λ t h. no_ok _ stored h)
+      (λ h. inl (stays text stored h)))
+
+passlib_made : (kdf : Kdf) (salt key : List ℕ) → passlib (made_text kdf salt key) ≡ Ok (made_text kdf salt key)
+unfolding passlib made_text record_text
+passlib_made (Pbkdf2 Sha256 rounds) salt key = refl
+passlib_made (Pbkdf2 Sha512 rounds) salt key = refl
+passlib_made (Scrypt ln r p) salt key = refl
+
+cisco_made : (kdf : Kdf) (salt key : List ℕ) → cisco (made_text kdf salt key) ≡ Ok (made_text kdf salt key)
+unfolding cisco made_text record_text
+cisco_made (Pbkdf2 Sha256 rounds) salt key = refl
+cisco_made (Pbkdf2 Sha512 rounds) salt key = refl
+cisco_made (Scrypt ln r p) salt key = refl
+
+mosquitto_made : (kdf : Kdf) (salt key : List ℕ) → mosquitto (made_text kdf salt key) ≡ Ok (made_text kdf salt key)
+unfolding mosquitto made_text record_text
+mosquitto_made (Pbkdf2 Sha256 rounds) salt key = refl
+mosquitto_made (Pbkdf2 Sha512 rounds) salt key = refl
+mosquitto_made (Scrypt ln r p) salt key = refl
 
 -- ---- all
 
-django_held : (stored : List ℕ) → begins stored (codes "$") ≡ true → django stored ≡ Ok stored
-unfolding django
-django_held stored first = rw first refl
+again : (read : List ℕ → Answer) → ((kdf : Kdf) (salt key : List ℕ) → read (made_text kdf salt key) ≡ Ok (made_text kdf salt key))
+    → (text stored : List ℕ) → read text ≡ Ok stored → (text ≡ stored) ⊎ IsMade stored → read stored ≡ Ok stored
+again read kept text stored h (inl same) = ap read (sym same) ∙ h
+again read kept text stored h (inr made) =
+    ap read (sym made.3) ∙ kept made.0 made.1 made.2 ∙ ap given made.3
 
-ldap_held : (stored : List ℕ) → begins stored (codes "$") ≡ true → ldap stored ≡ Ok stored
-unfolding ldap
-ldap_held stored first = rw first refl
+plain_again : (read : List ℕ → Answer) → ((text stored : List ℕ) → read text ≡ Ok stored → First stored)
+    → (text stored : List ℕ) → (if begins text (codes "$") then Ok text else read text) ≡ Ok stored
+    → (if begins stored (codes "$") then Ok stored else read stored) ≡ Ok stored
+plain_again read first text stored h =
+    let begun : First stored =
+    by_test (begins text (codes "$")) (Ok text) (read text) stored (held text stored) (first text stored) h in
+    rw begun refl
 
 pub itself : (foreign : Foreign) (text stored : List ℕ) → converted foreign text ≡ Ok stored
     → converted foreign stored ≡ Ok stored
-itself Django text stored h = django_held stored (django_begins text stored h)
-itself Ldap text stored h = ldap_held stored (ldap_begins text stored h)
-itself Passlib text stored h = passlib_again text stored h
+unfolding converted
+itself of.Django text stored h = plain_again django django_first text stored h
+itself of.Werkzeug text stored h = plain_again werkzeug werkzeug_first text stored h
+itself of.Ldap text stored h = plain_again ldap ldap_first text stored h
+itself of.Passlib text stored h = again passlib passlib_made text stored h (passlib_gives text stored h)
+itself of.Dovecot text stored h = plain_again dovecot dovecot_first text stored h
+itself of.Spring text stored h = plain_again spring spring_first text stored h
+itself of.Elasticsearch text stored h = plain_again elasticsearch elasticsearch_first text stored h
+itself of.AspNet text stored h = plain_again aspnet aspnet_first text stored h
+itself of.Cisco text stored h = again cisco cisco_made text stored h (cisco_gives text stored h)
+itself of.Mosquitto text stored h = again mosquitto mosquitto_made text stored h (mosquitto_gives text stored h)
+itself of.MediaWiki text stored h = plain_again mediawiki mediawiki_first text stored h
+itself of.Grub text stored h = plain_again grub grub_first text stored h

@@ -7,7 +7,7 @@ use Rattle.base64ct.specs.Decoding.{decoding}
 use Rattle.phc.specs.Encoded.{encoding}
 use Rattle.phc.specs.Parts.{output_of_bytes, salt_of_bytes}
 use Rattle.phc.proofs.EncodedBytes.{encoded_length}
-use Rattle.foreign_text.specs.Pbkdf2.{field_bytes}
+use Rattle.foreign_text.specs.Fields.{field_bytes}
 
 -- a short field that is decoded
 pub taken : (a : Alphabet) (t b : List ℕ) → length t ≤ 128 → decoding a t ≡ Some b → field_bytes a t ≡ Some b

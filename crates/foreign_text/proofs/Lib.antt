@@ -1,4 +1,5 @@
 mod Lengths
 pub mod Records
+mod Made
 mod Spelled
 mod Itself

@@ -1,14 +1,17 @@
--- What Django, OpenLDAP and passlib write is converted to the text of the record.
+-- What Django, Werkzeug, OpenLDAP and passlib write is converted to the text of the record.
 use Rattle.std.proofs.Common.{◌≡◌, ℕ, zero, suc, ◌+◌, ◌-◌, ◌*◌, ◌%◌, ◌/◌, ◌^◌, ◌<◌, ◌≤◌, Bool, true, false, List, [], ◌∷◌, ◌++◌, length, map}
 use Rattle.std.proofs.Common.{refl, ap, ◌∙◌, arith, Ok}
-use Rattle.std.specs.Prelude.{◌==◌, not, replicate, Some, None}
+use Rattle.std.specs.Prelude.{◌==◌, not, replicate, Some, None, codes, drop, nat_eq, nat_le}
+use Rattle.std.specs.Cmp.Lexicographic.{pointwise}
+use Rattle.std.specs.List.{ends_with}
+use Rattle.std.proofs.lemmas.Bool.Decides.{nat_tests}
 use Rattle.std.specs.Char.{is_ascii_digit}
 use Rattle.std.specs.Fmt.{decimal}
 use Rattle.std.specs.List.{list_all}
 use Rattle.std.proofs.lemmas.Bool.{and_parts}
 use Rattle.std.proofs.lemmas.Fmt.{decimal_nonempty}
 use Rattle.pieces.specs.Pieces.{LacksByte, pieces_at}
-use Rattle.pieces.proofs.ByteTests.{all_append, lacks, passes_at}
+use Rattle.pieces.proofs.ByteTests.{all_append, all_weaker, lacks, passes_at}
 use Rattle.pieces.proofs.Cuts.{first_cut, one_piece}
 use Rattle.pieces.proofs.PlainNumbers.{decimal_read}
 use Rattle.base64ct.specs.Alphabets.{base64, base64_pbkdf2}
@@ -19,13 +22,22 @@ use Rattle.base64ct.proofs.Padding.{length-encoding, padding_count}
 use Rattle.phc.specs.Grammar.{value_fault}
 use Rattle.phc.proofs.Characters.{decimal_digits}
 use Rattle.phc.proofs.ValueBytes.{decimal_length, value_from}
-use Rattle.foreign_text.specs.Converted.{adapted_fields, begins_with_digit, converted, django, django_fields, ldap, passlib}
+use Rattle.hex.specs.Hex.{encode_lower, encode_with, lower_digits}
+use Rattle.hex.proofs.HexLemmas.{decode_of-encode_lower, length-encode_with}
+use Rattle.foreign_text.specs.Converted.{converted}
+use Rattle.foreign_text.specs.Django.{django, django_pbkdf2_fields}
+use Rattle.foreign_text.specs.Encoded.{either_fields, encoded_fields}
+use Rattle.foreign_text.specs.Fields.{field_bytes, in_three, is_small_digit, number_of, small_hex, three_of}
 use Rattle.foreign_text.specs.Laws.{AreHeld}
-use Rattle.foreign_text.specs.Pbkdf2.{field_bytes, fields_of, pbkdf2_text, rounds_of}
-use Rattle.foreign_text.specs.Spellings.{django_spelling, ldap_spelling, passlib_spelling, three}
-use Rattle.foreign_text.specs.declared.converted.Foreign.TheVariants.{Django, Ldap, Passlib}
-use Rattle.foreign_text.specs.declared.pbkdf2.Pbkdf2Hash.{Pbkdf2Hash}
-use Rattle.foreign_text.specs.declared.pbkdf2.Pbkdf2Hash.TheVariants.{Sha256, Sha512}
+use Rattle.foreign_text.specs.Ldap.{ldap}
+use Rattle.foreign_text.specs.Passlib.{begins_with_digit, passlib}
+use Rattle.foreign_text.specs.Records.{made_text}
+use Rattle.foreign_text.specs.Spellings.{django_spelling, ldap_spelling, passlib_spelling, three, werkzeug_hash, werkzeug_spelling}
+use Rattle.foreign_text.specs.Werkzeug.{werkzeug, werkzeug_fields, werkzeug_method}
+use Rattle.foreign_text.specs.declared.converted.Foreign.TheVariants.{Django, Ldap, Passlib, Werkzeug}
+use Rattle.foreign_text.specs.declared.kdf.Kdf.TheVariants.{Pbkdf2}
+use Rattle.foreign_text.specs.declared.kdf.Pbkdf2Hash.{Pbkdf2Hash}
+use Rattle.foreign_text.specs.declared.kdf.Pbkdf2Hash.TheVariants.{Sha256, Sha512}
 use Rattle.foreign_text.proofs.Lengths.{key_held, salt_held, taken}
 use Rattle.foreign_text.proofs.Records.{values}
 
@@ -57,6 +69,16 @@ encoding_passes p a b size h equals below =
     all_append p (map (character a) vs) (padding a.padded (length vs))
     (characters_pass p a vs size h (groups-below a.low_first b below)) (padded p a.padded (length vs) equals)
 
+-- the same of an alphabet without padding, so that `=` needn't pass
+unpadded_passes : (p : ℕ → Bool) (a : Alphabet) (b : List ℕ) → length a.characters ≡ 64 → list_all p a.characters ≡ true
+    → a.padded ≡ false → EachBelow 256 b → list_all p (encoding a b) ≡ true
+unfolding encoding
+unpadded_passes p a b size h bare below =
+    let vs : List ℕ = groups a.low_first b in
+    let none : list_all p (padding a.padded (length vs)) ≡ true = rw bare refl in
+    all_append p (map (character a) vs) (padding a.padded (length vs))
+    (characters_pass p a vs size h (groups-below a.low_first b below)) none
+
 encoding_lacks : (a : Alphabet) (b : List ℕ) → length a.characters ≡ 64 → list_all no_dollar a.characters ≡ true
     → EachBelow 256 b → LacksByte 36 (encoding a b)
 encoding_lacks a b size h below = lacks no_dollar 36 refl (encoding a b) (encoding_passes no_dollar a b size h refl below)
@@ -74,7 +96,7 @@ three_cut a b c la lb lc =
 
 -- ---- what they say
 
-rounds_read : (n : ℕ) → n < 2 ^ 32 → rounds_of (decimal n) ≡ Some n
+rounds_read : (n : ℕ) → n < 2 ^ 32 → number_of (decimal n) ≡ Some n
 rounds_read n small =
     let valid : value_fault (decimal n) ≡ None =
     value_from (decimal n) (omega (arith, decimal_length n small)) (values n small) in
@@ -91,50 +113,162 @@ bytes_read a b lawful below few =
     let short : length (encoding a b) ≤ 128 = omega (arith, size, few, padding_small a.padded ((4 * length b + 2) / 3)) in
     taken a (encoding a b) b short (decoding-encoding a b lawful below)
 
-module _ (rounds : ℕ) (salt key : List ℕ) (held : AreHeld rounds salt key) where
-  django_read : LacksByte 36 salt
-      → django_fields (fields_of (pieces_at 36 (three (decimal rounds) salt (encoding base64 key))))
-      ≡ Ok (pbkdf2_text Sha256 rounds salt key)
-  django_read plain =
-      let cut = three_cut (decimal rounds) salt (encoding base64 key) (decimal_lacks rounds held.rounds_below) plain
+-- ---- hexadecimal digits
+
+encode_passes : (p : ℕ → Bool) (t xs : List ℕ) → list_all p t ≡ true → 16 ≤ length t → EachBelow 256 xs
+    → list_all p (encode_with t xs) ≡ true
+unfolding encode_with
+encode_passes p t [] h size below = refl
+encode_passes p t (b ∷ rest) h size below =
+    let byte : b < 256 = below 0 in
+    let high : b / 16 < length t = omega (arith, size, byte) in
+    let low : b % 16 < length t = omega (arith, size) in
+    rw (passes_at p t (b / 16) h high, passes_at p t (b % 16) h low)
+    (encode_passes p t rest h size (λ i. below (suc i)))
+
+digits_read : (b : List ℕ) → EachBelow 256 b → length b ≤ 64 → small_hex (encode_lower b) ≡ Some b
+digits_read b below few =
+    let size = length-encode_with lower_digits b in
+    let fits : nat_le (length (encode_lower b)) 128 ≡ true = grind (arith, nat_tests, size, few) in
+    rw (encode_passes is_small_digit lower_digits b refl (omega arith) below, fits, decode_of-encode_lower b below) refl
+
+digits_lack : (b : List ℕ) → EachBelow 256 b → LacksByte 36 (encode_lower b)
+digits_lack b below =
+    lacks no_dollar 36 refl (encode_lower b) (encode_passes no_dollar lower_digits b refl (omega arith) below)
+
+-- ---- a key without padding
+
+abbrev no_equals : ℕ → Bool
+no_equals b = not (b == 61)
+
+all_drop : (p : ℕ → Bool) (n : ℕ) (s : List ℕ) → list_all p s ≡ true → list_all p (drop n s) ≡ true
+all_drop p zero s h = h
+all_drop p (suc n) [] h = refl
+all_drop p (suc n) (b ∷ s) h = all_drop p n s (and_parts (p b) (list_all p s) h).1
+
+no_end : (ys : List ℕ) → list_all no_equals ys ≡ true → pointwise nat_eq (61 ∷ []) ys ≡ false
+no_end [] h = refl
+no_end (y ∷ ys) h =
+    let other = (and_parts (no_equals y) (list_all no_equals ys) h).0 in
+    let test : nat_eq 61 y ≡ false = grind (arith, nat_tests, other) in
+    rw test refl
+
+unpadded_end : (key : List ℕ) → EachBelow 256 key → ends_with nat_eq (encoding base64_pbkdf2 key) (codes "=") ≡ false
+unpadded_end key below =
+    let t : List ℕ = encoding base64_pbkdf2 key in
+    no_end (drop (length t - 1) t) (all_drop no_equals (length t - 1) t (unpadded_passes no_equals base64_pbkdf2 key refl refl refl below))
+
+-- ---- the fields
+
+module _ (rounds : ℕ) (salt key : List ℕ) where
+  django_read : AreHeld (Pbkdf2 Sha256 rounds) salt key → LacksByte 36 salt
+      → in_three django_pbkdf2_fields (three_of (pieces_at 36 (three (decimal rounds) salt (encoding base64 key))))
+      ≡ Ok (made_text (Pbkdf2 Sha256 rounds) salt key)
+  django_read held plain =
+      let cut = three_cut (decimal rounds) salt (encoding base64 key) (decimal_lacks rounds held.cost_fits) plain
       (encoding_lacks base64 key refl refl held.key_bytes) in
       rw (
         cut,
-        rounds_read rounds held.rounds_below,
+        rounds_read rounds held.cost_fits,
         bytes_read base64 key refl held.key_bytes held.key_most,
         salt_held salt held.salt_least held.salt_most,
         key_held key held.key_least held.key_most,
       ) refl
 
-  adapted_read : (hash : Pbkdf2Hash) → adapted_fields hash (fields_of (pieces_at 36 (three (decimal rounds)
-      (encoding base64_pbkdf2 salt) (encoding base64_pbkdf2 key))))
-      ≡ Ok (pbkdf2_text hash rounds salt key)
-  adapted_read hash =
-      let salt_few : length salt ≤ 64 = omega (arith, held.salt_most) in
-      let cut = three_cut (decimal rounds) (encoding base64_pbkdf2 salt) (encoding base64_pbkdf2 key)
-      (decimal_lacks rounds held.rounds_below) (encoding_lacks base64_pbkdf2 salt refl refl held.salt_bytes)
-      (encoding_lacks base64_pbkdf2 key refl refl held.key_bytes) in
-      rw (
-        cut,
-        rounds_read rounds held.rounds_below,
-        bytes_read base64_pbkdf2 salt refl held.salt_bytes salt_few,
-        bytes_read base64_pbkdf2 key refl held.key_bytes held.key_most,
-        salt_held salt held.salt_least held.salt_most,
-        key_held key held.key_least held.key_most,
-      ) refl
+  module _ (hash : Pbkdf2Hash) (held : AreHeld (Pbkdf2 hash rounds) salt key) where
+    adapted_cut : pieces_at 36 (three (decimal rounds) (encoding base64_pbkdf2 salt) (encoding base64_pbkdf2 key))
+        ≡ decimal rounds ∷ (encoding base64_pbkdf2 salt ∷ (encoding base64_pbkdf2 key ∷ []))
+    adapted_cut =
+        three_cut (decimal rounds) (encoding base64_pbkdf2 salt) (encoding base64_pbkdf2 key)
+        (decimal_lacks rounds held.cost_fits) (encoding_lacks base64_pbkdf2 salt refl refl held.salt_bytes)
+        (encoding_lacks base64_pbkdf2 key refl refl held.key_bytes)
+
+    adapted_fields : encoded_fields base64_pbkdf2 hash (decimal rounds) (encoding base64_pbkdf2 salt) (encoding base64_pbkdf2 key)
+        ≡ Ok (made_text (Pbkdf2 hash rounds) salt key)
+    adapted_fields =
+        let salt_few : length salt ≤ 64 = omega (arith, held.salt_most) in
+        rw (
+          rounds_read rounds held.cost_fits,
+          bytes_read base64_pbkdf2 salt refl held.salt_bytes salt_few,
+          bytes_read base64_pbkdf2 key refl held.key_bytes held.key_most,
+          salt_held salt held.salt_least held.salt_most,
+          key_held key held.key_least held.key_most,
+        ) refl
+
+    adapted_read : in_three (encoded_fields base64_pbkdf2 hash) (three_of (pieces_at 36 (three (decimal rounds)
+        (encoding base64_pbkdf2 salt) (encoding base64_pbkdf2 key))))
+        ≡ Ok (made_text (Pbkdf2 hash rounds) salt key)
+    adapted_read =
+        ap (λ (ps : List (List ℕ)). in_three (encoded_fields base64_pbkdf2 hash) (three_of ps)) adapted_cut ∙ adapted_fields
+
+    either_read : in_three (either_fields hash) (three_of (pieces_at 36 (three (decimal rounds)
+        (encoding base64_pbkdf2 salt) (encoding base64_pbkdf2 key))))
+        ≡ Ok (made_text (Pbkdf2 hash rounds) salt key)
+    either_read =
+        ap (λ (ps : List (List ℕ)). in_three (either_fields hash) (three_of ps)) adapted_cut
+        ∙ rw (unpadded_end key held.key_bytes) adapted_fields
+
+    werkzeug_read : LacksByte 36 salt → LacksByte 36 (werkzeug_hash hash ++ decimal rounds)
+        → werkzeug_method (werkzeug_hash hash ++ decimal rounds) ≡ Ok (Pbkdf2 hash rounds)
+        → in_three werkzeug_fields (three_of (pieces_at 36 (werkzeug_spelling hash rounds salt key)))
+        ≡ Ok (made_text (Pbkdf2 hash rounds) salt key)
+    werkzeug_read plain front method =
+        let cut = three_cut (werkzeug_hash hash ++ decimal rounds) salt (encode_lower key) front plain
+        (digits_lack key held.key_bytes) in
+        rw (
+          cut,
+          method,
+          digits_read key held.key_bytes held.key_most,
+          salt_held salt held.salt_least held.salt_most,
+          key_held key held.key_least held.key_most,
+        ) refl
 
 -- ---- the laws
 
-pub django_kept : (rounds : ℕ) (salt key : List ℕ) → AreHeld rounds salt key → LacksByte 36 salt
-    → converted Django (django_spelling rounds salt key) ≡ Ok (pbkdf2_text Sha256 rounds salt key)
-unfolding django
+pub django_kept : (rounds : ℕ) (salt key : List ℕ) → AreHeld (Pbkdf2 Sha256 rounds) salt key → LacksByte 36 salt
+    → converted Django (django_spelling rounds salt key) ≡ Ok (made_text (Pbkdf2 Sha256 rounds) salt key)
+unfolding converted django
 django_kept rounds salt key held plain = django_read rounds salt key held plain
 
-pub ldap_kept : (hash : Pbkdf2Hash) (rounds : ℕ) (salt key : List ℕ) → AreHeld rounds salt key
-    → converted Ldap (ldap_spelling hash rounds salt key) ≡ Ok (pbkdf2_text hash rounds salt key)
-unfolding ldap
-ldap_kept Sha256 rounds salt key held = adapted_read rounds salt key held Sha256
-ldap_kept Sha512 rounds salt key held = adapted_read rounds salt key held Sha512
+pub ldap_kept : (hash : Pbkdf2Hash) (rounds : ℕ) (salt key : List ℕ) → AreHeld (Pbkdf2 hash rounds) salt key
+    → converted Ldap (ldap_spelling hash rounds salt key) ≡ Ok (made_text (Pbkdf2 hash rounds) salt key)
+unfolding converted ldap
+ldap_kept Sha256 rounds salt key held = either_read rounds salt key Sha256 held
+ldap_kept Sha512 rounds salt key held = either_read rounds salt key Sha512 held
+
+-- Werkzeug's method is read as its hash and rounds
+no_colon : (n : ℕ) → n < 2 ^ 32 → LacksByte 58 (decimal n)
+no_colon n small = lacks is_ascii_digit 58 refl (decimal n) (decimal_digits n small)
+
+method_read : (hash : Pbkdf2Hash) (rounds : ℕ) → rounds < 2 ^ 32
+    → werkzeug_method (werkzeug_hash hash ++ decimal rounds) ≡ Ok (Pbkdf2 hash rounds)
+unfolding werkzeug_method
+method_read Sha256 rounds small = rw (one_piece 58 (decimal rounds) (no_colon rounds small), rounds_read rounds small) refl
+method_read Sha512 rounds small = rw (one_piece 58 (decimal rounds) (no_colon rounds small), rounds_read rounds small) refl
+
+digit_is_plain : (b : ℕ) → is_ascii_digit b ≡ true → no_dollar b ≡ true
+digit_is_plain b h = grind (arith, nat_tests)
+
+method_lacks : (hash : Pbkdf2Hash) (rounds : ℕ) → rounds < 2 ^ 32 → LacksByte 36 (werkzeug_hash hash ++ decimal rounds)
+method_lacks Sha256 rounds small =
+    lacks no_dollar 36 refl (codes "pbkdf2:sha256:" ++ decimal rounds)
+    (all_append no_dollar (codes "pbkdf2:sha256:") (decimal rounds) refl
+    (all_weaker is_ascii_digit no_dollar digit_is_plain (decimal rounds) (decimal_digits rounds small)))
+method_lacks Sha512 rounds small =
+    lacks no_dollar 36 refl (codes "pbkdf2:sha512:" ++ decimal rounds)
+    (all_append no_dollar (codes "pbkdf2:sha512:") (decimal rounds) refl
+    (all_weaker is_ascii_digit no_dollar digit_is_plain (decimal rounds) (decimal_digits rounds small)))
+
+pub werkzeug_kept : (hash : Pbkdf2Hash) (rounds : ℕ) (salt key : List ℕ) → AreHeld (Pbkdf2 hash rounds) salt key
+    → LacksByte 36 salt
+    → converted Werkzeug (werkzeug_spelling hash rounds salt key) ≡ Ok (made_text (Pbkdf2 hash rounds) salt key)
+unfolding converted werkzeug
+werkzeug_kept Sha256 rounds salt key held plain =
+    werkzeug_read rounds salt key Sha256 held plain (method_lacks Sha256 rounds held.cost_fits)
+    (method_read Sha256 rounds held.cost_fits)
+werkzeug_kept Sha512 rounds salt key held plain =
+    werkzeug_read rounds salt key Sha512 held plain (method_lacks Sha512 rounds held.cost_fits)
+    (method_read Sha512 rounds held.cost_fits)
 
 -- a decimal begins with a digit
 digit_first : (ds rest : List ℕ) → list_all is_ascii_digit ds ≡ true → 0 < length ds
@@ -143,17 +277,17 @@ digit_first [] rest h some = absurd (omega (arith, some))
 digit_first (d ∷ ds) rest h some = (and_parts (is_ascii_digit d) (list_all is_ascii_digit ds) h).0
 
 -- and so do the fields of passlib
-digit_held : (rounds : ℕ) (salt key : List ℕ) → AreHeld rounds salt key
+digit_held : (rounds : ℕ) (salt key : List ℕ) → rounds < 2 ^ 32
     → begins_with_digit (three (decimal rounds) (encoding base64_pbkdf2 salt) (encoding base64_pbkdf2 key)) ≡ true
-digit_held rounds salt key held =
-    let some = decimal_nonempty rounds (omega (arith, held.rounds_below)) in
+digit_held rounds salt key small =
+    let some = decimal_nonempty rounds (omega (arith, small)) in
     let rest : List ℕ = 36 ∷ (encoding base64_pbkdf2 salt ++ 36 ∷ encoding base64_pbkdf2 key) in
-    digit_first (decimal rounds) rest (decimal_digits rounds held.rounds_below) some
+    digit_first (decimal rounds) rest (decimal_digits rounds small) some
 
-pub passlib_kept : (hash : Pbkdf2Hash) (rounds : ℕ) (salt key : List ℕ) → AreHeld rounds salt key
-    → converted Passlib (passlib_spelling hash rounds salt key) ≡ Ok (pbkdf2_text hash rounds salt key)
-unfolding passlib
+pub passlib_kept : (hash : Pbkdf2Hash) (rounds : ℕ) (salt key : List ℕ) → AreHeld (Pbkdf2 hash rounds) salt key
+    → converted Passlib (passlib_spelling hash rounds salt key) ≡ Ok (made_text (Pbkdf2 hash rounds) salt key)
+unfolding converted passlib
 passlib_kept Sha256 rounds salt key held =
-    rw (digit_held rounds salt key held) (adapted_read rounds salt key held Sha256)
+    rw (digit_held rounds salt key held.cost_fits) (adapted_read rounds salt key Sha256 held)
 passlib_kept Sha512 rounds salt key held =
-    rw (digit_held rounds salt key held) (adapted_read rounds salt key held Sha512)
+    rw (digit_held rounds salt key held.cost_fits) (adapted_read rounds salt key Sha512 held)

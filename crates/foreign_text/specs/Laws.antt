@@ -6,20 +6,27 @@ use Rattle.pieces.specs.Pieces.{LacksByte}
 use Rattle.phc.specs.Limits.{output_max, output_min, salt_max, salt_min}
 use Rattle.phc.specs.Record.{phc_text}
 use Rattle.foreign_text.specs.Converted.{converted}
-use Rattle.foreign_text.specs.Pbkdf2.{pbkdf2_record, pbkdf2_text}
-use Rattle.foreign_text.specs.Spellings.{django_spelling, ldap_spelling, passlib_spelling}
+use Rattle.foreign_text.specs.Records.{made_text, record_of}
+use Rattle.foreign_text.specs.Spellings.{django_spelling, ldap_spelling, passlib_spelling, werkzeug_spelling}
 use Rattle.foreign_text.specs.declared.converted.Foreign.{Foreign}
-use Rattle.foreign_text.specs.declared.converted.Foreign.TheVariants.{Django, Ldap, Passlib}
-use Rattle.foreign_text.specs.declared.pbkdf2.Pbkdf2Hash.{Pbkdf2Hash}
-use Rattle.foreign_text.specs.declared.pbkdf2.Pbkdf2Hash.TheVariants.{Sha256}
+use Rattle.foreign_text.specs.declared.converted.Foreign.TheVariants.{Django, Ldap, Passlib, Werkzeug}
+use Rattle.foreign_text.specs.declared.kdf.Kdf.{Kdf}
+use Rattle.foreign_text.specs.declared.kdf.Kdf.TheVariants.{Pbkdf2, Scrypt}
+use Rattle.foreign_text.specs.declared.kdf.Pbkdf2Hash.{Pbkdf2Hash}
+use Rattle.foreign_text.specs.declared.kdf.Pbkdf2Hash.TheVariants.{Sha256}
 
 -- what a converter gives is in the one spelling: it converts to itself
 abbrev pub ConvertsToItself : Type 0
 ConvertsToItself = (foreign : Foreign) (text stored : List ℕ) → converted foreign text ≡ Ok stored → converted foreign stored ≡ Ok stored
 
--- rounds, a salt and a key that a record holds
-pub record AreHeld (rounds : ℕ) (salt key : List ℕ) : Type 0 where
-  pub rounds_below : rounds < 2 ^ 32
+-- the numbers of a cost have 32 bits
+abbrev pub CostFits : Kdf → Type 0
+CostFits (Pbkdf2 hash rounds) = rounds < 2 ^ 32
+CostFits (Scrypt ln r p) = (ln < 2 ^ 32) × (r < 2 ^ 32) × (p < 2 ^ 32)
+
+-- a cost, a salt and a key that a record holds
+pub record AreHeld (kdf : Kdf) (salt key : List ℕ) : Type 0 where
+  pub cost_fits : CostFits kdf
   pub salt_bytes : EachBelow 256 salt
   pub salt_least : salt_min ≤ length salt
   pub salt_most : length salt ≤ salt_max
@@ -29,19 +36,24 @@ pub record AreHeld (rounds : ℕ) (salt key : List ℕ) : Type 0 where
 
 -- What Django writes for rounds, a salt without a `$` and a key is converted to the text of their record with SHA-256.
 abbrev pub DjangoKept : Type 0
-DjangoKept = (rounds : ℕ) (salt key : List ℕ) → AreHeld rounds salt key → LacksByte dollar salt
-    → converted Django (django_spelling rounds salt key) ≡ Ok (pbkdf2_text Sha256 rounds salt key)
+DjangoKept = (rounds : ℕ) (salt key : List ℕ) → AreHeld (Pbkdf2 Sha256 rounds) salt key → LacksByte dollar salt
+    → converted Django (django_spelling rounds salt key) ≡ Ok (made_text (Pbkdf2 Sha256 rounds) salt key)
 
--- The same of what OpenLDAP and passlib write for a hash, too.
+-- The same of what Werkzeug writes for a hash, too.
+abbrev pub WerkzeugKept : Type 0
+WerkzeugKept = (hash : Pbkdf2Hash) (rounds : ℕ) (salt key : List ℕ) → AreHeld (Pbkdf2 hash rounds) salt key → LacksByte dollar salt
+    → converted Werkzeug (werkzeug_spelling hash rounds salt key) ≡ Ok (made_text (Pbkdf2 hash rounds) salt key)
+
+-- The same of what OpenLDAP and passlib write, whatever bytes the salt has.
 abbrev pub LdapKept : Type 0
-LdapKept = (hash : Pbkdf2Hash) (rounds : ℕ) (salt key : List ℕ) → AreHeld rounds salt key
-    → converted Ldap (ldap_spelling hash rounds salt key) ≡ Ok (pbkdf2_text hash rounds salt key)
+LdapKept = (hash : Pbkdf2Hash) (rounds : ℕ) (salt key : List ℕ) → AreHeld (Pbkdf2 hash rounds) salt key
+    → converted Ldap (ldap_spelling hash rounds salt key) ≡ Ok (made_text (Pbkdf2 hash rounds) salt key)
 
 abbrev pub PasslibKept : Type 0
-PasslibKept = (hash : Pbkdf2Hash) (rounds : ℕ) (salt key : List ℕ) → AreHeld rounds salt key
-    → converted Passlib (passlib_spelling hash rounds salt key) ≡ Ok (pbkdf2_text hash rounds salt key)
+PasslibKept = (hash : Pbkdf2Hash) (rounds : ℕ) (salt key : List ℕ) → AreHeld (Pbkdf2 hash rounds) salt key
+    → converted Passlib (passlib_spelling hash rounds salt key) ≡ Ok (made_text (Pbkdf2 hash rounds) salt key)
 
--- That text is read as the record again, with the same hash, rounds, salt and key.
+-- That text is read as the record again, with the same derivation, cost, salt and key.
 abbrev pub ReadAgain : Type 0
-ReadAgain = (hash : Pbkdf2Hash) (rounds : ℕ) (salt key : List ℕ) → AreHeld rounds salt key
-    → phc_text (pbkdf2_text hash rounds salt key) ≡ Ok (pbkdf2_record hash rounds salt key)
+ReadAgain = (kdf : Kdf) (salt key : List ℕ) → AreHeld kdf salt key
+    → phc_text (made_text kdf salt key) ≡ Ok (record_of kdf salt key)

@@ -4,7 +4,7 @@ use Rattle.std.specs.List.{starts_with}
 use Rattle.pieces.specs.Pieces.{behind}
 use Rattle.foreign_text.specs.declared.fault.Unread.{Unread}
 use Rattle.foreign_text.specs.declared.fault.Unread.TheVariants.{BcryptSha256, Cleartext, DesCrypt, Md5, Other, Pbkdf2Sha1}
-use Rattle.foreign_text.specs.declared.fault.Unread.TheVariants.{Scrypt, Sha1, Sha2}
+use Rattle.foreign_text.specs.declared.fault.Unread.TheVariants.{Sha1, Sha2}
 
 -- a text begins with this front
 abbrev pub begins : List ℕ → List ℕ → Bool
@@ -23,8 +23,7 @@ django_digest text =
 abbrev pub django_unread : List ℕ → Unread
 django_unread text =
     if begins text (codes "pbkdf2_sha1$") then Pbkdf2Sha1
-    else (if begins text (codes "bcrypt_sha256$") then BcryptSha256
-    else (if begins text (codes "scrypt$") then Scrypt else django_digest text))
+    else (if begins text (codes "bcrypt_sha256$") then BcryptSha256 else django_digest text)
 
 -- ---- schemes of LDAP (RFC 2307, section 5.3; OpenLDAP's slapd and contrib/slapd-modules/passwd)
 

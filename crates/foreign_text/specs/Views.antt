@@ -1,14 +1,23 @@
--- What answers show.
+-- What answers and fields show.
 use Rattle.std.specs.Prelude.{ℕ, List, Option, Some, None, Result, Ok, Err}
 use Rattle.std.specs.Borrow.{Bor}
-use Rattle.foreign_text.specs.Pbkdf2.{Fields}
-use Rattle.foreign_text.specs.declared.pbkdf2.Pbkdf2Fields.{Pbkdf2Fields}
+use Rattle.foreign_text.specs.Fields as fields
+use Rattle.foreign_text.specs.declared.fields.Three.{Three}
+use Rattle.foreign_text.specs.declared.fields.Five.{Five}
 use Rattle.foreign_text.specs.declared.fault.ForeignFault.{ForeignFault}
 
--- the fields as lists
-abbrev pub as_fields : Result Pbkdf2Fields ForeignFault → Result Fields ForeignFault
-as_fields (Err e) = Err e
-as_fields (Ok f) = Ok (record { rounds = f.rounds.now; salt = f.salt.now; key = f.key.now })
+-- three fields as lists
+abbrev pub three : Three → fields.Three
+three f = record { first = f.first.now; second = f.second.now; third = f.third.now }
+
+abbrev pub as_three : Result Three ForeignFault → Result fields.Three ForeignFault
+as_three (Err e) = Err e
+as_three (Ok f) = Ok (three f)
+
+-- five fields as lists
+abbrev pub as_five : Result Five ForeignFault → Result fields.Five ForeignFault
+as_five (Err e) = Err e
+as_five (Ok f) = Ok (record { first = f.first.now; second = f.second.now; others = three f.others })
 
 -- the stored text of an answer: a part of the foreign text, or the one that was made
 abbrev pub as_answer : Result (Option (Bor (List ℕ))) ForeignFault → List ℕ → Result (List ℕ) ForeignFault

@@ -9,7 +9,7 @@ use Rattle.foreign_text.specs.declared.fault.Unread.TheVariants as named
 abbrev pub unread_word : Unread → List ℕ
 unread_word named.Pbkdf2Sha1 = codes "unsupported-pbkdf2-sha1"
 unread_word named.BcryptSha256 = codes "unsupported-bcrypt-sha256"
-unread_word named.Scrypt = codes "unsupported-scrypt"
+unread_word named.Scram = codes "unsupported-scram"
 unread_word named.Sha1 = codes "unsupported-sha1"
 unread_word named.Md5 = codes "unsupported-md5"
 unread_word named.Sha2 = codes "unsupported-sha2"
@@ -21,6 +21,7 @@ unread_word named.Other = codes "unsupported-scheme"
 abbrev pub fault_word : ForeignFault → List ℕ
 fault_word of.Form = codes "foreign-form"
 fault_word of.Rounds = codes "foreign-rounds"
+fault_word of.Cost = codes "foreign-cost"
 fault_word of.Salt = codes "foreign-salt"
 fault_word of.SaltLength = codes "foreign-salt-length"
 fault_word of.Hash = codes "foreign-hash"

@@ -1,136 +1,111 @@
 //! Foreign texts converted.
 
-ghost use Rattle.std.specs.Prelude.{◌≡◌, ℕ, List};
-ghost use Rattle.foreign_text.specs.Converted.{adapted_fields, adapted_pbkdf2, as_it_is, converted, django_fields, django_pbkdf2};
-ghost use Rattle.foreign_text.specs.Views.{as_answer, as_fields};
+ghost use Rattle.std.specs.Prelude.{◌≡◌};
+ghost use Rattle.foreign_text.specs.Converted.{by_maker, converted, has_colons, has_own_dollar};
+ghost use Rattle.foreign_text.specs.Views.{as_answer};
 
 use crate::ForeignFault;
+use crate::aspnet::aspnet;
+use crate::cisco::cisco;
 use crate::django::django;
+use crate::dovecot::dovecot;
+use crate::elasticsearch::elasticsearch;
+use crate::grub::grub;
+use crate::kdf::MadeText;
 use crate::ldap::ldap;
+use crate::mediawiki::mediawiki;
+use crate::mosquitto::mosquitto;
 use crate::passlib::passlib;
-use crate::pbkdf2::{
-    Pbkdf2Fields, Pbkdf2Hash, TEXT_MAX, field_bytes, fields_of, rounds_of, with_salt,
-};
-use base64ct::{Base64, Base64Pbkdf2};
+use crate::spring::spring;
+use crate::werkzeug::werkzeug;
 use pieces::begins_with;
-use pieces::short_bytes::ShortBytes;
 
 /// Whose spelling a text has.
 #[derive(Clone, Copy, Debug, PartialEq, Eq)]
 pub enum Foreign {
-    /// Django: `pbkdf2_sha256$ROUNDS$SALT$KEY`, `argon2$argon2id$..`, `bcrypt$$2b$..`.
+    /// Django: `pbkdf2_sha256$ROUNDS$SALT$KEY`, `scrypt$N$SALT$R$P$KEY`, `argon2$argon2id$..`, `bcrypt$$2b$..`.
     Django,
-    /// LDAP: `{CRYPT}..`, `{ARGON2}..`, `{PBKDF2-SHA256}ROUNDS$SALT$KEY`, `{PBKDF2-SHA512}..`.
+    /// Werkzeug, which Flask's programs use: `scrypt:N:R:P$SALT$KEY`, `pbkdf2:sha256:ROUNDS$SALT$KEY`, `pbkdf2:sha512:..`.
+    Werkzeug,
+    /// LDAP: `{CRYPT}..`, `{ARGON2}..`, `{BCRYPT}..`, `{PBKDF2-SHA256}ROUNDS$SALT$KEY`, `{PBKDF2-SHA512}..`.
     Ldap,
     /// passlib: `$pbkdf2-sha256$ROUNDS$SALT$KEY`, `$pbkdf2-sha512$..`, and the texts that it shares with others.
     Passlib,
+    /// Dovecot: `{SHA512-CRYPT}$6$..`, `{BLF-CRYPT}$2y$..`, `{ARGON2ID}$argon2id$..` and others of crypt(3) and Argon2.
+    Dovecot,
+    /// Spring Security: `{bcrypt}$2a$..`, `{argon2}$argon2id$..`, `{scrypt}$COST$SALT$KEY`, `{pbkdf2@SpringSecurity_v5_8}DIGITS`.
+    Spring,
+    /// Elasticsearch: `{PBKDF2}ROUNDS$SALT$KEY`, and bcrypt's texts.
+    Elasticsearch,
+    /// ASP.NET Core Identity: Base64 of the bytes of its format 3.
+    AspNet,
+    /// Cisco's IOS: `$8$SALT$KEY`, `$9$SALT$KEY`, and the texts that it shares with others.
+    Cisco,
+    /// Mosquitto: `$7$ROUNDS$SALT$KEY`.
+    Mosquitto,
+    /// MediaWiki: `:pbkdf2:sha512:ROUNDS:LENGTH:SALT:KEY`, and the same with `sha256`.
+    MediaWiki,
+    /// GRUB: `grub.pbkdf2.sha512.ROUNDS.SALT.KEY`.
+    Grub,
 }
 
-/// A text that is made: ASCII.
-pub type MadeText = ShortBytes<TEXT_MAX>;
-
-/// A part of a foreign text, where it begins with `sign`.
-pub(crate) fn as_it_is<'a>(sign: &str, rest: &'a str) -> Result<Option<&'a str>, ForeignFault>
-    ensures { (made : List ℕ) → as_answer result made ≡ as_it_is sign.now rest.now }
-{
-    if begins_with(rest, sign) {
-        Ok(Some(rest))
-    } else {
-        Err(ForeignFault::Form)
-    }
-}
-
-// What Django's fields stand for.
-fn django_fields(fields: Result<Pbkdf2Fields<'_>, ForeignFault>) -> Result<MadeText, ForeignFault>
-    ensures { result ≡ django_fields (as_fields fields.entry) }
-{
-    let fields = match fields {
-        Ok(fields) => fields,
-        Err(fault) => return Err(fault),
-    };
-    match rounds_of(fields.rounds) {
-        Some(rounds) => with_salt(
-            Pbkdf2Hash::Sha256,
-            rounds,
-            fields.salt.as_bytes(),
-            field_bytes::<Base64>(fields.key),
-        ),
-        None => Err(ForeignFault::Rounds),
-    }
-}
-
-// What passlib's and OpenLDAP's fields stand for.
-fn adapted_fields(
-    hash: Pbkdf2Hash,
-    fields: Result<Pbkdf2Fields<'_>, ForeignFault>,
-) -> Result<MadeText, ForeignFault>
-    ensures { result ≡ adapted_fields hash (as_fields fields.entry) }
-{
-    let fields = match fields {
-        Ok(fields) => fields,
-        Err(fault) => return Err(fault),
-    };
-    let Some(rounds) = rounds_of(fields.rounds) else {
-        return Err(ForeignFault::Rounds);
-    };
-    match field_bytes::<Base64Pbkdf2>(fields.salt) {
-        Some(salt) => with_salt(
-            hash,
-            rounds,
-            salt.as_slice(),
-            field_bytes::<Base64Pbkdf2>(fields.key),
-        ),
-        None => Err(ForeignFault::Salt),
-    }
-}
-
-// Puts a text that was made.
-fn put_made<'a>(
-    text: Result<MadeText, ForeignFault>,
-    made: &mut MadeText,
-) -> Result<Option<&'a str>, ForeignFault>
-    ensures { as_answer result made.new ≡ text }
-{
-    match text {
-        Ok(text) => {
-            *made = text;
-            Ok(None)
+impl Foreign {
+    // Whether the maker's own texts begin with `$`.
+    fn has_own_dollar(self) -> bool
+        ensures { result ≡ has_own_dollar self }
+    {
+        match self {
+            Foreign::Passlib | Foreign::Cisco | Foreign::Mosquitto => true,
+            _ => false,
         }
-        Err(fault) => Err(fault),
+    }
+
+    /// Whether texts of the maker have colons, so that no colon ends them.
+    pub fn has_colons(self) -> bool
+        ensures colons { result ≡ has_colons self }
+    {
+        match self {
+            Foreign::Werkzeug | Foreign::MediaWiki => true,
+            _ => false,
+        }
     }
 }
 
-/// What stands behind `pbkdf2_sha256$` of Django.
-pub(crate) fn django_pbkdf2<'a>(
-    rest: &'a str,
+// The stored text of a text of the maker's own.
+fn by_maker<'a>(
+    foreign: Foreign,
+    text: &'a str,
     made: &mut MadeText,
 ) -> Result<Option<&'a str>, ForeignFault>
-    ensures { as_answer result made.new ≡ django_pbkdf2 rest.now }
+    ensures { as_answer result made.new ≡ by_maker foreign text.now }
 {
-    put_made(django_fields(fields_of(rest)), made)
+    match foreign {
+        Foreign::Django => django(text, made),
+        Foreign::Werkzeug => werkzeug(text, made),
+        Foreign::Ldap => ldap(text, made),
+        Foreign::Passlib => passlib(text, made),
+        Foreign::Dovecot => dovecot(text),
+        Foreign::Spring => spring(text, made),
+        Foreign::Elasticsearch => elasticsearch(text, made),
+        Foreign::AspNet => aspnet(text, made),
+        Foreign::Cisco => cisco(text, made),
+        Foreign::Mosquitto => mosquitto(text, made),
+        Foreign::MediaWiki => mediawiki(text, made),
+        Foreign::Grub => grub(text, made),
+    }
 }
 
-/// What stands behind LDAP's tag or passlib's identifier of PBKDF2.
-pub(crate) fn adapted_pbkdf2<'a>(
-    hash: Pbkdf2Hash,
-    rest: &'a str,
-    made: &mut MadeText,
-) -> Result<Option<&'a str>, ForeignFault>
-    ensures { as_answer result made.new ≡ adapted_pbkdf2 hash rest.now }
-{
-    put_made(adapted_fields(hash, fields_of(rest)), made)
-}
-
-/// The stored text that a foreign text stands for, in the one spelling that `any_check` reads: a part of the foreign text; or
+/// The stored text that a foreign text is read as, in the one spelling that `any_check` reads: a part of the foreign text; or
 /// none, and then the text is put into `made`.
 ///
-/// A record of PBKDF2 is made of the rounds, the salt and the key: of Django's salt the bytes of its characters. A text that
-/// stands in the foreign one is given as it stands there, and so is one that begins with `$`, but for passlib's own: whether
-/// it has a fault is for `any_check` to say.
+/// A record of PBKDF2 or scrypt is made of the cost, the salt and the key; where the maker hashes a salt's characters, the salt
+/// is their bytes. A text that is there in the foreign one is given as it is there, and so is one that begins with `$`, but for
+/// those of passlib, Cisco and Mosquitto of their own: whether it has a fault is for `any_check` to say.
 ///
 /// # Errors
 ///
-/// The first cause: the scheme isn't read; the form; then of PBKDF2 the rounds, the salt, its length, the key and its length.
+/// The first cause: the scheme isn't read; the form; then the rounds or the cost, the salt, its length, the key and its length.
+#[tactic(auto, unfolding(crate::specs::Converted::converted))]
 pub fn stored_text<'a>(
     foreign: Foreign,
     text: &'a str,
@@ -138,9 +113,8 @@ pub fn stored_text<'a>(
 ) -> Result<Option<&'a str>, ForeignFault>
     ensures converted { as_answer result made.new ≡ converted foreign text.now }
 {
-    match foreign {
-        Foreign::Django => django(text, made),
-        Foreign::Ldap => ldap(text, made),
-        Foreign::Passlib => passlib(text, made),
+    if !foreign.has_own_dollar() && begins_with(text, "$") {
+        return Ok(Some(text));
     }
+    by_maker(foreign, text, made)
 }

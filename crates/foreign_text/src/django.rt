@@ -1,12 +1,16 @@
 //! Texts of Django's hashers.
 
 ghost use Rattle.std.specs.Prelude.{◌≡◌};
-ghost use Rattle.foreign_text.specs.Converted.{django};
+ghost use Rattle.foreign_text.specs.Django.{django, django_pbkdf2, django_pbkdf2_fields, django_scrypt, django_scrypt_fields};
+ghost use Rattle.foreign_text.specs.Fields.{in_five, in_three};
 ghost use Rattle.foreign_text.specs.Names.{django_digest, django_unread};
-ghost use Rattle.foreign_text.specs.Views.{as_answer};
+ghost use Rattle.foreign_text.specs.Views.{as_answer, as_five, as_three};
 
-use crate::converted::{MadeText, as_it_is, django_pbkdf2};
+use crate::answers::{as_it_is, put_made};
+use crate::fields::{Five, Three, field_bytes, five_at, pbkdf2_cost, scrypt_cost, three_at};
+use crate::kdf::{MadeText, Pbkdf2Hash, with_bytes};
 use crate::{ForeignFault, Unread};
+use base64ct::Base64;
 use pieces::{begins_with, behind};
 
 // The scheme of a digest without a cost.
@@ -32,26 +36,66 @@ fn django_unread(text: &str) -> Unread
         Unread::Pbkdf2Sha1
     } else if begins_with(text, "bcrypt_sha256$") {
         Unread::BcryptSha256
-    } else if begins_with(text, "scrypt$") {
-        Unread::Scrypt
     } else {
         django_digest(text)
     }
 }
 
+// Rounds, a salt and a key.
+fn pbkdf2_fields(fields: Result<Three<'_>, ForeignFault>) -> Result<MadeText, ForeignFault>
+    ensures { result ≡ in_three django_pbkdf2_fields (as_three fields.entry) }
+{
+    match fields {
+        Ok(f) => with_bytes(
+            pbkdf2_cost(Pbkdf2Hash::Sha256, f.first),
+            f.second.as_bytes(),
+            field_bytes::<Base64>(f.third),
+        ),
+        Err(fault) => Err(fault),
+    }
+}
+
+// N, a salt, r, p and a key.
+fn scrypt_fields(fields: Result<Five<'_>, ForeignFault>) -> Result<MadeText, ForeignFault>
+    ensures { result ≡ in_five django_scrypt_fields (as_five fields.entry) }
+{
+    match fields {
+        Ok(f) => with_bytes(
+            scrypt_cost(f.first, f.others.first, f.others.second),
+            f.second.as_bytes(),
+            field_bytes::<Base64>(f.others.third),
+        ),
+        Err(fault) => Err(fault),
+    }
+}
+
+// What comes after `pbkdf2_sha256$`.
+fn django_pbkdf2<'a>(rest: &'a str, made: &mut MadeText) -> Result<Option<&'a str>, ForeignFault>
+    ensures { as_answer result made.new ≡ django_pbkdf2 rest.now }
+{
+    put_made(pbkdf2_fields(three_at(rest, '$')), made)
+}
+
+// What comes after `scrypt$`.
+fn django_scrypt<'a>(rest: &'a str, made: &mut MadeText) -> Result<Option<&'a str>, ForeignFault>
+    ensures { as_answer result made.new ≡ django_scrypt rest.now }
+{
+    put_made(scrypt_fields(five_at(rest, '$')), made)
+}
+
 /// The stored text of a text of Django.
-#[tactic(auto, unfolding(crate::specs::Converted::django))]
+#[tactic(auto, unfolding(crate::specs::Django::django))]
 pub(crate) fn django<'a>(
     text: &'a str,
     made: &mut MadeText,
 ) -> Result<Option<&'a str>, ForeignFault>
     ensures { as_answer result made.new ≡ django text.now }
 {
-    if begins_with(text, "$") {
-        return Ok(Some(text));
-    }
     if let Some(rest) = behind(text, "pbkdf2_sha256$") {
         return django_pbkdf2(rest, made);
+    }
+    if let Some(rest) = behind(text, "scrypt$") {
+        return django_scrypt(rest, made);
     }
     if let Some(rest) = behind(text, "argon2") {
         return as_it_is("$argon2", rest);

@@ -10,8 +10,8 @@ pub enum Unread {
     Pbkdf2Sha1,
     /// bcrypt of a SHA-256 digest of the password, as Django and passlib make it.
     BcryptSha256,
-    /// scrypt in Django's spelling.
-    Scrypt,
+    /// SCRAM, whose text has no key of a password.
+    Scram,
     /// SHA-1 without a cost, with or without a salt.
     Sha1,
     /// MD5 without a cost, with or without a salt.
@@ -35,7 +35,7 @@ impl Unread {
         match self {
             Unread::Pbkdf2Sha1 => "unsupported-pbkdf2-sha1",
             Unread::BcryptSha256 => "unsupported-bcrypt-sha256",
-            Unread::Scrypt => "unsupported-scrypt",
+            Unread::Scram => "unsupported-scram",
             Unread::Sha1 => "unsupported-sha1",
             Unread::Md5 => "unsupported-md5",
             Unread::Sha2 => "unsupported-sha2",
@@ -53,13 +53,15 @@ pub enum ForeignFault {
     Unread(Unread),
     /// It hasn't the fields of its scheme, or what stands in it as it is isn't of that scheme.
     Form,
-    /// The rounds are no plain decimal below 2^32.
+    /// The rounds are no plain decimal below 2^32, or are 0 where the maker has no text of none.
     Rounds,
-    /// The salt is no Base64 in the foreign alphabet, or has more than 128 characters.
+    /// N, r or p of scrypt is no plain decimal below 2^32, or N is no power of two from 2 on.
+    Cost,
+    /// The salt isn't in the maker's encoding, or has more than 128 characters.
     Salt,
     /// The salt has fewer than 8 or more than 48 bytes, which no record holds.
     SaltLength,
-    /// The key is no Base64 in the foreign alphabet, or has more than 128 characters.
+    /// The key isn't in the maker's encoding, or has more than 128 characters.
     Hash,
     /// The key has fewer than 10 or more than 64 bytes, which no record holds.
     HashLength,
@@ -75,6 +77,7 @@ impl ForeignFault {
             ForeignFault::Unread(scheme) => scheme.word(),
             ForeignFault::Form => "foreign-form",
             ForeignFault::Rounds => "foreign-rounds",
+            ForeignFault::Cost => "foreign-cost",
             ForeignFault::Salt => "foreign-salt",
             ForeignFault::SaltLength => "foreign-salt-length",
             ForeignFault::Hash => "foreign-hash",

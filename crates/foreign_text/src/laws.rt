@@ -1,16 +1,17 @@
 //! Laws over the definitions.
 
-ghost use Rattle.foreign_text.specs.Laws.{ConvertsToItself, DjangoKept, LdapKept, PasslibKept, ReadAgain};
+ghost use Rattle.foreign_text.specs.Laws.{ConvertsToItself, DjangoKept, LdapKept, PasslibKept, ReadAgain, WerkzeugKept};
 
 /// What a converter gives is in the one spelling: the same converter gives it again.
 pub fn converts_to_itself()
     ensures itself { ConvertsToItself }
 {}
 
-/// What Django, OpenLDAP and passlib write for a hash (Django for SHA-256), rounds, a salt and a key becomes the text of the
-/// record of these.
+/// What Django, Werkzeug, OpenLDAP and passlib write for PBKDF2 with a hash (Django for SHA-256), rounds, a salt and a key becomes
+/// the text of the record of these.
 pub fn keeps_the_fields()
     ensures django { DjangoKept }
+    ensures werkzeug { WerkzeugKept }
     ensures ldap { LdapKept }
     ensures passlib { PasslibKept }
 {}

@@ -2,24 +2,24 @@
 
 ghost use Rattle.std.specs.Prelude.{◌≡◌, ℕ, List};
 ghost use Rattle.pieces.specs.Pieces.{lent};
-ghost use Rattle.foreign_text.specs.Converted.{ldap, ldap_crypt};
+ghost use Rattle.foreign_text.specs.Ldap.{ldap, ldap_crypt};
 ghost use Rattle.foreign_text.specs.Names.{behind_tag, is_tagged, ldap_digest, ldap_pbkdf2, ldap_sha2, ldap_unread};
 ghost use Rattle.foreign_text.specs.Views.{as_answer};
 
-use crate::converted::{MadeText, adapted_pbkdf2, as_it_is};
-use crate::pbkdf2::Pbkdf2Hash;
+use crate::answers::{as_it_is, either_pbkdf2};
+use crate::kdf::{MadeText, Pbkdf2Hash};
 use crate::{ForeignFault, Unread};
 use pieces::{begins_with, behind};
 
-// Whether a text begins with a tag, in capital or in small letters.
-fn is_tagged(text: &str, capital: &str, small: &str) -> bool
+/// Whether a text begins with a tag, in capital or in small letters.
+pub(crate) fn is_tagged(text: &str, capital: &str, small: &str) -> bool
     ensures { result ≡ is_tagged text.now capital.now small.now }
 {
     begins_with(text, capital) || begins_with(text, small)
 }
 
-// What stands behind a tag.
-fn behind_tag<'a>(text: &'a str, capital: &str, small: &str) -> Option<&'a str>
+/// What comes after a tag.
+pub(crate) fn behind_tag<'a>(text: &'a str, capital: &str, small: &str) -> Option<&'a str>
     ensures { lent result ≡ behind_tag text.now capital.now small.now }
 {
     match behind(text, capital) {
@@ -71,8 +71,8 @@ fn ldap_pbkdf2(text: &str) -> Unread
     }
 }
 
-// The scheme of a text that isn't read.
-fn ldap_unread(text: &str) -> Unread
+/// The scheme of a text that isn't read.
+pub(crate) fn ldap_unread(text: &str) -> Unread
     ensures { result ≡ ldap_unread text.now }
 {
     if !begins_with(text, "{") || is_tagged(text, "{CLEARTEXT}", "{cleartext}") {
@@ -81,8 +81,8 @@ fn ldap_unread(text: &str) -> Unread
     ldap_pbkdf2(text)
 }
 
-// What crypt(3) takes.
-fn ldap_crypt(rest: &str) -> Result<Option<&str>, ForeignFault>
+/// What crypt(3) takes.
+pub(crate) fn ldap_crypt(rest: &str) -> Result<Option<&str>, ForeignFault>
     ensures { (made : List ℕ) → as_answer result made ≡ ldap_crypt rest.now }
 {
     if begins_with(rest, "$") {
@@ -93,24 +93,24 @@ fn ldap_crypt(rest: &str) -> Result<Option<&str>, ForeignFault>
 }
 
 /// The stored text of a text of LDAP.
-#[tactic(auto, unfolding(crate::specs::Converted::ldap))]
+#[tactic(auto, unfolding(crate::specs::Ldap::ldap))]
 pub(crate) fn ldap<'a>(text: &'a str, made: &mut MadeText) -> Result<Option<&'a str>, ForeignFault>
     ensures { as_answer result made.new ≡ ldap text.now }
 {
-    if begins_with(text, "$") {
-        return Ok(Some(text));
-    }
     if let Some(rest) = behind_tag(text, "{CRYPT}", "{crypt}") {
         return ldap_crypt(rest);
     }
     if let Some(rest) = behind_tag(text, "{ARGON2}", "{argon2}") {
         return as_it_is("$argon2", rest);
     }
+    if let Some(rest) = behind_tag(text, "{BCRYPT}", "{bcrypt}") {
+        return as_it_is("$2", rest);
+    }
     if let Some(rest) = behind_tag(text, "{PBKDF2-SHA256}", "{pbkdf2-sha256}") {
-        return adapted_pbkdf2(Pbkdf2Hash::Sha256, rest, made);
+        return either_pbkdf2(Pbkdf2Hash::Sha256, rest, made);
     }
     if let Some(rest) = behind_tag(text, "{PBKDF2-SHA512}", "{pbkdf2-sha512}") {
-        return adapted_pbkdf2(Pbkdf2Hash::Sha512, rest, made);
+        return either_pbkdf2(Pbkdf2Hash::Sha512, rest, made);
     }
     Err(ForeignFault::Unread(ldap_unread(text)))
 }

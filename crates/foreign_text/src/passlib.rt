@@ -1,13 +1,14 @@
 //! Texts of passlib.
 
 ghost use Rattle.std.specs.Prelude.{◌≡◌, ℕ, List};
-ghost use Rattle.foreign_text.specs.Converted.{begins_with_digit, passlib, passlib_other, passlib_pbkdf2};
+ghost use Rattle.foreign_text.specs.Passlib.{begins_with_digit, passlib, passlib_other, passlib_pbkdf2};
 ghost use Rattle.foreign_text.specs.Names.{passlib_unread};
 ghost use Rattle.foreign_text.specs.Views.{as_answer};
 
-use crate::converted::{MadeText, adapted_pbkdf2};
-use crate::pbkdf2::Pbkdf2Hash;
+use crate::answers::encoded_pbkdf2;
+use crate::kdf::{MadeText, Pbkdf2Hash};
 use crate::{ForeignFault, Unread};
+use base64ct::Base64Pbkdf2;
 use pieces::{begins_with, behind};
 
 // Whether a digit comes first.
@@ -55,14 +56,14 @@ fn passlib_pbkdf2<'a>(
     ensures { as_answer result made.new ≡ passlib_pbkdf2 hash text.now rest.now }
 {
     if begins_with_digit(rest) {
-        adapted_pbkdf2(hash, rest, made)
+        encoded_pbkdf2::<Base64Pbkdf2>(hash, rest, made)
     } else {
         Ok(Some(text))
     }
 }
 
 /// The stored text of a text of passlib.
-#[tactic(auto, unfolding(crate::specs::Converted::passlib))]
+#[tactic(auto, unfolding(crate::specs::Passlib::passlib))]
 pub(crate) fn passlib<'a>(
     text: &'a str,
     made: &mut MadeText,

@@ -1,7 +1,9 @@
-//! The tests of `foreign_text`: texts of Django, LDAP and passlib, converted and refused.
+//! The tests of `foreign_text`: texts of makers, converted and refused.
 //!
 //! They are in a crate of their own, since a crate that has tests is proved twice.
 #![tactic(auto)]
 
+#[cfg(test)]
+mod makers;
 #[cfg(test)]
 mod tests;

@@ -122,7 +122,7 @@ fn converted_texts(rt: HostRuntime) {
 }
 
 // Texts of schemes that aren't read.
-const UNREAD: [(Foreign, &str, Unread, &str); 15] = [
+const UNREAD: [(Foreign, &str, Unread, &str); 14] = [
     (
         Foreign::Django,
         "pbkdf2_sha1$3$CQGgXkH1zxFUb$GLn5Ai20ScanjT8A5+7iI21zErE=",
@@ -134,12 +134,6 @@ const UNREAD: [(Foreign, &str, Unread, &str); 15] = [
         "bcrypt_sha256$$2b$04$0v2TPSqrKaDKURXtLIvyu.",
         Unread::BcryptSha256,
         "unsupported-bcrypt-sha256",
-    ),
-    (
-        Foreign::Django,
-        "scrypt$16384$abcdefgh$8$1$x",
-        Unread::Scrypt,
-        "unsupported-scrypt",
     ),
     (
         Foreign::Django,

@@ -3,5 +3,5 @@ pub mod Moved
 pub mod BufferLaws
 pub mod Runs
 mod LineVectors
-mod FeedSearch
+pub mod FeedSearch
 pub mod Gathering

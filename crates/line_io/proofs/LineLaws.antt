@@ -26,7 +26,7 @@ split_some (b ∷ text) =
     < length (cond v ([] ∷ slice_split is_feed text) (onto_first b (slice_split is_feed text))))
     [ true ↦ omega arith | false ↦ onto_first_some b (slice_split is_feed text) ]
 
-all_free : (text : List ℕ) → NoFeed text → All (λ b. is_feed b ≡ false) text
+pub all_free : (text : List ℕ) → NoFeed text → All (λ b. is_feed b ≡ false) text
 all_free [] free = search rules
 all_free (b ∷ text) free =
     let parts = or_parts (is_feed b) (list_any is_feed text) free in

@@ -8,16 +8,11 @@ use Rattle.std.proofs.lemmas.List.Elements.{All-cons}
 use Rattle.std.proofs.lemmas.Bool.{or_parts, cases_eq}
 use Rattle.std.proofs.lemmas.Bool.Decides.{nat_tests}
 use Rattle.line_io.specs.Lines.{is_feed, NoFeed}
+use Rattle.line_io.proofs.LineLaws.{all_free}
 use Rattle.pieces.specs.Places.{LacksBelow}
 use Rattle.line_log.specs.Log.{is_open, all_but_last, open_front, open_lines, joined, IsLine}
 
 -- ---- splitting
-
-all_free : (text : List ℕ) → NoFeed text → All (λ b. is_feed b ≡ false) text
-all_free [] free = search rules
-all_free (b ∷ text) free =
-    let parts = or_parts (is_feed b) (list_any is_feed text) free in
-    All-cons (λ x. is_feed x ≡ false) b text parts.0 (all_free text parts.1)
 
 -- a list that isn't empty
 pub record Some (parts : List (List ℕ)) : Type 0 where
@@ -255,10 +250,3 @@ split_at_feed zero [] short feed = absurd (omega arith)
 split_at_feed zero (b ∷ text) short feed = ap (λ (c : ℕ). c ∷ text) feed
 split_at_feed (suc n) [] short feed = absurd (omega arith)
 split_at_feed (suc n) (b ∷ text) short feed = ap (λ (t : List ℕ). b ∷ t) (split_at_feed n text (omega arith) feed)
-
--- bytes of which none is a line feed
-pub lacks_feed : (n : ℕ) (text : List ℕ) → n ≤ length text → LacksBelow 10 text n → NoFeed (take n text)
-lacks_feed zero text short lacks = refl
-lacks_feed (suc n) [] short lacks = refl
-lacks_feed (suc n) (b ∷ text) short lacks =
-    free_cons b (take n text) (no_feed b (lacks 0 (omega arith))) (lacks_feed n text (omega arith) (λ k low is. lacks (suc k) (omega arith) is))

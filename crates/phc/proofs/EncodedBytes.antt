@@ -90,3 +90,8 @@ pub encoded_fits : (b : List ℕ) (n : ℕ) → EachBelow 256 b → length b ≤
     → ((longest_input < length b) ⊎ (n < length (encoding b))) → ⊥
 encoded_fits b n small most room (inl long) = omega (arith, long, most)
 encoded_fits b n small most room (inr short) = omega (arith, encoded_length b small, short, most, room)
+
+pub never_refused : (bytes : List ℕ) (n : ℕ) → EachBelow 256 bytes → length bytes ≤ 32 → 43 ≤ n
+    → ((longest_input < length bytes) ⊎ (n < length (encoding bytes))) → ⊥
+never_refused bytes n small few room (inl long) = omega (arith, long, few)
+never_refused bytes n small few room (inr short) = omega (arith, encoded_length bytes small, short, few, room)

@@ -1,6 +1,6 @@
 -- Texts whose bytes are those of names and values: they are ASCII and lack `,` and `=`.
 use Rattle.std.proofs.Common.{◌≡◌, ℕ, ◌^◌, ◌<◌, ◌≤◌, true, List, length, refl, arith}
-use Rattle.std.specs.Prelude.{◌&&◌, nat_le, None}
+use Rattle.std.specs.Prelude.{◌&&◌, nat_le, None, Some}
 use Rattle.std.specs.Char.{is_ascii_digit}
 use Rattle.std.specs.Fmt.{decimal}
 use Rattle.std.specs.List.{list_all}
@@ -11,14 +11,15 @@ use Rattle.std.proofs.lemmas.Fmt.{length-decimal-le}
 use Rattle.std.proofs.lemmas.Str.{IsUtf8-from_ascii}
 use Rattle.base64ct.specs.Encoding.{EachBelow}
 use Rattle.phc.specs.Encoded.{encoding}
-use Rattle.phc.specs.Grammar.{has_value_bytes, is_name, is_value_byte, value_fault}
+use Rattle.phc.specs.Grammar.{decimal_value, has_value_bytes, is_name, is_value_byte, value_fault}
 use Rattle.pieces.specs.Characters.{is_name_byte}
 use Rattle.phc.specs.declared.error.Error.TheVariants.{ParamValueInvalid, ParamValueTooLong}
-use Rattle.phc.proofs.Characters.{all_weaker, encoding_value}
+use Rattle.phc.proofs.Characters.{all_weaker, decimal_digits, encoding_value}
 use Rattle.phc.proofs.EncodedBytes.{encoded_length}
 use Rattle.phc.proofs.FieldFaults.{both_hold}
 use Rattle.phc.proofs.NameLemmas.{name_byte_ascii}
 use Rattle.pieces.proofs.ByteTests.{all_ascii}
+use Rattle.pieces.proofs.PlainNumbers.{decimal_read}
 
 -- ---- a test of each byte
 
@@ -27,7 +28,7 @@ use Rattle.pieces.proofs.ByteTests.{all_ascii}
 value_byte_ascii : (b : ℕ) → is_value_byte b ≡ true → b < 128
 value_byte_ascii b h = grind (arith, nat_tests)
 
-digit_is_value : (b : ℕ) → is_ascii_digit b ≡ true → is_value_byte b ≡ true
+pub digit_is_value : (b : ℕ) → is_ascii_digit b ≡ true → is_value_byte b ≡ true
 digit_is_value b h = grind (arith, nat_tests)
 
 -- a value has at most 64 bytes, all of them those of values
@@ -63,6 +64,16 @@ digits_value s h short = value_from s short (all_weaker is_ascii_digit is_value_
 
 pub decimal_length : (n : ℕ) → n < 2 ^ 32 → length (decimal n) ≤ 10
 decimal_length n small = length-decimal-le 10 n (omega (arith, small)) (omega (arith, small)) (omega arith)
+
+-- the decimal of a number of 32 bits is a value, and reads as the number
+pub values : (n : ℕ) → n < 2 ^ 32 → list_all is_value_byte (decimal n) ≡ true
+values n small = all_weaker is_ascii_digit is_value_byte digit_is_value (decimal n) (decimal_digits n small)
+
+pub few : (n : ℕ) → n < 2 ^ 32 → nat_le (length (decimal n)) 64 ≡ true
+few n small = let size = decimal_length n small in grind (arith, nat_tests, size)
+
+pub number_read : (n : ℕ) → n < 2 ^ 32 → decimal_value (decimal n) ≡ Some n
+number_read n small = decimal_read (2 ^ 32) n (omega arith) small
 
 pub encoding_is_value : (b : List ℕ) → EachBelow 256 b → length b ≤ 48 → value_fault (encoding b) ≡ None
 encoding_is_value b small short =

@@ -1,1 +1,2 @@
 pub mod MadeRecords
+pub mod RecordFields

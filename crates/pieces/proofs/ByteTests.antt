@@ -1,11 +1,17 @@
 -- Texts whose bytes all pass a test.
 use Rattle.std.proofs.Common.{◌≡◌, ℕ, zero, suc, ◌<◌, Bool, true, false, List, [], ◌∷◌, ◌++◌, length, slice_index}
-use Rattle.std.proofs.Common.{refl, sym, ap, ◌∙◌, arith}
+use Rattle.std.proofs.Common.{refl, sym, ap, ◌∙◌, arith, inl, inr}
 use Rattle.std.specs.List.{list_all}
-use Rattle.std.specs.Prelude.{IsAscii}
-use Rattle.std.proofs.lemmas.Bool.{and_parts, false≢true}
+use Rattle.std.specs.Prelude.{IsAscii, ◌==◌, not}
+use Rattle.std.specs.Str.{IsUtf8, is_utf8}
+use Rattle.std.proofs.lemmas.Bool.{and_parts, cases_Bool, false≢true}
+use Rattle.std.proofs.lemmas.Str.{IsUtf8-from_is_utf8}
 use Rattle.std.proofs.lemmas.Str.Ascii.{IsAscii-nil, IsAscii-cons}
 use Rattle.pieces.specs.Pieces.{LacksByte}
+
+-- the test for each byte but c
+abbrev pub is_not : ℕ → ℕ → Bool
+is_not c b = not (b == c)
 
 -- a text of bytes among which c is none
 pub lacks : (p : ℕ → Bool) (c : ℕ) → p c ≡ false → (s : List ℕ) → list_all p s ≡ true → LacksByte c s
@@ -43,3 +49,7 @@ all_ascii p small [] h = IsAscii-nil
 all_ascii p small (b ∷ s) h =
     let both = and_parts (p b) (list_all p s) h in
     IsAscii-cons b s (small b both.0) (all_ascii p small s both.1)
+
+-- bytes that are no text
+pub not_text : (bs : List ℕ) → (IsUtf8 bs → ⊥) → is_utf8 bs ≡ false
+not_text bs other = elim (cases_Bool (is_utf8 bs)) [ inl e ↦ absurd (other (IsUtf8-from_is_utf8 bs e)) | inr e ↦ e ]

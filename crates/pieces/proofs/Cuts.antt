@@ -117,7 +117,7 @@ cut_at c text at low lacks is =
 
 -- ---- no piece has the byte at which it was cut
 
-lacks_none : (c : ℕ) → LacksByte c []
+pub lacks_none : (c : ℕ) → LacksByte c []
 lacks_none c i below = absurd (omega (arith, below))
 
 lacks_more : (c b : ℕ) (s : List ℕ) → (b == c) ≡ false → LacksByte c s → LacksByte c (b ∷ s)

@@ -1,6 +1,6 @@
 -- Where no fault is found, each test holds; and what holds of each fault holds of the one that is found.
 use Rattle.std.proofs.Common.{◌≡◌, Bool, true, false, List, ◌∷◌, refl, subst}
-use Rattle.std.specs.Prelude.{IfSome, Option, Some, None, Ok, Err}
+use Rattle.std.specs.Prelude.{IfSome, Option, Some, None, Result, Ok, Err, if◌then◌else◌}
 use Rattle.pieces.specs.Faults.{first_fault, or_else, unless, value_or_fault}
 
 pub some_none : {A : Type 0} (a : A) → Some a ≡ None → ⊥
@@ -30,6 +30,12 @@ pub value_found : {A : Type 0} {E : Type 0} (a b : A) (fault : Option E) → val
     → (fault ≡ None) × (a ≡ b)
 value_found a b None h = (refl, cc)
 value_found a b (Some e) h = absurd (err_ok e b h)
+
+-- where a value is answered after a test, the test holds
+pub where_so : {A : Type 0} {E : Type 0} (t : Bool) (e : E) (x : Result A E) (a : A) → (if t then x else Err e) ≡ Ok a
+    → (t ≡ true) × (x ≡ Ok a)
+where_so true e x a h = (refl, h)
+where_so false e x a h = absurd (err_ok e a h)
 
 -- ---- what holds of each fault
 

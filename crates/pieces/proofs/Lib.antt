@@ -3,6 +3,7 @@ pub mod Cuts
 pub mod FaultLaws
 pub mod Fronts
 pub mod ListLaws
+pub mod NumberBytes
 pub mod PlainNumbers
 pub mod RisenCounts
 mod Vectors

@@ -43,3 +43,7 @@ LacksByte c text = (i : ℕ) → i < length text → slice_index text i ≢ c
 abbrev pub EachLacks : ℕ → List (List ℕ) → Type 0
 EachLacks c [] = ⊤
 EachLacks c (piece ∷ pieces) = LacksByte c piece × EachLacks c pieces
+
+-- a text begins with this front
+abbrev pub begins : List ℕ → List ℕ → Bool
+begins text front = starts_with nat_eq text front

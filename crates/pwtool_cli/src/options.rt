@@ -3,8 +3,21 @@
 use clap::{Arg, ArgAction, Command};
 use std::alloc::{AllocError, Global};
 
-/// The spellings of foreign texts by their names.
-const SPELLINGS: &[&str] = &["django", "ldap", "passlib"];
+/// The makers of foreign texts by their names.
+const MAKERS: &[&str] = &[
+    "django",
+    "werkzeug",
+    "passlib",
+    "ldap",
+    "elasticsearch",
+    "dovecot",
+    "spring",
+    "aspnet",
+    "cisco",
+    "mosquitto",
+    "mediawiki",
+    "grub",
+];
 
 /// A form without its words: its name, what it does, and what stands behind the options in its help.
 pub fn form<'a>(
@@ -53,9 +66,9 @@ pub fn with_from<'a>(
 ) -> Result<Command<'a>, AllocError> {
     let from = Arg::new(alloc, "from")
         .long("from")
-        .value_name("SPELLING")
-        .value_parser(SPELLINGS)
-        .help("The stored texts are spelled as Django, LDAP or passlib spells them");
+        .value_name("MAKER")
+        .value_parser(MAKERS)
+        .help("The stored texts are spelled as this maker spells them");
     plus(command, from)
 }
 

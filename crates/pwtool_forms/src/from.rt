@@ -7,8 +7,17 @@ use foreign_text::Foreign;
 pub fn foreign_of(matches: &ArgMatches<'_>) -> Option<Foreign> {
     match matches.get_str("from") {
         Some("django") => Some(Foreign::Django),
-        Some("ldap") => Some(Foreign::Ldap),
+        Some("werkzeug") => Some(Foreign::Werkzeug),
         Some("passlib") => Some(Foreign::Passlib),
+        Some("ldap") => Some(Foreign::Ldap),
+        Some("elasticsearch") => Some(Foreign::Elasticsearch),
+        Some("dovecot") => Some(Foreign::Dovecot),
+        Some("spring") => Some(Foreign::Spring),
+        Some("aspnet") => Some(Foreign::AspNet),
+        Some("cisco") => Some(Foreign::Cisco),
+        Some("mosquitto") => Some(Foreign::Mosquitto),
+        Some("mediawiki") => Some(Foreign::MediaWiki),
+        Some("grub") => Some(Foreign::Grub),
         _ => None,
     }
 }

@@ -1,18 +1,15 @@
 -- A key is a list of bytes.
 use Rattle.std.proofs.Common.{ℕ, zero, suc, ◌+◌, ◌/◌, ◌<◌, List, [], ◌∷◌, ◌++◌, take, slice_index}
 use Rattle.std.proofs.Common.{arith}
-use Rattle.std.specs.Int.{w32, to_be_bytes, bytes_high_first, byte_at}
+use Rattle.std.specs.Int.{w32, to_be_bytes}
 use Rattle.sha2.specs.Sha256.{sha256, digest_bytes}
+use Rattle.base64ct.proofs.GoodBlocks.{below-append}
+use Rattle.pieces.proofs.NumberBytes.{high_first}
 use Rattle.hmac_plain.specs.Hmac as of_any
 use Rattle.scrypt_plain.specs.Hmac.{hmac}
 use Rattle.scrypt_plain.specs.Laws.{AreBytes}
 use Rattle.scrypt_plain.specs.Pbkdf2.{pbkdf2_blocks}
 use Rattle.scrypt_plain.specs.Scrypt.{scrypt}
-
-bytes_append : (xs ys : List ℕ) → AreBytes xs → AreBytes ys → AreBytes (xs ++ ys)
-bytes_append [] ys bx by i = by i
-bytes_append (x ∷ xs) ys bx by zero = bx zero
-bytes_append (x ∷ xs) ys bx by (suc i) = bytes_append xs ys (λ j. bx (suc j)) by i
 
 bytes_take : (k : ℕ) (xs : List ℕ) → AreBytes xs → AreBytes (take k xs)
 bytes_take zero xs b i = omega arith
@@ -20,31 +17,22 @@ bytes_take (suc k) [] b i = omega arith
 bytes_take (suc k) (x ∷ xs) b zero = b zero
 bytes_take (suc k) (x ∷ xs) b (suc i) = bytes_take k xs (λ j. b (suc j)) i
 
-byte_below : (k n : ℕ) → byte_at k n < 256
-byte_below zero n = omega arith
-byte_below (suc k) n = omega arith
-
-number_bytes : (k n : ℕ) → AreBytes (bytes_high_first k n)
-number_bytes zero n i = omega arith
-number_bytes (suc k) n zero = byte_below k n
-number_bytes (suc k) n (suc i) = number_bytes k n i
-
-digest_bytes_below : (h : List ℕ) (n : ℕ) → AreBytes (digest_bytes h n)
+pub digest_below : (h : List ℕ) (n : ℕ) → AreBytes (digest_bytes h n)
 unfolding digest_bytes
-digest_bytes_below h zero i = omega arith
-digest_bytes_below h (suc n) i =
-    bytes_append (digest_bytes h n) (to_be_bytes w32 (slice_index h n)) (digest_bytes_below h n)
-    (number_bytes 4 (slice_index h n)) i
+digest_below h zero i = omega arith
+digest_below h (suc n) i =
+    below-append (digest_bytes h n) (to_be_bytes w32 (slice_index h n)) (digest_below h n)
+    (high_first 4 (slice_index h n)) i
 
-hmac_bytes : (key text : List ℕ) → AreBytes (hmac key text)
+pub hmac_bytes : (key text : List ℕ) → AreBytes (hmac key text)
 unfolding of_any.hmac sha256
-hmac_bytes key text = digest_bytes_below _ 8
+hmac_bytes key text = digest_below _ 8
 
 blocks_bytes : (p s : List ℕ) (i : ℕ) → AreBytes (pbkdf2_blocks p s i)
 unfolding pbkdf2_blocks
 blocks_bytes p s zero i = omega arith
 blocks_bytes p s (suc k) i =
-    bytes_append (pbkdf2_blocks p s k) (hmac p (s ++ to_be_bytes w32 (k + 1))) (blocks_bytes p s k)
+    below-append (pbkdf2_blocks p s k) (hmac p (s ++ to_be_bytes w32 (k + 1))) (blocks_bytes p s k)
     (hmac_bytes p (s ++ to_be_bytes w32 (k + 1))) i
 
 -- each number of a key is below 256

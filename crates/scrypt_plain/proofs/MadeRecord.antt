@@ -20,6 +20,7 @@ use Rattle.phc.proofs.Characters.{all_weaker, encoding_value}
 use Rattle.phc.proofs.EncodedBytes.{encoded_length}
 use Rattle.phc.proofs.ParsedBack.{parses_back}
 use Rattle.phc_kdf.proofs.MadeRecords.{IsMadeRecord}
+use Rattle.phc_kdf.proofs.RecordFields.{encoded_good, read_phc}
 use Rattle.scrypt_plain.specs.Lengths.{length-pbkdf2_once}
 use Rattle.scrypt_plain.specs.Pbkdf2.{pbkdf2_once}
 use Rattle.scrypt_plain.specs.Profile.{accepted, cost_of, key, scrypt_accepts, scrypt_key}
@@ -61,22 +62,6 @@ pub record IsWritten (ln r p : List ℕ) (n b c : ℕ) : Type 0 where
   pub bounds : in_bounds n b c ≡ true
 
 -- ---- fields
-
-value_in_field : (b : ℕ) → is_value_byte b ≡ true → is_field_byte b ≡ true
-value_in_field b value = grind (arith, nat_tests, value)
-
--- the encoding of some bytes is a field
-encoded_good : (b : List ℕ) → EachBelow 256 b → 1 ≤ length b → field_fault (encoding b) ≡ None
-encoded_good b below some =
-    good_field (encoding b) (omega (arith, encoded_length b below, some))
-    (all_weaker is_value_byte is_field_byte value_in_field (encoding b) (encoding_value b below))
-
--- a text that both grammars read
-read_phc : (text : List ℕ) (p : Parts) → mcf text ≡ Ok p → phc_text text ≡ phc p.id p.fields
-unfolding mcf phc_text
-read_phc text p h =
-    let is = value_found (parts text) p (fault text) h in
-    ap phc_of_pieces (pieces_of_valid text is.0) ∙ ap (λ (q : Parts). phc q.id q.fields) is.1
 
 key_length : (password salt : List ℕ) (n r p : ℕ) → length (scrypt password salt n r p 32) ≡ 32
 key_length password salt n r p =

@@ -7,6 +7,7 @@ use Rattle.std.proofs.lemmas.List.{length-map}
 use Rattle.base64ct.specs.Alphabets.{base64_sha_crypt}
 use Rattle.base64ct.specs.Encoding.{EachBelow, character, encoding, groups}
 use Rattle.base64ct.proofs.Encodings.{groups-below, length-groups}
+use Rattle.base64ct.proofs.GoodBlocks.{below-append}
 use Rattle.rand_core.specs.Stream.{Stream, next_u32}
 use Rattle.sha2.specs.Sha256.{sha256}
 use Rattle.sha2.specs.Sha256 as short
@@ -23,6 +24,7 @@ use Rattle.sha_crypt.specs.declared.errors.Family.{Family}
 use Rattle.sha_crypt.specs.declared.errors.Family.TheVariants.{Sha256, Sha512}
 use Rattle.sha_crypt.proofs.HashFields.{below_map, field_is_found}
 use Rattle.pieces.proofs.ByteTests.{all_append, passes_at}
+use Rattle.pieces.proofs.NumberBytes.{high_first}
 
 -- ---- characters
 
@@ -54,45 +56,18 @@ length-characters (suc n) s =
 
 -- ---- bytes
 
-pub below_append : (n : ℕ) (xs ys : List ℕ) → EachBelow n xs → EachBelow n ys → EachBelow n (xs ++ ys)
-below_append n [] ys hx hy = hy
-below_append n (x ∷ xs) ys hx hy = elim [ zero ↦ hx 0 | suc i ↦ below_append n xs ys (λ j. hx (suc j)) hy i ]
-
-pub four : (x : ℕ) → EachBelow 256 (to_be_bytes w32 x)
-four x = elim [
-  | zero ↦ omega arith
-  | suc zero ↦ omega arith
-  | suc (suc zero) ↦ omega arith
-  | suc (suc (suc zero)) ↦
-      omega arith
-  | suc (suc (suc (suc i))) ↦ omega arith
-]
-
 pub digest_bytes-below : (h : List ℕ) (n : ℕ) → EachBelow 256 (short.digest_bytes h n)
 unfolding short.digest_bytes
 digest_bytes-below h zero = λ i. omega arith
 digest_bytes-below h (suc n) =
-    below_append 256 (short.digest_bytes h n) (to_be_bytes w32 (slice_index h n)) (digest_bytes-below h n)
-    (four (slice_index h n))
-
-eight : (x : ℕ) → EachBelow 256 (to_be_bytes w64 x)
-eight x = elim [
-  | zero ↦ omega arith
-  | suc zero ↦ omega arith
-  | suc (suc zero) ↦ omega arith
-  | suc (suc (suc zero)) ↦ omega arith
-  | suc (suc (suc (suc zero))) ↦ omega arith
-  | suc (suc (suc (suc (suc zero)))) ↦ omega arith
-  | suc (suc (suc (suc (suc (suc zero))))) ↦ omega arith
-  | suc (suc (suc (suc (suc (suc (suc zero)))))) ↦ omega arith
-  | suc (suc (suc (suc (suc (suc (suc (suc i))))))) ↦ omega arith
-]
+    below-append (short.digest_bytes h n) (to_be_bytes w32 (slice_index h n)) (digest_bytes-below h n)
+    (high_first 4 (slice_index h n))
 
 long-below : (h : List ℕ) (n : ℕ) → EachBelow 256 (long.digest_bytes h n)
 unfolding long.digest_bytes
 long-below h zero = λ i. omega arith
-long-below h (suc n) = below_append 256 (long.digest_bytes h n) (to_be_bytes w64 (slice_index h n)) (long-below h n)
-    (eight (slice_index h n))
+long-below h (suc n) = below-append (long.digest_bytes h n) (to_be_bytes w64 (slice_index h n)) (long-below h n)
+    (high_first 8 (slice_index h n))
 
 pub sha256-below : (m : List ℕ) → EachBelow 256 (sha256 m)
 unfolding sha256

@@ -5,7 +5,7 @@ pub mod Faults
 pub mod HashFields
 mod Joined
 pub mod MadeTexts
-mod Numbers
+pub mod Numbers
 mod PrintAnswers
 pub mod Reading
 pub mod Repeats

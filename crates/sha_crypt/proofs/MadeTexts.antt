@@ -8,8 +8,8 @@ use Rattle.std.proofs.lemmas.Bool.{and_parts, false≢true}
 use Rattle.std.proofs.lemmas.Bool.Decides.{nat_tests}
 use Rattle.base64ct.proofs.DecodingLaws.{same_true, true_same}
 use Rattle.pieces.specs.Pieces.{EachLacks, LacksByte, behind, pieces_at}
-use Rattle.pieces.proofs.Cuts.{cut_joined}
-use Rattle.pieces.proofs.ByteTests.{lacks}
+use Rattle.pieces.proofs.Cuts.{cut_joined, lacks_none}
+use Rattle.pieces.proofs.ByteTests.{is_not, lacks}
 use Rattle.rand_core.specs.Stream.{Stream}
 use Rattle.sha_crypt.specs.Check.{check_answer, fields_answer, text_fields}
 use Rattle.sha_crypt.specs.Families.{Scheme, scheme_fields, sha256_answer, sha512_answer}
@@ -23,16 +23,13 @@ use Rattle.sha_crypt.proofs.Decimals.{decimal_lacks, plain_number-decimal}
 use Rattle.sha_crypt.proofs.Digests.{IsScheme, characters_pass, hash_is_field, hash_passes, is_scheme}
 use Rattle.sha_crypt.proofs.Digests.{length-characters, made_hash}
 use Rattle.sha_crypt.proofs.Shapes.{HasForm, Stands, of_form}
-use Rattle.sha_crypt.proofs.Spellings.{id_lacks, join-pieces, lacks_front, lacks_none, of_cut, ok_short, ok_tested}
+use Rattle.sha_crypt.proofs.Spellings.{id_lacks, join-pieces, lacks_front, of_cut, ok_short, ok_tested}
 use Rattle.sha_crypt.proofs.Spellings.{rounds_lack}
 
 all_take : (p : ℕ → Bool) (n : ℕ) (s : List ℕ) → list_all p s ≡ true → list_all p (take n s) ≡ true
 all_take p zero s h = refl
 all_take p (suc n) [] h = refl
 all_take p (suc n) (b ∷ s) h = let parts = and_parts (p b) (list_all p s) h in rw (parts.0) (all_take p n s parts.1)
-
-abbrev pub is_not : ℕ → ℕ → Bool
-is_not c b = not (b == c)
 
 -- a text without `=` doesn't begin with `rounds=`
 no_front : (s : List ℕ) → list_all (is_not 61) s ≡ true → behind s (codes "rounds=") ≡ None

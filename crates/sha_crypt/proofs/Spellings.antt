@@ -11,7 +11,8 @@ use Rattle.std.proofs.lemmas.Bool.Decides.{nat_tests}
 use Rattle.std.proofs.lemmas.List.{take_all, length-take, take-take}
 use Rattle.base64ct.proofs.DecodingLaws.{same_true, true_same}
 use Rattle.pieces.specs.Pieces.{LacksByte, EachLacks, pieces_at, behind}
-use Rattle.pieces.proofs.Cuts.{cut_joined, join_pieces, pieces_lack}
+use Rattle.pieces.proofs.Cuts.{cut_joined, join_pieces, lacks_none, pieces_lack}
+use Rattle.pieces.proofs.FaultLaws.{where_so}
 use Rattle.sha_crypt.specs.Check.{text_fields, from_front, from_identifier}
 use Rattle.sha_crypt.specs.Digest.{sha_crypt_digest}
 use Rattle.sha_crypt.specs.Families.{Scheme, scheme_fields, old_scheme_fields}
@@ -24,7 +25,7 @@ use Rattle.sha_crypt.specs.declared.errors.CheckError.{CheckError}
 use Rattle.sha_crypt.specs.declared.errors.Family.{Family}
 use Rattle.sha_crypt.specs.declared.errors.Family.TheVariants.{Sha256, Sha512}
 use Rattle.sha_crypt.proofs.Decimals.{decimal_lacks, plain_decimal, plain_number-decimal, plain_old}
-use Rattle.sha_crypt.proofs.Shapes.{HasForm, Stands, form_of, found, of_form, where_so, unless}
+use Rattle.sha_crypt.proofs.Shapes.{HasForm, Stands, form_of, found, of_form, unless}
 
 -- ---- the bytes of the salt that count
 
@@ -160,9 +161,6 @@ other_text b c is (suc i) below = absurd (omega (arith, below))
 lacks_cons : (b c : ℕ) (s : List ℕ) → (b == c) ≡ false → LacksByte c s → LacksByte c (b ∷ s)
 lacks_cons b c s is h zero below = λ e. grind (arith, nat_tests, is, e)
 lacks_cons b c s is h (suc i) below = h i (omega (arith, below))
-
-pub lacks_none : (c : ℕ) → LacksByte c []
-lacks_none c i below = absurd (omega (arith, below))
 
 pub lacks_front : (c : ℕ) (front s : List ℕ) → LacksByte c front → LacksByte c s → LacksByte c (front ++ s)
 lacks_front c [] s hf hs = hs

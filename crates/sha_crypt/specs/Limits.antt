@@ -18,6 +18,10 @@ rounds_max = 999999999
 abbrev pub salt_max_len : ℕ
 salt_max_len = 16
 
+-- the most bytes of a text: 28 that name the rounds, 16 of salt, 86 of hash, the identifier and three `$`
+abbrev pub text_max : ℕ
+text_max = 134
+
 -- the characters of a hash field of SHA-256-crypt
 abbrev pub pw_size_sha256 : ℕ
 pw_size_sha256 = 43

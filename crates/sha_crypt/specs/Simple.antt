@@ -1,6 +1,6 @@
 -- Texts that are made of a password: the salt by the words of a generator, and the whole text (Drepper's text,
 -- 'Specification'; crypt(5)).
-use Rattle.std.specs.Prelude.{ℕ, zero, suc, not, ◌==◌, ◌/◌, ◌%◌, ◌^◌, List, [], ◌∷◌, ◌++◌}
+use Rattle.std.specs.Prelude.{ℕ, Bool, zero, suc, not, ◌==◌, ◌/◌, ◌%◌, ◌^◌, List, [], ◌∷◌, ◌++◌}
 use Rattle.base64ct.specs.Alphabets.{base64_sha_crypt}
 use Rattle.base64ct.specs.Encoding.{character}
 use Rattle.rand_core.specs.Stream.{Stream, next_u32}
@@ -8,7 +8,7 @@ use Rattle.sha_crypt.specs.Digest.{sha_crypt_digest}
 use Rattle.sha_crypt.specs.Families.{Scheme}
 use Rattle.sha_crypt.specs.Fields.{ShaFields}
 use Rattle.sha_crypt.specs.HashField.{hash_field}
-use Rattle.sha_crypt.specs.Records.{family_scheme, record_text}
+use Rattle.sha_crypt.specs.Records.{family_scheme, record_text, text_of_fields}
 use Rattle.sha_crypt.specs.declared.errors.Family.{Family}
 use Rattle.sha_crypt.specs.declared.errors.Family.TheVariants.{Sha256, Sha512}
 use Rattle.sha_crypt.specs.Limits.{rounds_default}
@@ -40,7 +40,13 @@ made_fields s password salt rounds =
       hash = hash_field s.places (sha_crypt_digest s.hash password salt rounds);
     }
 
--- the text of a family of a password, a salt and rounds
+-- the text of a family of a password, a salt and rounds, which are written or not
+abbrev pub password_text : Family → Bool → List ℕ → List ℕ → ℕ → List ℕ
+password_text family written password salt rounds =
+    text_of_fields family written rounds salt
+    (hash_field (family_scheme family).places (sha_crypt_digest (family_scheme family).hash password salt rounds))
+
+-- the same with rounds that are written where they aren't the default
 abbrev pub made_text : Family → List ℕ → List ℕ → ℕ → List ℕ
 made_text family password salt rounds = record_text family (made_fields (family_scheme family) password salt rounds)
 

@@ -27,6 +27,7 @@ mod old;
 mod params;
 mod record;
 mod simple;
+mod text;
 mod turns;
 
 use base64ct::Counts;
@@ -43,6 +44,7 @@ pub use record::ShaRecord;
 use sha2::{Sha256, Sha512};
 pub use simple::random_characters;
 use std::alloc::Global;
+pub use text::{TEXT_MAX, password_text, push_rounds};
 
 /// The SHA-256-crypt digest of a password and a salt, of which the first 16 bytes count.
 ///

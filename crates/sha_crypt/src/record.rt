@@ -5,20 +5,18 @@ ghost use Rattle.std.specs.Str.{IsUtf8};
 ghost use Rattle.std.specs.Borrow.{sem, Array, u8 as byte};
 ghost use Rattle.std.specs.Io.BufRead.{Rests};
 ghost use Rattle.sha_crypt.specs.HashField.{is_hash_field};
-ghost use Rattle.sha_crypt.specs.Records.{family_id, family_scheme, old_record_of, record_of, rounds_part};
+ghost use Rattle.sha_crypt.specs.Records.{family_scheme, old_record_of, record_of};
 ghost use Rattle.sha_crypt.specs.Limits.{pw_size_sha512, salt_max_len};
 
 use crate::b64::field_bytes;
 use crate::fields::{Reading, text_parts};
 use crate::lent::fill_printed;
+use crate::text::{TEXT_MAX, family_id, text_of_fields};
 use crate::{CheckError, Family, FormatFault, SALT_MAX_LEN};
 use base64ct::InvalidLengthError;
 use base64ct::lent::finish_encoded;
 use pieces::short_bytes::ShortBytes;
 use std::fmt;
-
-// Room for the longest text: 28 bytes that name the rounds, 16 of salt, 86 of hash, the identifier and three `$`.
-const TEXT_MAX: usize = 134;
 
 /// What a SHA-crypt text says: its family, rounds, salt and hash, which are slices of the text.
 ///
@@ -32,16 +30,6 @@ pub struct ShaRecord<'a> {
     hash: &'a str,
     ghost short_salt: { length salt.now ≤ 16 },
     ghost short_hash: { length hash.now ≤ 86 },
-}
-
-// The identifier of a family.
-fn family_id(family: Family) -> &'static str
-    ensures { result.now ≡ family_id family }
-{
-    match family {
-        Family::Sha256 => "5",
-        Family::Sha512 => "6",
-    }
 }
 
 // Whether a text is the hash field of some digest of a family.
@@ -63,19 +51,6 @@ fn cut_salt(salt: &str) -> &str
         &salt[..SALT_MAX_LEN]
     } else {
         salt
-    }
-}
-
-// Appends what names the rounds, where they are written.
-fn push_rounds(text: &mut ShortBytes<TEXT_MAX>, written: bool, rounds: usize)
-    requires room { length text.old + 28 ≤ 134 }
-    ensures appended { text.new ≡ text.old ++ rounds_part written rounds }
-    ensures len { length text.new ≤ length text.old + 28 }
-{
-    if written {
-        text.push_all(b"rounds=");
-        text.push_decimal(rounds as u64);
-        text.push_all(b"$");
     }
 }
 
@@ -145,20 +120,17 @@ impl<'a> ShaRecord<'a> {
     }
 
     // The text of the record.
-    #[tactic(auto, unfolding(crate::specs::Records::record_text))]
     fn text(&self) -> ShortBytes<TEXT_MAX>
         ensures text { result ≡ printed self.now }
         ensures utf8 { IsUtf8 result }
     {
-        let mut text = ShortBytes::new();
-        text.push_all(b"$");
-        text.push_all(family_id(self.family).as_bytes());
-        text.push_all(b"$");
-        push_rounds(&mut text, self.written, self.rounds);
-        text.push_all(self.salt().as_bytes());
-        text.push_all(b"$");
-        text.push_all(self.hash().as_bytes());
-        text
+        text_of_fields(
+            self.family,
+            self.written,
+            self.rounds,
+            self.salt().as_bytes(),
+            self.hash().as_bytes(),
+        )
     }
 
     /// Writes the text of the record at the front of `out`, and tells its length. It refuses where `out` is shorter;

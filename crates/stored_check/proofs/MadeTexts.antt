@@ -25,7 +25,7 @@ use Rattle.stored_check.specs.declared.error.StoredError.TheVariants.{Kdf}
 use Rattle.stored_check.proofs.Normals.{rounds_field}
 use Rattle.stored_check.proofs.Records.{printed_is}
 
-is_name : (family : Family) → is_identifier (family_id family) ≡ true
+pub is_name : (family : Family) → is_identifier (family_id family) ≡ true
 is_name Sha256 = refl
 is_name Sha512 = refl
 

@@ -223,7 +223,7 @@ none_some b h = cc
 some_same : (b c : Bool) → some_verdict c ≡ some_verdict b → c ≡ b
 some_same b c h = cc
 
-abbrev as_verdict : Bool → Result Bool StoredError
+abbrev pub as_verdict : Bool → Result Bool StoredError
 as_verdict b = Ok b
 
 pub ok_same : (x y : Result Bool StoredError) (b : Bool) → result_ok x ≡ result_ok y → x ≡ as_verdict b

@@ -1,32 +1,12 @@
 -- A key is a list of 32 bytes.
-use Rattle.std.proofs.Common.{◌≡◌, ℕ, zero, suc, List, [], ◌∷◌, ◌++◌, length, slice_index, arith}
-use Rattle.std.specs.Int.{w32, to_be_bytes}
+use Rattle.std.proofs.Common.{◌≡◌, ℕ, List, length}
 use Rattle.base64ct.specs.Encoding.{EachBelow}
-use Rattle.sha2.specs.Sha256.{sha256, digest_bytes}
+use Rattle.sha2.specs.Sha256.{sha256}
 use Rattle.sha2.proofs.Facts256.{length-sha256}
 use Rattle.scrypt_plain.specs.Scrypt.{scrypt}
 use Rattle.scrypt_plain.specs.Lengths.{length-pbkdf2_once}
+use Rattle.scrypt_plain.proofs.KeyBytes.{digest_below}
 use Rattle.yescrypt_plain.specs.Yescrypt.{yescrypt}
-
-four_bytes : (x : ℕ) → EachBelow 256 (to_be_bytes w32 x)
-four_bytes x = elim [
-  | zero ↦ omega arith
-  | suc zero ↦ omega arith
-  | suc (suc zero) ↦ omega arith
-  | suc (suc (suc zero)) ↦ omega arith
-  | suc (suc (suc (suc i))) ↦ omega arith
-]
-
-below_append : (n : ℕ) (xs ys : List ℕ) → EachBelow n xs → EachBelow n ys → EachBelow n (xs ++ ys)
-below_append n [] ys hx hy = hy
-below_append n (x ∷ xs) ys hx hy = elim [ zero ↦ hx 0 | suc i ↦ below_append n xs ys (λ j. hx (suc j)) hy i ]
-
-digest_below : (h : List ℕ) (n : ℕ) → EachBelow 256 (digest_bytes h n)
-unfolding digest_bytes
-digest_below h zero i = omega arith
-digest_below h (suc n) i =
-    below_append 256 (digest_bytes h n) (to_be_bytes w32 (slice_index h n)) (digest_below h n)
-    (four_bytes (slice_index h n)) i
 
 sha256_below : (m : List ℕ) → EachBelow 256 (sha256 m)
 unfolding sha256

@@ -18,7 +18,7 @@ use Rattle.yescrypt_plain.specs.Field.{crypt_field, hash_bytes}
 use Rattle.yescrypt_plain.specs.Laws.{ScryptMadeMatches, ScryptMatchesExactly}
 use Rattle.yescrypt_plain.specs.Made.{IsScryptText, scrypt_text_of}
 use Rattle.yescrypt_plain.specs.Params.{scrypt_in_bounds, scrypt_params, scrypt_params_text}
-use Rattle.yescrypt_plain.specs.Text.{ScryptFields, ScryptMeaning, is_character, is_scrypt_salt, pieces_behind, scrypt_by_hash}
+use Rattle.yescrypt_plain.specs.Text.{ScryptFields, ScryptMeaning, is_scrypt_salt, pieces_behind, scrypt_by_hash}
 use Rattle.yescrypt_plain.specs.Text.{scrypt_by_params, scrypt_by_salt, scrypt_fields, scrypt_of, scrypt_text, split_scrypt}
 use Rattle.yescrypt_plain.specs.declared.error.CheckError.TheVariants.{InvalidFormat}
 use Rattle.yescrypt_plain.specs.declared.error.TextFault.{TextFault}
@@ -27,7 +27,9 @@ use Rattle.yescrypt_plain.specs.declared.params.ScryptParams.{ScryptParams}
 use Rattle.yescrypt_plain.proofs.Fields.{hash_is, hash_read}
 use Rattle.yescrypt_plain.proofs.KeyBytes.{scrypt_key_long}
 use Rattle.yescrypt_plain.proofs.ScryptParamFields.{scrypt_params_are, scrypt_params_read, scrypt_salt_behind}
-use Rattle.yescrypt_plain.proofs.TextPieces.{field_lacks, front_lacks, lacks_dollar, ok_same, pieces_read, text_joins, where_so}
+use Rattle.yescrypt_plain.proofs.TextPieces.{field_lacks, front_lacks, lacks_dollar, ok_same, pieces_read, text_joins}
+use Rattle.pieces.specs.Characters.{is_crypt_character}
+use Rattle.pieces.proofs.FaultLaws.{where_so}
 use Rattle.yescrypt_plain.proofs.Verdicts.{no_success, passed_verdict, passing_verdict}
 
 abbrev meaning : ScryptParams → List ℕ → List ℕ → ScryptMeaning
@@ -39,6 +41,7 @@ meaning params salt hash = record { params = params; salt = salt; hash = hash }
 pub record IsTextOf (text : List ℕ) (m : ScryptMeaning) : Type 0 where
   pub bounds : scrypt_in_bounds m.params ≡ true
   pub salt : is_scrypt_salt m.salt ≡ true
+  pub hash_below : EachBelow 256 m.hash
   pub is : text ≡ scrypt_text_of m.params m.salt m.hash
 
 of_pieces : (pieces : List (List ℕ)) (f : ScryptFields) → split_scrypt pieces ≡ Ok f → pieces ≡ f.front ∷ (f.hash ∷ [])
@@ -69,6 +72,7 @@ by_hash text f p (Some hash) m is params_is salt_good hash_found h =
     (record {
       bounds = params.0;
       salt = salt_good;
+      hash_below = of_hash.below;
       is = is
           ∙ ap (λ (x : List ℕ). join_with_byte 36 ([] ∷ (codes "7" ∷ (x ∷ (f.hash ∷ []))))) params.1
           ∙ ap (λ (x : List ℕ).
@@ -90,6 +94,7 @@ by_fields text (Err e) m is h = absurd (err_ok e m h)
 by_fields text (Ok f) m is h =
     by_params text f (scrypt_params f.front) m (joined text f (pieces_behind (codes "7") text) refl is) refl h
 
+-- a text prints what is read from it
 pub text_is : (text : List ℕ) (m : ScryptMeaning) → scrypt_text text ≡ Ok m → IsTextOf text m
 unfolding scrypt_text
 text_is text m h = by_fields text (scrypt_fields (pieces_behind (codes "7") text)) m refl h
@@ -126,10 +131,10 @@ text_read : (params : ScryptParams) (salt hash : List ℕ) → scrypt_in_bounds 
     → scrypt_text (scrypt_text_of params salt hash) ≡ Ok (meaning params salt hash)
 unfolding scrypt_text
 text_read params salt hash good salt_good long hash_below =
-    let characters = and_parts (nat_le (length salt) 86) (list_all is_character salt) salt_good in
+    let characters = and_parts (nat_le (length salt) 86) (list_all is_crypt_character salt) salt_good in
     let front : List ℕ = scrypt_params_text params ++ salt in
     let pieces = pieces_read (codes "7") (front ∷ (crypt_field hash ∷ [])) (lacks_dollar (codes "7") refl)
-    (front_lacks params salt characters.1, (field_lacks hash hash_below, tt)) in
+    (front_lacks params salt good characters.1, (field_lacks hash hash_below, tt)) in
     let of_params = scrypt_params_read params salt good in
     let of_salt = scrypt_salt_behind params salt in
     let of_hash = hash_read hash long hash_below in

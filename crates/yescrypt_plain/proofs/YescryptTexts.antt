@@ -25,10 +25,11 @@ use Rattle.yescrypt_plain.specs.declared.params.YescryptParams.{YescryptParams}
 use Rattle.yescrypt_plain.proofs.Fields.{hash_is, hash_read, salt_is, salt_read}
 use Rattle.yescrypt_plain.proofs.KeyBytes.{key_below, key_long}
 use Rattle.yescrypt_plain.proofs.ParamFields.{params_of_text, text_of_params}
-use Rattle.yescrypt_plain.proofs.TextPieces.{field_lacks, lacks_dollar, ok_same, params_lack, pieces_read, text_joins, where_so}
+use Rattle.yescrypt_plain.proofs.TextPieces.{field_lacks, lacks_dollar, ok_same, params_lack, pieces_read, text_joins}
+use Rattle.pieces.proofs.FaultLaws.{where_so}
 use Rattle.yescrypt_plain.proofs.Verdicts.{passed_verdict, passing_verdict, no_success}
 
-abbrev meaning : YescryptParams → List ℕ → List ℕ → YescryptMeaning
+abbrev pub meaning : YescryptParams → List ℕ → List ℕ → YescryptMeaning
 meaning params salt hash = record { params = params; salt = salt; hash = hash }
 
 -- ---- read
@@ -39,6 +40,7 @@ pub record IsTextOf (text : List ℕ) (m : YescryptMeaning) : Type 0 where
   pub least : 1 ≤ length m.salt
   pub most : length m.salt ≤ 64
   pub below : EachBelow 256 m.salt
+  pub hash_below : EachBelow 256 m.hash
   pub is : text ≡ yescrypt_text_of m.params m.salt m.hash
 
 of_pieces : (pieces : List (List ℕ)) (f : YescryptFields) → split_yescrypt pieces ≡ Ok f
@@ -77,6 +79,7 @@ by_hash text f p salt (Some hash) m is params_is salt_found hash_found h =
       least = of_salt.least;
       most = of_salt.most;
       below = of_salt.below;
+      hash_below = of_hash.below;
       is = is
           ∙ ap (λ (x : List ℕ). join_with_byte 36 ([] ∷ (codes "y" ∷ (x ∷ (f.salt ∷ (f.hash ∷ [])))))) params.1
           ∙ ap (λ (x : List ℕ). join_with_byte 36 ([] ∷ (codes "y" ∷ (yescrypt_params_text p ∷ (x ∷ (f.hash ∷ [])))))) of_salt.is
@@ -105,6 +108,7 @@ by_fields text (Ok f) m is h =
     by_params text f (yescrypt_params f.params) m
     (joined text f (pieces_behind (codes "y") text) refl is) refl h
 
+-- a text prints what is read from it
 pub text_is : (text : List ℕ) (m : YescryptMeaning) → yescrypt_text text ≡ Ok m → IsTextOf text m
 unfolding yescrypt_text
 text_is text m h = by_fields text (yescrypt_fields (pieces_behind (codes "y") text)) m refl h
@@ -136,14 +140,14 @@ passed password text h = by_text password text (yescrypt_text text) refl h
 
 -- ---- written
 
-text_read : (params : YescryptParams) (salt hash : List ℕ) → in_bounds params ≡ true → 1 ≤ length salt → length salt ≤ 64
+pub text_read : (params : YescryptParams) (salt hash : List ℕ) → in_bounds params ≡ true → 1 ≤ length salt → length salt ≤ 64
     → EachBelow 256 salt → length hash ≡ 32 → EachBelow 256 hash
     → yescrypt_text (yescrypt_text_of params salt hash) ≡ Ok (meaning params salt hash)
 unfolding yescrypt_text
 text_read params salt hash good least most below long hash_below =
     let pieces = pieces_read (codes "y") (yescrypt_params_text params ∷ (crypt_field salt ∷ (crypt_field hash ∷ [])))
     (lacks_dollar (codes "y") refl)
-    (params_lack params, (field_lacks salt below, (field_lacks hash hash_below, tt))) in
+    (params_lack params good, (field_lacks salt below, (field_lacks hash hash_below, tt))) in
     let of_params = text_of_params (yescrypt_params_text params) params (good, refl) in
     let of_salt = salt_read salt least most below in
     let of_hash = hash_read hash long hash_below in

@@ -4,7 +4,7 @@ use Rattle.std.specs.Prelude.{ℕ, ◌&&◌, ◌||◌, Bool, List, [], ◌∷◌
 use Rattle.std.specs.Prelude.{if◌then◌else◌}
 use Rattle.std.specs.Cmp.Lexicographic.{pointwise}
 use Rattle.std.specs.List.{list_all}
-use Rattle.pieces.specs.Characters.{dollar}
+use Rattle.pieces.specs.Characters.{dollar, is_crypt_character}
 use Rattle.pieces.specs.Lists.{is_empty}
 use Rattle.pieces.specs.Pieces.{pieces_at}
 use Rattle.yescrypt_plain.specs.Field.{hash_bytes, salt_bytes}
@@ -100,13 +100,9 @@ pub record ScryptMeaning : Type 0 where
   pub salt : List ℕ
   pub hash : List ℕ
 
--- `.`, `/`, `0` to `9`, `A` to `Z` and `a` to `z`
-abbrev pub is_character : ℕ → Bool
-is_character c = (nat_le 46 c && nat_le c 57) || (nat_le 65 c && nat_le c 90) || (nat_le 97 c && nat_le c 122)
-
 -- at most 86 of these characters
 abbrev pub is_scrypt_salt : List ℕ → Bool
-is_scrypt_salt salt = nat_le (length salt) 86 && list_all is_character salt
+is_scrypt_salt salt = nat_le (length salt) 86 && list_all is_crypt_character salt
 
 -- by the hash, the salt, and the parameters
 abbrev pub scrypt_by_hash : ScryptParams → List ℕ → Option (List ℕ) → Result ScryptMeaning TextFault

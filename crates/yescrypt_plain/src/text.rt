@@ -5,7 +5,7 @@ ghost use Rattle.std.specs.List.{list_all};
 ghost use Rattle.pieces.specs.Characters.{dollar};
 ghost use Rattle.pieces.specs.Pieces.{pieces_left};
 ghost use Rattle.yescrypt_plain.specs.Params.{in_bounds, scrypt_in_bounds};
-ghost use Rattle.yescrypt_plain.specs.Text.{is_character, is_scrypt_salt, pieces_behind, scrypt_by_salt, scrypt_fields, scrypt_text};
+ghost use Rattle.yescrypt_plain.specs.Text.{is_scrypt_salt, pieces_behind, scrypt_by_salt, scrypt_fields, scrypt_text};
 ghost use Rattle.yescrypt_plain.specs.Text.{split_scrypt, split_yescrypt, yescrypt_by_salt, yescrypt_fields, yescrypt_text};
 ghost use Rattle.yescrypt_plain.specs.Text.{yescrypt_of, scrypt_of};
 ghost use Rattle.yescrypt_plain.specs.Field.{salt_bytes};
@@ -15,6 +15,7 @@ use crate::field::{hash_bytes, salt_bytes};
 use crate::params::{read_scrypt_params, read_yescrypt_params};
 use crate::{ScryptParams, TextFault, YescryptParams};
 use base64ct::Counts;
+use pieces::characters::are_crypt_characters;
 use pieces::short_bytes::ShortBytes;
 use pieces::{first_piece, is_end};
 
@@ -188,25 +189,12 @@ pub(crate) fn yescrypt_text(text: &str, counts: &mut Counts) -> Result<YescryptP
     )
 }
 
-// Whether a byte is a character of crypt's alphabet.
-fn is_character(c: u8) -> bool
-    ensures { result ≡ is_character c }
-{
-    46 <= c && c <= 57 || 65 <= c && c <= 90 || 97 <= c && c <= 122
-}
-
-fn are_characters(text: &[u8]) -> bool
-    ensures { result ≡ list_all is_character text.now }
-{
-    text.iter().all(|c| is_character(*c))
-}
-
 /// Whether a text is the salt of a text `$7$`: at most 86 characters of crypt's alphabet.
 pub(crate) fn is_scrypt_salt(text: &[u8]) -> bool
     ensures value { result ≡ is_scrypt_salt text.now }
     ensures most { result ≡ true → length text.now ≤ 86 }
 {
-    text.len() <= 86 && are_characters(text)
+    text.len() <= 86 && are_crypt_characters(text)
 }
 
 // What a text `$7$` means, by its salt and its hash.

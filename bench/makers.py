@@ -1,0 +1,306 @@
+"""What each maker of `pwtool --from` writes, in Python: the stored text that a text is read as, or the word of its first fault.
+
+`converted(maker, text)` gives ("text", stored) or ("word", fault). The definitions are written by the makers' forms (docs/PROGRAMS.md) and
+not by the code: Python's own Base64, int and regular expressions read the fields. maker_texts.py compares them with the program.
+"""
+import base64
+import re
+
+SALT, KEY, FIELD = range(8, 49), range(10, 65), 128
+PLAIN = "ABCDEFGHIJKLMNOPQRSTUVWXYZabcdefghijklmnopqrstuvwxyz0123456789+/"
+CRYPT = "./0123456789ABCDEFGHIJKLMNOPQRSTUVWXYZabcdefghijklmnopqrstuvwxyz"
+
+
+class Fault(Exception):
+    pass
+
+
+def need(holds, word):
+    if not holds:
+        raise Fault(word)
+
+
+# ---- fields: each gives its value or raises the word
+
+def number(field, word):
+    need(re.fullmatch("0|[1-9][0-9]{0,9}", field, re.ASCII) and int(field) < 2 ** 32, word)
+    return int(field)
+
+
+def base64_of(field, padded):
+    need(len(field) <= FIELD and re.fullmatch("[A-Za-z0-9+/]*" + ("={0,2}" if padded else ""), field, re.ASCII), None)
+    whole = field if padded else field + "=" * (-len(field) % 4)
+    try:
+        got = base64.b64decode(whole, validate=True)
+    except ValueError:
+        raise Fault(None) from None
+    need(base64.b64encode(got).decode() == whole, None)
+    return got
+
+
+def padded(field):
+    return base64_of(field, True)
+
+
+def adapted(field):
+    need("+" not in field, None)
+    return base64_of(field.replace(".", "+"), False)
+
+
+def in_crypt(field):
+    need(re.fullmatch("[./0-9A-Za-z]*", field, re.ASCII), None)
+    return base64_of(field.translate(str.maketrans(CRYPT, PLAIN)), False)
+
+
+def digits(pattern):
+    def read(field):
+        need(len(field) <= FIELD and len(field) % 2 == 0 and re.fullmatch(pattern, field, re.ASCII), None)
+        return bytes.fromhex(field)
+    return read
+
+
+small = digits("[0-9a-f]*")
+small_or_capital = digits("[0-9a-f]*|[0-9A-F]*")
+
+
+def characters(field):
+    return field.encode()
+
+
+def cut(text, mark, count):
+    got = text.split(mark)
+    need(len(got) == count, "foreign-form")
+    return got
+
+
+# ---- records
+
+def bare(data):
+    return base64.b64encode(data).decode().rstrip("=")
+
+
+def record(front, salt, read_salt, key, read_key):
+    """A salt, its length, a key, its length."""
+    salt = read(read_salt, salt, "foreign-salt")
+    need(len(salt) in SALT, "foreign-salt-length")
+    key = read(read_key, key, "foreign-hash")
+    need(len(key) in KEY, "foreign-hash-length")
+    return f"${front}${bare(salt)}${bare(key)}"
+
+
+def read(reader, field, word):
+    try:
+        return reader(field)
+    except Fault:
+        raise Fault(word) from None
+
+
+def pbkdf2(name, rounds):
+    return f"pbkdf2-{name}$i={number(rounds, 'foreign-rounds')}"
+
+
+def scrypt(n, r, p):
+    n = number(n, "foreign-cost")
+    need(n >= 2 and bin(n).count("1") == 1, "foreign-cost")
+    return f"scrypt$ln={n.bit_length() - 1},r={number(r, 'foreign-cost')},p={number(p, 'foreign-cost')}"
+
+
+def as_it_is(text, sign):
+    need(text.startswith(sign), "foreign-form")
+    return text
+
+
+def crypts(text):
+    need(text.startswith("$"), "unsupported-des-crypt")
+    return text
+
+
+def unread(text, rows):
+    """The word of the first front that a text has, of rows of a word and fronts."""
+    for word, *fronts in rows:
+        if text.startswith(tuple(fronts)):
+            raise Fault(word if word.startswith("foreign") else "unsupported-" + word)
+    raise Fault("unsupported-scheme")
+
+
+def after(text, *fronts):
+    for front in fronts:
+        if text.startswith(front):
+            return text[len(front):]
+    return None
+
+
+def tagged(text, *tags):
+    """What comes after a tag in capital or in small letters."""
+    return after(text, *(form for tag in tags for form in ("{" + tag + "}", "{" + tag.lower() + "}")))
+
+
+# ---- makers
+
+def django(text):
+    if (rest := after(text, "pbkdf2_sha256$")) is not None:
+        rounds, salt, key = cut(rest, "$", 3)
+        return record(pbkdf2("sha256", rounds), salt, characters, key, padded)
+    if (rest := after(text, "scrypt$")) is not None:
+        n, salt, r, p, key = cut(rest, "$", 5)
+        return record(scrypt(n, r, p), salt, characters, key, padded)
+    if (rest := after(text, "argon2")) is not None:
+        return as_it_is(rest, "$argon2")
+    if (rest := after(text, "bcrypt$")) is not None:
+        return as_it_is(rest, "$2")
+    return unread(text, [("pbkdf2-sha1", "pbkdf2_sha1$"), ("bcrypt-sha256", "bcrypt_sha256$"), ("sha1", "sha1$", "unsalted_sha1$"),
+                         ("md5", "md5$", "unsalted_md5$"), ("des-crypt", "crypt$")])
+
+
+def werkzeug(text):
+    method, salt, key = cut(text, "$", 3)
+    words = method.split(":")
+    if words[0] == "scrypt" and len(words) > 1:
+        cost = scrypt(*cut(":".join(words[1:]), ":", 3))
+    elif words[0] == "pbkdf2" and len(words) > 2 and words[1] in ("sha256", "sha512"):
+        need(len(words) == 3, "foreign-form")
+        cost = pbkdf2(words[1], words[2])
+    else:
+        unread(method, [("pbkdf2-sha1", "pbkdf2:sha1"), ("foreign-form", "pbkdf2", "scrypt"), ("sha1", "sha1"), ("sha2", "sha"),
+                        ("md5", "md5"), ("cleartext", "plain")])
+    return record(cost, salt, characters, key, small)
+
+
+def passlib(text):
+    for name in ("sha256", "sha512"):
+        rest = after(text, f"$pbkdf2-{name}$")
+        if rest is not None and re.match("[0-9]", rest, re.ASCII):
+            rounds, salt, key = cut(rest, "$", 3)
+            return record(pbkdf2(name, rounds), salt, adapted, key, adapted)
+    if text.startswith("$") and not text.startswith(("$pbkdf2$", "$bcrypt-sha256$")):
+        return text
+    return unread(text, [("pbkdf2-sha1", "$pbkdf2$"), ("bcrypt-sha256", "$bcrypt-sha256$")])
+
+
+def digest(text):
+    need(text.startswith("{"), "unsupported-cleartext")
+    rows = [("cleartext", "CLEARTEXT"), ("pbkdf2-sha1", "PBKDF2-SHA1", "PBKDF2"), ("sha2", "SSHA256", "SSHA384", "SSHA512", "SHA256", "SHA384", "SHA512"),
+            ("sha1", "SSHA", "SHA"), ("md5", "SMD5", "MD5")]
+    return unread(text, [(word, *(form for tag in tags for form in ("{" + tag + "}", "{" + tag.lower() + "}"))) for word, *tags in rows])
+
+
+def ldap(text):
+    if (rest := tagged(text, "CRYPT")) is not None:
+        return crypts(rest)
+    if (rest := tagged(text, "ARGON2")) is not None:
+        return as_it_is(rest, "$argon2")
+    if (rest := tagged(text, "BCRYPT")) is not None:
+        return as_it_is(rest, "$2")
+    for name in ("sha256", "sha512"):
+        if (rest := tagged(text, f"PBKDF2-{name.upper()}")) is not None:
+            rounds, salt, key = cut(rest, "$", 3)
+            reader = padded if key.endswith("=") else adapted
+            return record(pbkdf2(name, rounds), salt, reader, key, reader)
+    return digest(text)
+
+
+def elasticsearch(text):
+    if (rest := after(text, "{PBKDF2}")) is not None:
+        rounds, salt, key = cut(rest, "$", 3)
+        return record(pbkdf2("sha512", rounds), salt, padded, key, padded)
+    return digest(text)
+
+
+DOVECOT = {"SHA512-CRYPT": "$6$", "SHA256-CRYPT": "$5$", "MD5-CRYPT": "$1$", "BLF-CRYPT": "$2", "ARGON2I": "$argon2i$", "ARGON2ID": "$argon2id$"}
+
+
+def dovecot(text):
+    for tag, sign in DOVECOT.items():
+        if (rest := tagged(text, tag)) is not None:
+            return as_it_is(rest, sign)
+    if (rest := tagged(text, "CRYPT")) is not None:
+        return crypts(rest)
+    for word, tags in (("scram", ("SCRAM-SHA-256", "SCRAM-SHA-1")), ("des-crypt", ("DES-CRYPT",)), ("cleartext", ("PLAIN", "CLEAR", "PLAIN-TRUNC")),
+                       ("md5", ("PLAIN-MD5", "LDAP-MD5", "CRAM-MD5", "HMAC-MD5", "DIGEST-MD5"))):
+        need(tagged(text, *tags) is None, "unsupported-" + word)
+    return digest(text)
+
+
+def spring_cost(field):
+    need(re.fullmatch("[1-9a-f][0-9a-f]{4,5}", field, re.ASCII), "foreign-cost")
+    cost = int(field, 16)
+    return f"scrypt$ln={cost >> 16},r={cost >> 8 & 255},p={cost & 255}"
+
+
+def spring(text):
+    if (rest := after(text, "{BCRYPT}", "{bcrypt}")) is not None:
+        return as_it_is(rest, "$2")
+    if (rest := after(text, "{argon2@SpringSecurity_v5_8}", "{argon2}")) is not None:
+        return as_it_is(rest, "$argon2")
+    if (rest := after(text, "{scrypt@SpringSecurity_v5_8}", "{scrypt}")) is not None:
+        front, cost, salt, key = cut(rest, "$", 4)
+        need(not front, "foreign-form")
+        return record(spring_cost(cost), salt, padded, key, padded)
+    if (rest := after(text, "{pbkdf2@SpringSecurity_v5_8}")) is not None:
+        need(len(rest.encode()) == 96, "foreign-form")
+        salt, key = rest.encode()[:32].decode("latin-1"), rest.encode()[32:].decode("latin-1")
+        return record("pbkdf2-sha256$i=310000", salt, small, key, small)
+    need(text.startswith("{"), "foreign-form")
+    return unread(text, [("pbkdf2-sha1", "{pbkdf2}"), ("sha1", "{SHA-1}"), ("sha2", "{SHA-256}", "{sha256}"), ("md5", "{MD5}"), ("cleartext", "{noop}")])
+
+
+def aspnet(text):
+    data = read(padded, text, "foreign-form")
+    need(data[:1] != b"\0", "unsupported-pbkdf2-sha1")
+    need(data[:1] == b"\1" and len(data) >= 13, "foreign-form")
+    prf, rounds, size = (int.from_bytes(data[at:at + 4], "big") for at in (1, 5, 9))
+    need(prf != 0, "unsupported-pbkdf2-sha1")
+    need(prf in (1, 2) and size <= len(data) - 13, "foreign-form")
+    need(rounds != 0, "foreign-rounds")
+    return record(f"pbkdf2-sha{256 * prf}$i={rounds}", data[13:13 + size], bytes, data[13 + size:], bytes)
+
+
+def cisco(text):
+    for front, cost in (("$8$", "pbkdf2-sha256$i=20000"), ("$9$", "scrypt$ln=14,r=1,p=1")):
+        if (rest := after(text, front)) is not None:
+            need(re.fullmatch(r"[./0-9A-Za-z]{14}\$[./0-9A-Za-z]{43}", rest, re.ASCII), "foreign-form")
+            return record(cost, rest[:14], characters, rest[15:], in_crypt)
+    need(text.startswith("$"), "unsupported-scheme")
+    return text
+
+
+def mosquitto(text):
+    if (rest := after(text, "$7$")) is not None:
+        rounds, salt, key = cut(rest, "$", 3)
+        return record(pbkdf2("sha512", rounds), salt, padded, key, padded)
+    need(not text.startswith("$6$"), "unsupported-sha2")
+    need(text.startswith("$"), "unsupported-scheme")
+    return text
+
+
+def mediawiki(text):
+    rest = after(text, ":pbkdf2:")
+    if rest is None:
+        return unread(text, [("md5", ":A:", ":B:")])
+    name, rounds, size, salt, key = cut(rest, ":", 5)
+    need(name != "sha1", "unsupported-pbkdf2-sha1")
+    need(name in ("sha256", "sha512"), "unsupported-scheme")
+    made = record(pbkdf2(name, rounds), salt, padded, key, padded)
+    need(number(size, "foreign-hash-length") == len(padded(key)), "foreign-hash-length")
+    return made
+
+
+def grub(text):
+    rest = after(text, "grub.pbkdf2.sha512.")
+    need(rest is not None, "unsupported-scheme")
+    rounds, salt, key = cut(rest, ".", 3)
+    return record(pbkdf2("sha512", rounds), salt, small_or_capital, key, small_or_capital)
+
+
+MAKERS = {maker.__name__: maker for maker in (django, werkzeug, passlib, ldap, elasticsearch, dovecot, spring, aspnet, cisco, mosquitto, mediawiki, grub)}
+OWN_DOLLAR = ("passlib", "cisco", "mosquitto")
+
+
+def converted(maker, text):
+    """The stored text, or the word of the first fault."""
+    if text.startswith("$") and maker not in OWN_DOLLAR:
+        return "text", text
+    try:
+        return "text", MAKERS[maker](text)
+    except Fault as fault:
+        return "word", str(fault)

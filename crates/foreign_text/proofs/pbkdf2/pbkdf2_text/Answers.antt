@@ -1,6 +1,0 @@
-use Rattle.std.proofs.Common.{rules}
-use Rattle.foreign_text.proofs.Records.{joined_is}
-use Rattle.foreign_text.proofs.pbkdf2.pbkdf2_text.Goals as goal
-
-pub returns : goal.returns
-returns c = joined_is c.args.hash c.args.rounds c.args.salt c.args.key _ (search rules)

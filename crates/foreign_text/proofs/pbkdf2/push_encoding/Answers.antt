@@ -1,9 +1,0 @@
-use Rattle.std.proofs.Common.{rules, arith}
-use Rattle.base64ct.specs.Encoding.{EachBelow}
-use Rattle.foreign_text.proofs.Lengths.{never_refused}
-use Rattle.foreign_text.proofs.pbkdf2.push_encoding.Goals as goal
-
-pub unreachable-requires : goal.unreachable-requires
-unreachable-requires c =
-    let small : EachBelow 256 c.args.bytes.now = search rules in
-    never_refused c.args.bytes.now 86 small c.requires.few (omega arith) (search rules)

@@ -1,0 +1,23 @@
+-- What a converter answers.
+use Rattle.std.specs.Prelude.{ℕ, List, Option, Some, None, Result, Ok, Err, if◌then◌else◌, codes}
+use Rattle.foreign_text.specs.Names.{begins}
+use Rattle.foreign_text.specs.declared.fault.ForeignFault.{ForeignFault}
+use Rattle.foreign_text.specs.declared.fault.ForeignFault.TheVariants.{Form, Unread}
+use Rattle.foreign_text.specs.declared.fault.Unread.TheVariants.{Other}
+
+-- the stored text, or the cause
+abbrev pub Answer : Type 0
+Answer = Result (List ℕ) ForeignFault
+
+-- what is read after a front, where the text begins with it; else the other
+abbrev pub or_behind : {A : Type 0} → (List ℕ → A) → Option (List ℕ) → A → A
+or_behind read None other = other
+or_behind read (Some rest) other = read rest
+
+-- a stored text that is there as it is: it has to begin with this
+abbrev pub as_it_is : List ℕ → List ℕ → Answer
+as_it_is sign rest = if begins rest sign then Ok rest else Err Form
+
+-- a text that begins with `$` is a stored text already; another one isn't read
+abbrev pub stored_or_unread : List ℕ → Answer
+stored_or_unread text = if begins text (codes "$") then Ok text else Err (Unread Other)

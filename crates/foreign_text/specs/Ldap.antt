@@ -1,0 +1,31 @@
+-- Texts of LDAP's `userPassword`: a tag, and what the module of that name writes.
+use Rattle.std.specs.Prelude.{ℕ, List, Ok, Err, if◌then◌else◌, codes}
+use Rattle.foreign_text.specs.Answers.{Answer, as_it_is, or_behind}
+use Rattle.foreign_text.specs.Encoded.{either_pbkdf2}
+use Rattle.foreign_text.specs.Names.{begins, behind_tag, ldap_unread}
+use Rattle.foreign_text.specs.declared.fault.ForeignFault.TheVariants.{Unread}
+use Rattle.foreign_text.specs.declared.fault.Unread.TheVariants.{DesCrypt}
+use Rattle.foreign_text.specs.declared.kdf.Pbkdf2Hash.TheVariants.{Sha256, Sha512}
+
+-- `{CRYPT}$6$..`: what crypt(3) takes; without a `$` it is of DES
+abbrev pub ldap_crypt : List ℕ → Answer
+ldap_crypt rest = if begins rest (codes "$") then Ok rest else Err (Unread DesCrypt)
+
+-- `{ARGON2}$argon2i$..` (OpenLDAP, contrib/slapd-modules/passwd/argon2)
+abbrev pub ldap_argon2 : List ℕ → Answer
+ldap_argon2 rest = as_it_is (codes "$argon2") rest
+
+-- `{BCRYPT}$2b$..` (Plone's AuthEncoding)
+abbrev pub ldap_bcrypt : List ℕ → Answer
+ldap_bcrypt rest = as_it_is (codes "$2") rest
+
+-- `{PBKDF2-SHA256}ROUNDS$SALT$KEY` and `{PBKDF2-SHA512}..`: 389 Directory Server (2.3, pwdhash) pads its fields, OpenLDAP (pw-pbkdf2)
+-- and passlib don't
+unfoldable pub ldap : List ℕ → Answer
+ldap text =
+    or_behind ldap_crypt (behind_tag text (codes "{CRYPT}") (codes "{crypt}"))
+    (or_behind ldap_argon2 (behind_tag text (codes "{ARGON2}") (codes "{argon2}"))
+    (or_behind ldap_bcrypt (behind_tag text (codes "{BCRYPT}") (codes "{bcrypt}"))
+    (or_behind (either_pbkdf2 Sha256) (behind_tag text (codes "{PBKDF2-SHA256}") (codes "{pbkdf2-sha256}"))
+    (or_behind (either_pbkdf2 Sha512) (behind_tag text (codes "{PBKDF2-SHA512}") (codes "{pbkdf2-sha512}"))
+    (Err (Unread (ldap_unread text)))))))

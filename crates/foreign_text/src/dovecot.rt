@@ -1,0 +1,84 @@
+//! Texts of Dovecot.
+
+ghost use Rattle.std.specs.Prelude.{◌≡◌};
+ghost use Rattle.foreign_text.specs.Dovecot.{dovecot, dovecot_digest, dovecot_plain, dovecot_unread};
+ghost use Rattle.foreign_text.specs.Views.{as_answer};
+ghost use Rattle.std.specs.Prelude.{ℕ, List};
+
+use crate::answers::as_it_is;
+use crate::ldap::{behind_tag, is_tagged, ldap_crypt, ldap_unread};
+use crate::{ForeignFault, Unread};
+
+// The scheme of a text that keeps the password, or another.
+fn dovecot_plain(text: &str) -> Unread
+    ensures { result ≡ dovecot_plain text.now }
+{
+    if is_tagged(text, "{PLAIN}", "{plain}")
+        || is_tagged(text, "{CLEAR}", "{clear}")
+        || is_tagged(text, "{PLAIN-TRUNC}", "{plain-trunc}")
+    {
+        Unread::Cleartext
+    } else {
+        ldap_unread(text)
+    }
+}
+
+// The scheme of an MD5 digest, or another.
+fn dovecot_digest(text: &str) -> Unread
+    ensures { result ≡ dovecot_digest text.now }
+{
+    if is_tagged(text, "{PLAIN-MD5}", "{plain-md5}")
+        || is_tagged(text, "{LDAP-MD5}", "{ldap-md5}")
+        || is_tagged(text, "{CRAM-MD5}", "{cram-md5}")
+        || is_tagged(text, "{HMAC-MD5}", "{hmac-md5}")
+        || is_tagged(text, "{DIGEST-MD5}", "{digest-md5}")
+    {
+        Unread::Md5
+    } else {
+        dovecot_plain(text)
+    }
+}
+
+// The scheme of a text that isn't read.
+fn dovecot_unread(text: &str) -> Unread
+    ensures { result ≡ dovecot_unread text.now }
+{
+    if is_tagged(text, "{SCRAM-SHA-256}", "{scram-sha-256}")
+        || is_tagged(text, "{SCRAM-SHA-1}", "{scram-sha-1}")
+    {
+        Unread::Scram
+    } else if is_tagged(text, "{DES-CRYPT}", "{des-crypt}") {
+        Unread::DesCrypt
+    } else {
+        dovecot_digest(text)
+    }
+}
+
+/// The stored text of a text of Dovecot.
+#[tactic(auto, unfolding(crate::specs::Dovecot::dovecot))]
+pub(crate) fn dovecot(text: &str) -> Result<Option<&str>, ForeignFault>
+    ensures { (made : List ℕ) → as_answer result made ≡ dovecot text.now }
+{
+    if let Some(rest) = behind_tag(text, "{SHA512-CRYPT}", "{sha512-crypt}") {
+        return as_it_is("$6$", rest);
+    }
+    if let Some(rest) = behind_tag(text, "{SHA256-CRYPT}", "{sha256-crypt}") {
+        return as_it_is("$5$", rest);
+    }
+    if let Some(rest) = behind_tag(text, "{MD5-CRYPT}", "{md5-crypt}") {
+        return as_it_is("$1$", rest);
+    }
+    if let Some(rest) = behind_tag(text, "{BLF-CRYPT}", "{blf-crypt}") {
+        return as_it_is("$2", rest);
+    }
+    if let Some(rest) = behind_tag(text, "{ARGON2I}", "{argon2i}") {
+        return as_it_is("$argon2i$", rest);
+    }
+    if let Some(rest) = behind_tag(text, "{ARGON2ID}", "{argon2id}") {
+        return as_it_is("$argon2id$", rest);
+    }
+    if let Some(rest) = behind_tag(text, "{CRYPT}", "{crypt}") {
+        return ldap_crypt(rest);
+    }
+    Err(ForeignFault::Unread(dovecot_unread(text)))
+}
