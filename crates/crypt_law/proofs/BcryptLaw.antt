@@ -24,7 +24,8 @@ use Rattle.bcrypt_plain.specs.declared.error.BcryptFault.{BcryptFault}
 use Rattle.bcrypt_plain.proofs.MadeTexts.{hash_below}
 use Rattle.any_check.specs.Table.{any_verdict, of_bcrypt_check, text_scheme}
 use Rattle.scheme_list.specs.declared.schemes.Scheme.TheVariants.{Bcrypt}
-use Rattle.crypt_text.specs.Settings.{BcryptSetting, bcrypt_setting, method_of}
+use Rattle.crypt_text.specs.Settings.{BcryptSetting, bcrypt_setting}
+use Rattle.scheme_list.specs.Schemes.{method_of}
 use Rattle.crypt_text.specs.Texts.{bcrypt_text, crypt_text, if_setting, method_text}
 use Rattle.crypt_law.proofs.Answers.{as_any}
 use Rattle.crypt_law.proofs.BcryptReadings.{bcrypt_read, setting_facts}
