@@ -1,19 +1,20 @@
 -- The settings of crypt(3) (crypt(5)), as libxcrypt 4.4.33 reads them: the bytes that none has, and for each
 -- method what is read behind its prefix, which `scheme_list` tells. A whole stored text is a setting: what follows the salt is ignored.
-use Rattle.std.specs.Prelude.{ℕ, ◌*◌, ◌/◌, ◌==◌, ◌&&◌, ◌||◌, not, Bool, true, false, List, [], ◌∷◌, ◌++◌, length, take, drop, nat_eq, nat_le}
+use Rattle.std.specs.Prelude.{ℕ, ◌*◌, ◌/◌, ◌==◌, ◌&&◌, ◌||◌, not, Bool, true, false, List, [], ◌∷◌, ◌++◌, length, take, drop, nat_le}
 use Rattle.std.specs.Prelude.{Option, Some, None, Result, Ok, Err, if◌then◌else◌, codes, slice_index}
-use Rattle.std.specs.List.{after_first, before_first, list_any, position_or_len, starts_with}
+use Rattle.std.specs.List.{after_first, before_first, list_any, position_or_len}
 use Rattle.base64ct.specs.Alphabets.{base64_bcrypt, base64_sha_crypt}
 use Rattle.base64ct.specs.Decoding.{decoding}
 use Rattle.base64ct.specs.Encoding.{character}
 use Rattle.pieces.specs.Characters.{dollar}
+pub use Rattle.pieces.specs.Pieces.{begins}
 use Rattle.pieces.specs.Pieces.{behind}
 use Rattle.bcrypt_plain.specs.Field.{field_bytes}
 use Rattle.bcrypt_plain.specs.Text.{cost_of}
 use Rattle.sha_crypt.specs.Fields.{plain_number}
 use Rattle.sha_crypt.specs.Limits.{rounds_default, rounds_max, rounds_min, salt_max_len}
 use Rattle.yescrypt_plain.specs.Params.{scrypt_params, yescrypt_params}
-use Rattle.yescrypt_plain.specs.Text.{is_character}
+use Rattle.pieces.specs.Characters.{is_crypt_character}
 use Rattle.yescrypt_plain.specs.declared.error.TextFault.{TextFault}
 use Rattle.yescrypt_plain.specs.declared.params.ScryptParams.{ScryptParams}
 use Rattle.yescrypt_plain.specs.declared.params.YescryptParams.{YescryptParams}
@@ -49,12 +50,6 @@ after_dollar text = after_first is_dollar text
 unfoldable pub before_last_dollar : List ℕ → List ℕ
 before_last_dollar [] = []
 before_last_dollar (b ∷ text) = if is_dollar b && not (has_dollar text) then [] else b ∷ before_last_dollar text
-
--- ---- beginnings
-
--- a text begins with this front
-abbrev pub begins : List ℕ → List ℕ → Bool
-begins text front = starts_with nat_eq text front
 
 -- ---- `$1$`: the rest behind it begins with the salt
 
@@ -134,7 +129,7 @@ pub record ScryptSetting : Type 0 where
 unfoldable pub are_salt_bytes : Bool → List ℕ → Bool
 are_salt_bytes behind_dollar [] = true
 are_salt_bytes behind_dollar (b ∷ text) =
-    if is_character b || is_dollar b then are_salt_bytes (is_dollar b) text else behind_dollar
+    if is_crypt_character b || is_dollar b then are_salt_bytes (is_dollar b) text else behind_dollar
 
 -- by the parameters, and what stands behind them: the salt ends at the last `$`
 abbrev pub scrypt_by_params : Result ScryptParams TextFault → List ℕ → Option ScryptSetting

@@ -2,7 +2,6 @@
 
 ghost use Rattle.std.specs.Prelude.{◌≡◌, ◌≤◌, ◌<◌, ◌+◌, ◌*◌, ◌/◌, ◌++◌, length};
 ghost use Rattle.bcrypt_plain.specs.Made.{two_digits};
-ghost use Rattle.sha_crypt.specs.Records.{rounds_part};
 ghost use Rattle.yescrypt_plain.specs.Field.{crypt_field};
 
 use base64ct::{Base64ShaCrypt, Encoding};
@@ -27,17 +26,4 @@ pub(crate) fn two_digits(n: u32) -> [u8; 2]
     ensures { result ≡ two_digits n }
 {
     [48 + (n / 10) as u8, 48 + (n % 10) as u8]
-}
-
-/// Appends what names the rounds, where they are written.
-pub(crate) fn push_rounds<const N: usize>(text: &mut ShortBytes<N>, written: bool, rounds: u64)
-    requires room { length text.old + 28 ≤ N }
-    ensures appended { text.new ≡ text.old ++ rounds_part written rounds }
-    ensures len { length text.new ≤ length text.old + 28 }
-{
-    if written {
-        text.push_all(b"rounds=");
-        text.push_decimal(rounds);
-        text.push_all(b"$");
-    }
 }

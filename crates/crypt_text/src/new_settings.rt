@@ -5,11 +5,11 @@ ghost use Rattle.crypt_text.specs.NewSettings.{bcrypt_new, group_salt, long_salt
 ghost use Rattle.scheme_list.specs.Schemes.{method_of};
 
 use crate::bytes::front;
-use crate::fields::{crypt_field, push_rounds, two_digits};
+use crate::fields::{crypt_field, two_digits};
 use bcrypt_plain::encode_salt;
 use pieces::short_bytes::ShortBytes;
 use scheme_list::{Scheme, method_of};
-use sha_crypt::Family;
+use sha_crypt::{Family, push_rounds};
 use yescrypt_plain::{ScryptParams, YescryptParams, scrypt_params_text, yescrypt_params_text};
 
 /// Room for the longest new setting, of `$7$` with a salt of 64 bytes.
@@ -75,7 +75,7 @@ fn sha_new(family: Family, count: u64, bytes: &[u8]) -> Option<ShortBytes<SETTIN
         Family::Sha512 => b"$6$",
     });
     let rounds = new_rounds(count);
-    push_rounds(&mut setting, rounds != 5_000, rounds);
+    push_rounds(&mut setting, rounds != 5_000, rounds as usize);
     setting.push_all(group_salt(12, bytes).as_slice());
     Some(setting)
 }

@@ -3,7 +3,7 @@
 ghost use Rattle.std.specs.Prelude.{◌≡◌, ◌≤◌, ◌+◌, ◌++◌, ◌||◌, IfSome, codes, drop, false, is_ok, length, take, true};
 ghost use Rattle.yescrypt_plain.specs.Field.{crypt_field};
 ghost use Rattle.yescrypt_plain.specs.Params.{scrypt_in_bounds};
-ghost use Rattle.yescrypt_plain.specs.Text.{is_character};
+ghost use Rattle.pieces.specs.Characters.{is_crypt_character};
 ghost use Rattle.crypt_text.specs.Limits.{phrase_max, setting_max};
 ghost use Rattle.crypt_text.specs.Settings.{are_salt_bytes, is_dollar, scrypt_setting};
 ghost use Rattle.crypt_text.specs.Texts.{IsAnswer, if_setting, if_short, scrypt_text};
@@ -13,6 +13,7 @@ use crate::bytes::before_last_dollar;
 use crate::fields::crypt_field;
 use crate::texts::LONG_SETTING_MAX;
 use crate::{CryptError, TEXT_MAX};
+use pieces::characters::is_crypt_character;
 use pieces::short_bytes::ShortBytes;
 use std::alloc::{AllocError, Global};
 use yescrypt_plain::{CryptKept, ScryptParams, read_scrypt_params};
@@ -24,18 +25,11 @@ struct ScryptParts<'a> {
     salt: &'a [u8],
 }
 
-// Whether a byte is a character of crypt's alphabet.
-fn is_character(c: u8) -> bool
-    ensures { result ≡ is_character c }
-{
-    46 <= c && c <= 57 || 65 <= c && c <= 90 || 97 <= c && c <= 122
-}
-
 // Whether a byte is a character or `$`.
 fn is_salt_byte(b: u8) -> bool
-    ensures { result ≡ (is_character b || is_dollar b) }
+    ensures { result ≡ (is_crypt_character b || is_dollar b) }
 {
-    is_character(b) || b == b'$'
+    is_crypt_character(b) || b == b'$'
 }
 
 // Whether the first byte that is neither a character nor `$` stands right behind a `$`.

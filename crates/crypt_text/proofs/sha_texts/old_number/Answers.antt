@@ -1,4 +1,4 @@
-use Rattle.crypt_text.proofs.Rounds.{number_parsed}
+use Rattle.sha_crypt.proofs.Numbers.{number_parsed}
 use Rattle.crypt_text.proofs.sha_texts.old_number.Goals as goal
 
 pub returns-in-Ok : goal.returns-in-Ok
