@@ -12,7 +12,6 @@ mod bytes;
 mod error;
 mod fields;
 mod md5_texts;
-mod methods;
 mod new_settings;
 mod scrypt_texts;
 mod sha_texts;
