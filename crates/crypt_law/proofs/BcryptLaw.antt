@@ -1,36 +1,30 @@
 -- The law for texts of bcrypt.
-use Rattle.std.proofs.Common.{◌≡◌, ℕ, suc, ◌+◌, ◌/◌, ◌%◌, ◌≤◌, Bool, true, false, List, [], ◌∷◌, ◌++◌, length, map, refl, sym, ap, ◌∙◌, arith}
-use Rattle.std.proofs.Common.{inl, inr, Option, Some, None, Result, Ok, Err}
-use Rattle.std.specs.Prelude.{◌↔◌, ◌⊎◌, ◌||◌, codes, nat_eq}
-use Rattle.std.specs.Cmp.Lexicographic.{pointwise}
-use Rattle.std.proofs.lemmas.Bool.{false≢true}
+use Rattle.std.proofs.Common.{◌≡◌, ℕ, ◌+◌, ◌/◌, ◌%◌, ◌≤◌, Bool, true, false, List, ◌∷◌, ◌++◌, length, refl, sym, ap, ◌∙◌, arith}
+use Rattle.std.proofs.Common.{inl, inr, Some, Result, Ok, Err}
+use Rattle.std.specs.Prelude.{◌↔◌, codes, if◌then◌else◌}
 use Rattle.std.proofs.lemmas.Bool.Decides.{nat_tests}
-use Rattle.base64ct.specs.Alphabets.{base64_bcrypt}
-use Rattle.base64ct.specs.Encoding.{EachBelow, character, encoding, groups}
-use Rattle.base64ct.proofs.DecodingLaws.{same_true}
-use Rattle.base64ct.proofs.Encodings.{groups-below}
+use Rattle.base64ct.specs.Encoding.{EachBelow}
 use Rattle.phc.specs.declared.password_hash.PasswordHash.{PasswordHash}
 use Rattle.pieces.specs.Pieces.{pieces_at}
-use Rattle.pieces.proofs.ByteTests.{all_append, passes_at}
+use Rattle.pieces.proofs.ByteTests.{all_append}
 use Rattle.bcrypt_plain.specs.Bcrypt.{bcrypt}
-use Rattle.bcrypt_plain.specs.Check.{bcrypt_answer, has_zero, parts_answer}
+use Rattle.bcrypt_plain.specs.Check.{bcrypt_answer, has_zero, hash_matches, parts_answer}
 use Rattle.bcrypt_plain.specs.Field.{bcrypt_field}
-use Rattle.bcrypt_plain.specs.Laws.{MatchesExactly}
-use Rattle.bcrypt_plain.specs.Made.{IsHashText, text_of, two_digits}
+use Rattle.bcrypt_plain.specs.Made.{text_of, two_digits}
 use Rattle.bcrypt_plain.specs.Text.{Parts, text_parts, version_of}
-use Rattle.bcrypt_plain.specs.declared.error.BcryptError.{BcryptError}
 use Rattle.bcrypt_plain.specs.declared.error.BcryptError.TheVariants as of_bcrypt
 use Rattle.bcrypt_plain.specs.declared.error.BcryptFault.{BcryptFault}
-use Rattle.bcrypt_plain.proofs.MadeTexts.{hash_below}
+use Rattle.bcrypt_plain.proofs.MadeTexts.{field_passes, hash_below, hash_long, parts, text_read}
+use Rattle.bcrypt_plain.proofs.ReadTexts.{current_is, current_lacks, text_is}
 use Rattle.any_check.specs.Table.{any_verdict, of_bcrypt_check, text_scheme}
 use Rattle.scheme_list.specs.declared.schemes.Scheme.TheVariants.{Bcrypt}
-use Rattle.crypt_text.specs.Settings.{BcryptSetting, bcrypt_setting}
+use Rattle.crypt_text.specs.Settings.{bcrypt_setting}
 use Rattle.scheme_list.specs.Schemes.{method_of}
 use Rattle.crypt_text.specs.Texts.{bcrypt_text, crypt_text, if_setting, method_text}
-use Rattle.crypt_law.proofs.Answers.{as_any}
-use Rattle.crypt_law.proofs.BcryptReadings.{bcrypt_read, setting_facts}
+use Rattle.crypt_law.proofs.Answers.{IsTold, as_any, told_of}
+use Rattle.crypt_law.proofs.BcryptReadings.{bcrypt_read}
 use Rattle.crypt_law.proofs.Clean.{are_clean, is_clean, none_refused}
-use Rattle.crypt_law.proofs.Prefixes.{crypt_is, crypt_taken, ok_text, row_is}
+use Rattle.crypt_law.proofs.Prefixes.{crypt_is, law_by, row_is}
 
 -- the letters of the three prefixes
 pub data Letter : Type 0 where
@@ -67,60 +61,20 @@ current of_a = refl
 current of_b = refl
 current of_y = refl
 
-text_is : (l : Letter) (cost : ℕ) (salt hash : List ℕ)
+printed_is : (l : Letter) (cost : ℕ) (salt hash : List ℕ)
     → text_of (id l) cost salt hash ≡ whole l (two_digits cost ++ 36 ∷ (bcrypt_field salt ++ bcrypt_field hash))
-text_is of_a cost salt hash = refl
-text_is of_b cost salt hash = refl
-text_is of_y cost salt hash = refl
-
--- ---- identifiers
-
-obsolete_other : version_of (codes "2") ≡ version_of (codes "2b") → ⊥
-obsolete_other h = cc
-
-none_other : version_of [] ≡ version_of (codes "2b") → ⊥
-none_other h = cc
-
-one_of_three : (p q r : Bool) → (p || q || r) ≡ true → (p ≡ true) ⊎ ((q ≡ true) ⊎ (r ≡ true))
-one_of_three true q r h = inl refl
-one_of_three false true r h = inr (inl refl)
-one_of_three false false true h = inr (inr refl)
-one_of_three false false false h = absurd (false≢true h)
-
-abbrev is_letter : List ℕ → Bool
-is_letter name =
-    pointwise nat_eq name (codes "2a") || pointwise nat_eq name (codes "2b") || pointwise nat_eq name (codes "2y")
-
-abbrev is_obsolete : List ℕ → Bool
-is_obsolete name = pointwise nat_eq name (codes "2") || pointwise nat_eq name (codes "2x")
-
-by_tests : (name : List ℕ) (t u : Bool) → is_letter name ≡ t → is_obsolete name ≡ u
-    → version_of name ≡ version_of (codes "2b") → is_letter name ≡ true
-by_tests name true u is_t is_u h = is_t
-by_tests name false true is_t is_u h = absurd (obsolete_other (rw (is_t, is_u) at h))
-by_tests name false false is_t is_u h = absurd (none_other (rw (is_t, is_u) at h))
+printed_is of_a cost salt hash = refl
+printed_is of_b cost salt hash = refl
+printed_is of_y cost salt hash = refl
 
 letter_of : (name : List ℕ) → version_of name ≡ version_of (codes "2b") → (l : Letter) × (name ≡ id l)
 letter_of name h =
-    elim (one_of_three (pointwise nat_eq name (codes "2a")) (pointwise nat_eq name (codes "2b"))
-    (pointwise nat_eq name (codes "2y")) (by_tests name (is_letter name) (is_obsolete name) refl refl h)) [
-      | inl is ↦ (of_a, same_true name (codes "2a") is)
-      | inr (inl is) ↦ (of_b, same_true name (codes "2b") is)
-      | inr (inr is) ↦ (of_y, same_true name (codes "2y") is)
-    ]
+    elim (current_is name h) [ inl is ↦ (of_a, is) | inr (inl is) ↦ (of_b, is) | inr (inr is) ↦ (of_y, is) ]
 
 -- ---- the characters of a text
 
-values_pass : (values : List ℕ) → EachBelow 64 values → are_clean (map (character base64_bcrypt) values) ≡ true
-values_pass [] below = refl
-values_pass (v ∷ values) below =
-    rw (passes_at is_clean base64_bcrypt.characters v refl (below 0)) (values_pass values (λ i. below (suc i)))
-
 field_clean : (bytes : List ℕ) → EachBelow 256 bytes → are_clean (bcrypt_field bytes) ≡ true
-unfolding encoding
-field_clean bytes below =
-    all_append is_clean (map (character base64_bcrypt) (groups false bytes)) []
-    (values_pass (groups false bytes) (groups-below false bytes below)) refl
+field_clean bytes below = field_passes is_clean bytes refl below
 
 digit_clean : (n : ℕ) → n ≤ 9 → is_clean (48 + n) ≡ true
 digit_clean n h = grind (arith, nat_tests, h)
@@ -136,101 +90,71 @@ whole_clean of_a rest h = h
 whole_clean of_b rest h = h
 whole_clean of_y rest h = h
 
--- ---- a text of the password's hash is made again
+-- ---- a text is read as a setting
 
-made_again : (l : Letter) (phrase salt : List ℕ) (cost : ℕ) → length phrase ≤ 511 → 4 ≤ cost → cost ≤ 31
-    → length salt ≡ 16 → EachBelow 256 salt
-    → crypt_text phrase (text_of (id l) cost salt (bcrypt phrase salt cost))
-    ≡ Ok (text_of (id l) cost salt (bcrypt phrase salt cost))
-made_again l phrase salt cost short least most len below =
-    let hash : List ℕ = bcrypt phrase salt cost in
-    let rest : List ℕ = two_digits cost ++ 36 ∷ (bcrypt_field salt ++ bcrypt_field hash) in
-    let clean = none_refused (whole l rest)
-    (whole_clean l rest (rest_clean cost salt hash most below (hash_below phrase salt cost))) in
-    ap (crypt_text phrase) (text_is l cost salt hash)
+made_from : (l : Letter) (phrase salt own : List ℕ) (cost : ℕ) → length phrase ≤ 511 → 4 ≤ cost → cost ≤ 31
+    → length salt ≡ 16 → EachBelow 256 salt → EachBelow 256 own
+    → crypt_text phrase (text_of (id l) cost salt own) ≡ Ok (text_of (id l) cost salt (bcrypt phrase salt cost))
+made_from l phrase salt own cost short least most len below own_below =
+    let rest : List ℕ = two_digits cost ++ 36 ∷ (bcrypt_field salt ++ bcrypt_field own) in
+    let clean = none_refused (whole l rest) (whole_clean l rest (rest_clean cost salt own most below own_below)) in
+    ap (crypt_text phrase) (printed_is l cost salt own)
     ∙ crypt_is phrase (whole l rest) short clean
     ∙ method_is l phrase rest
-    ∙ ap (if_setting (bcrypt_text (id l) phrase)) (bcrypt_read cost salt (bcrypt_field hash) least most len below)
+    ∙ ap (if_setting (bcrypt_text (id l) phrase)) (bcrypt_read cost salt (bcrypt_field own) least most len below)
 
--- ---- the answer
+-- ---- the verdict
 
-abbrev passed : Result (Unit {0}) BcryptError
-passed = Ok tt
+by_tests : (zero same matches : Bool)
+    → of_bcrypt_check (if zero then Err of_bcrypt.ZeroByte else (if same then Ok tt else Err of_bcrypt.HashMismatch))
+    ≡ as_any matches → same ≡ matches
+by_tests true same matches h = absurd cc
+by_tests false true matches h = cc
+by_tests false false matches h = cc
 
-abbrev mismatch : Result (Unit {0}) BcryptError
-mismatch = Err of_bcrypt.HashMismatch
-
-told : (r : Result (Unit {0}) BcryptError) (m : Bool) → of_bcrypt_check r ≡ as_any m
-    → ((r ≡ passed) × (m ≡ true)) ⊎ ((r ≡ mismatch) × (m ≡ false))
-told (Ok done) m h = inl (refl, cc)
-told (Err of_bcrypt.HashMismatch) m h = inr (refl, cc)
-told (Err of_bcrypt.ZeroByte) m h = absurd cc
-told (Err (of_bcrypt.InvalidFormat e)) m h = absurd cc
-
-zero_by : (phrase : List ℕ) (r : Result Parts BcryptFault) (z : Bool) → has_zero phrase ≡ z
-    → (parts_answer phrase r ≡ passed) ⊎ (parts_answer phrase r ≡ mismatch) → has_zero phrase ≡ false
-zero_by phrase r false is h = is
-zero_by phrase (Err e) true is (inl h) = absurd cc
-zero_by phrase (Err e) true is (inr h) = absurd cc
-zero_by phrase (Ok p) true is (inl h) = absurd (let none = rw is at h in cc)
-zero_by phrase (Ok p) true is (inr h) = absurd (let none = rw is at h in cc)
-
-no_zero : (phrase text : List ℕ) → (bcrypt_answer phrase text ≡ passed) ⊎ (bcrypt_answer phrase text ≡ mismatch)
-    → has_zero phrase ≡ false
+told_by : (phrase text : List ℕ) (matches : Bool) → of_bcrypt_check (bcrypt_answer phrase text) ≡ as_any matches
+    → IsTold (text_parts text) (hash_matches phrase) matches
 unfolding bcrypt_answer
-no_zero phrase text h = zero_by phrase (text_parts text) (has_zero phrase) refl h
-
-other_answers : (r : Result (Unit {0}) BcryptError) → r ≡ passed → r ≡ mismatch → ⊥
-other_answers r p q = let both = sym p ∙ q in cc
+told_by phrase text matches h =
+    told_of (λ r. of_bcrypt_check (parts_answer phrase r)) as_any (hash_matches phrase) (λ e b none. cc)
+    (λ p b told. by_tests (has_zero phrase) (hash_matches phrase p) b told) (text_parts text) matches h
 
 -- ---- the law
 
-hash_text : (l : Letter) (phrase rest : List ℕ) (o : Option BcryptSetting) → bcrypt_setting rest ≡ o
-    → if_setting (bcrypt_text (id l) phrase) o ≡ Ok (whole l rest) → IsHashText phrase (whole l rest)
-hash_text l phrase rest None is h = absurd cc
-hash_text l phrase rest (Some s) is h =
-    let facts = setting_facts rest s is in (
-      id l,
-      s.cost,
-      s.salt,
-      current l,
-      facts.least,
-      facts.most,
-      facts.long,
-      facts.below,
-      sym (ok_text (bcrypt_text (id l) phrase s) (whole l rest) h),
-    )
+abbrev found : Parts → Result Parts BcryptFault
+found p = Ok p
 
-module _ (exact : MatchesExactly) (accepted : PasswordHash → List ℕ → ℕ → Bool)
-    (tag : List ℕ → PasswordHash → List ℕ → ℕ → List ℕ) where
-  from_match : (l : Letter) (phrase rest : List ℕ) → length phrase ≤ 511 → bcrypt_answer phrase (whole l rest) ≡ passed
-      → crypt_text phrase (whole l rest) ≡ Ok (whole l rest)
-  from_match l phrase rest short h =
-      let t = ((exact phrase (whole l rest)).0 h).1 in
-      let letter = letter_of t.0 t.3 in
-      let is : whole l rest ≡ text_of (id letter.0) t.1 t.2 (bcrypt phrase t.2 t.1) =
-      t.8 ∙ ap (λ (n : List ℕ). text_of n t.1 t.2 (bcrypt phrase t.2 t.1)) letter.1 in
-      ap (crypt_text phrase) is ∙ made_again letter.0 phrase t.2 t.1 short t.4 t.5 t.6 t.7 ∙ ap Ok (sym is)
+hash_same : (p q : Parts) → found p ≡ found q → p.hash ≡ q.hash
+hash_same p q h = let same : p ≡ q = cc in ap (λ (r : Parts). r.hash) same
 
-  to_match : (l : Letter) (phrase rest : List ℕ) → length phrase ≤ 511 → has_zero phrase ≡ false
-      → crypt_text phrase (whole l rest) ≡ Ok (whole l rest) → bcrypt_answer phrase (whole l rest) ≡ passed
-  to_match l phrase rest short none h =
-      let by_method = crypt_taken phrase (whole l rest) (whole l rest) short h in
-      (exact phrase (whole l rest)).1
-      (none, hash_text l phrase rest (bcrypt_setting rest) refl (sym (method_is l phrase rest) ∙ by_method))
+-- two texts with one salt and one cost have one hash
+hash_once : (l : Letter) (salt hash own : List ℕ) (cost : ℕ) → 4 ≤ cost → cost ≤ 31 → length salt ≡ 16
+    → EachBelow 256 salt → length hash ≡ 23 → EachBelow 256 hash → length own ≡ 23 → EachBelow 256 own
+    → text_of (id l) cost salt hash ≡ text_of (id l) cost salt own → hash ≡ own
+hash_once l salt hash own cost least most len below hash_len hash_small own_len own_small same =
+    let lacks = current_lacks (id l) (current l) in
+    hash_same (parts cost salt hash) (parts cost salt own)
+    (sym (text_read (id l) cost salt hash lacks (current l) least most len below hash_len hash_small)
+    ∙ ap text_parts same
+    ∙ text_read (id l) cost salt own lacks (current l) least most len below own_len own_small)
 
-  pub bcrypt_law : (l : Letter) (phrase rest : List ℕ) (m : Bool) → length phrase ≤ 511
-      → any_verdict accepted tag phrase (whole l rest) ≡ as_any m
-      → (crypt_text phrase (whole l rest) ≡ Ok (whole l rest)) ↔ (m ≡ true)
-  bcrypt_law l phrase rest m short h =
+module _ (accepted : PasswordHash → List ℕ → ℕ → Bool) (tag : List ℕ → PasswordHash → List ℕ → ℕ → List ℕ) where
+  pub bcrypt_law : (l : Letter) (phrase rest : List ℕ) (matches : Bool) → length phrase ≤ 511
+      → any_verdict accepted tag phrase (whole l rest) ≡ as_any matches
+      → (crypt_text phrase (whole l rest) ≡ Ok (whole l rest)) ↔ (matches ≡ true)
+  bcrypt_law l phrase rest matches short h =
       let text : List ℕ = whole l rest in
-      let answer = told (bcrypt_answer phrase text) m
+      let answer = told_by phrase text matches
       (sym (row_is accepted tag phrase text Bcrypt short (scheme_is l rest)) ∙ h) in
-      elim answer [
-        | inl passes ↦ ((λ same. passes.1), (λ matches. from_match l phrase rest short passes.0))
-        | inr fails ↦ (
-          (λ same. absurd (other_answers (bcrypt_answer phrase text)
-              (to_match l phrase rest short (no_zero phrase text (inr fails.0)) same) fails.0)),
-          (λ matches. absurd (false≢true (sym fails.1 ∙ matches))),
-        )
-      ]
+      let p = answer.means in
+      let found = text_is text p answer.are in
+      let letter = letter_of found.id found.current in
+      let is : text ≡ text_of (id letter.0) p.cost p.salt p.hash =
+      found.is ∙ ap (λ (n : List ℕ). text_of n p.cost p.salt p.hash) letter.1 in
+      law_by phrase text (text_of (id letter.0) p.cost p.salt) (bcrypt phrase p.salt p.cost) p.hash matches
+      (ap (crypt_text phrase) is
+      ∙ made_from letter.0 phrase p.salt p.hash p.cost short found.least found.most found.long found.below found.hash_below)
+      is
+      (hash_once letter.0 p.salt (bcrypt phrase p.salt p.cost) p.hash p.cost found.least found.most found.long found.below
+      (hash_long phrase p.salt p.cost) (hash_below phrase p.salt p.cost) found.hash_long found.hash_below)
+      answer.told

@@ -1,23 +1,20 @@
 -- A text of bcrypt, read as a setting; and what a setting that is read says.
-use Rattle.std.proofs.Common.{◌≡◌, ℕ, zero, suc, ◌+◌, ◌*◌, ◌/◌, ◌%◌, ◌<◌, ◌≤◌, Bool, true, false, List, [], ◌∷◌, ◌++◌}
-use Rattle.std.proofs.Common.{length, map, take, drop, refl, sym, ap, subst, ◌∙◌, arith, slice_index}
-use Rattle.std.specs.Prelude.{◌==◌, ◌&&◌, nat_le, Option, Some, None, if◌then◌else◌}
-use Rattle.std.proofs.lemmas.Bool.{and_parts}
+use Rattle.std.proofs.Common.{◌≡◌, ℕ, zero, suc, ◌+◌, ◌*◌, ◌/◌, ◌%◌, ◌<◌, ◌≤◌, true, false, List, [], ◌∷◌, ◌++◌}
+use Rattle.std.proofs.Common.{length, map, take, drop, refl, sym, ap, ◌∙◌, arith, slice_index}
+use Rattle.std.specs.Prelude.{◌==◌, nat_le, Some}
 use Rattle.std.proofs.lemmas.Bool.Decides.{nat_tests}
-use Rattle.std.proofs.lemmas.List.{append-nil, get_or-map, length-append, take-append-drop, drop_all}
-use Rattle.std.proofs.lemmas.Option.{none-some}
-use Rattle.std.proofs.Math.Seq.{drop-cons, take-append_seam}
+use Rattle.std.proofs.lemmas.List.{append-nil, get_or-map, length-append, take-append-drop, take_at, drop_all}
+use Rattle.std.proofs.Math.Seq.{drop-cons}
 use Rattle.base64ct.specs.Alphabets.{base64_bcrypt}
-use Rattle.base64ct.specs.Decoding.{decoding}
 use Rattle.base64ct.specs.Encoding.{EachBelow, character, encoding, groups}
-use Rattle.base64ct.proofs.DecodingLaws.{decoding-Some, decoding-encoding, length-decodable}
+use Rattle.base64ct.proofs.DecodingLaws.{decoding-encoding, length-decodable}
 use Rattle.base64ct.proofs.Encodings.{length-groups}
 use Rattle.base64ct.proofs.Sextets.{groups-one, groups-three}
 use Rattle.base64ct.proofs.Values.{value-character}
 use Rattle.bcrypt_plain.specs.Field.{bcrypt_field, field_bytes}
 use Rattle.bcrypt_plain.specs.Made.{two_digits}
-use Rattle.bcrypt_plain.specs.Text.{cost_of, is_cost, is_two_digits, two_digit_number}
-use Rattle.crypt_text.specs.Settings.{BcryptSetting, bcrypt_by_parts, bcrypt_setting, cleared, cleared_salt}
+use Rattle.bcrypt_plain.proofs.MadeTexts.{cost_read}
+use Rattle.crypt_text.specs.Settings.{BcryptSetting, bcrypt_setting, cleared, cleared_salt}
 
 -- ---- the last value of 16 bytes has two bits, and four that are zero
 
@@ -84,22 +81,12 @@ field_cleared salt len below =
 
 -- ---- a text is read
 
-cost_read : (n : ℕ) → 4 ≤ n → n ≤ 31 → cost_of (two_digits n) ≡ Some n
-cost_read n least most =
-    let number : two_digit_number (two_digits n) ≡ n = omega (arith, most) in
-    let digits : is_two_digits (two_digits n) ≡ true = grind (arith, nat_tests, most) in
-    let good : is_cost n ≡ true = grind (arith, nat_tests, least, most) in
-    rw (digits, number, good) refl
-
-front_of : (m : ℕ) (xs ys : List ℕ) → length xs ≡ m → take m (xs ++ ys) ≡ xs
-front_of m xs ys len = ap (λ (k : ℕ). take k (xs ++ ys)) (sym len) ∙ take-append_seam xs ys
-
 salt_read : (salt more : List ℕ) → length salt ≡ 16 → EachBelow 256 salt
     → field_bytes 22 (cleared_salt (take 22 (bcrypt_field salt ++ more))) ≡ Some salt
 salt_read salt more len below =
     let long = field_long salt len below in
     let test : (length (bcrypt_field salt) == 22) ≡ true = grind (arith, nat_tests, long) in
-    ap (λ (t : List ℕ). field_bytes 22 (cleared_salt t)) (front_of 22 (bcrypt_field salt) more long)
+    ap (λ (t : List ℕ). field_bytes 22 (cleared_salt t)) (take_at (bcrypt_field salt) more 22 long)
     ∙ ap (field_bytes 22) (field_cleared salt len below)
     ∙ rw test (decoding-encoding base64_bcrypt salt refl below)
 
@@ -116,57 +103,3 @@ bcrypt_read cost salt more least most len below =
     let test : nat_le 25 (length (two_digits cost ++ 36 ∷ (bcrypt_field salt ++ more))) ≡ true =
     grind (arith, nat_tests, room) in
     rw (test, cost_read cost least most, salt_read salt more len below) refl
-
--- ---- what is read
-
-pub record IsBcryptSetting (s : BcryptSetting) : Type 0 where
-  pub least : 4 ≤ s.cost
-  pub most : s.cost ≤ 31
-  pub long : length s.salt ≡ 16
-  pub below : EachBelow 256 s.salt
-
-kept : (t : Bool) (m n : ℕ) → (if t then Some m else None) ≡ Some n → (t ≡ true) × (m ≡ n)
-kept true m n h = (refl, cc)
-kept false m n h = absurd (none-some n h)
-
-cost_range : (t : List ℕ) (n : ℕ) → cost_of t ≡ Some n → (4 ≤ n) × (n ≤ 31)
-cost_range t n h =
-    let found = kept (is_two_digits t && is_cost (two_digit_number t)) (two_digit_number t) n h in
-    let test = (and_parts (is_two_digits t) (is_cost (two_digit_number t)) found.0).1 in
-    let good : is_cost n ≡ true = ap is_cost (sym found.1) ∙ test in
-    (grind (arith, nat_tests, good), grind (arith, nat_tests, good))
-
-kept_bytes : (t : Bool) (o : Option (List ℕ)) (bytes : List ℕ) → (if t then o else None) ≡ Some bytes
-    → (t ≡ true) × (o ≡ Some bytes)
-kept_bytes true o bytes h = (refl, h)
-kept_bytes false o bytes h = absurd (none-some bytes h)
-
-salt_facts : (text salt : List ℕ) → field_bytes 22 text ≡ Some salt → (length salt ≡ 16) × EachBelow 256 salt
-salt_facts text salt h =
-    let both = kept_bytes (length text == 22) (decoding base64_bcrypt text) salt h in
-    let len : length text ≡ 22 = let test = both.0 in grind (arith, nat_tests, test) in
-    let size = length-decodable base64_bcrypt text salt refl both.1 in
-    (omega (arith, size, len), (decoding-Some base64_bcrypt text salt both.1).0)
-
-by_parts : (digits text : List ℕ) (o : Option ℕ) (p : Option (List ℕ)) (s : BcryptSetting) → cost_of digits ≡ o
-    → field_bytes 22 text ≡ p → bcrypt_by_parts o p ≡ Some s → IsBcryptSetting s
-by_parts digits text None None s o_is p_is h = absurd (none-some s h)
-by_parts digits text None (Some salt) s o_is p_is h = absurd (none-some s h)
-by_parts digits text (Some cost) None s o_is p_is h = absurd (none-some s h)
-by_parts digits text (Some cost) (Some salt) s o_is p_is h =
-    let is : setting cost salt ≡ s = cc in
-    let range = cost_range digits cost o_is in
-    let facts = salt_facts text salt p_is in
-    subst IsBcryptSetting is (record { least = range.0; most = range.1; long = facts.0; below = facts.1 })
-
-where_some : (t : Bool) (o : Option BcryptSetting) (s : BcryptSetting) → (if t then o else None) ≡ Some s → o ≡ Some s
-where_some true o s h = h
-where_some false o s h = absurd (none-some s h)
-
-pub setting_facts : (rest : List ℕ) (s : BcryptSetting) → bcrypt_setting rest ≡ Some s → IsBcryptSetting s
-unfolding bcrypt_setting
-setting_facts rest s h =
-    let found = where_some _ (bcrypt_by_parts (cost_of (take 2 rest))
-    (field_bytes 22 (cleared_salt (take 22 (drop 3 rest))))) s h in
-    by_parts (take 2 rest) (cleared_salt (take 22 (drop 3 rest))) (cost_of (take 2 rest))
-    (field_bytes 22 (cleared_salt (take 22 (drop 3 rest)))) s refl refl found

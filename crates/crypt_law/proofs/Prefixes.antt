@@ -1,10 +1,11 @@
 -- The pieces of a text by its prefix, and the answers behind it.
-use Rattle.std.proofs.Common.{◌≡◌, ℕ, ◌≤◌, Bool, true, false, List, ◌++◌, length, take, drop, refl, sym, ap, ◌∙◌, arith}
+use Rattle.std.proofs.Common.{◌≡◌, ℕ, ◌≤◌, Bool, true, false, List, ◌++◌, length, take, drop, refl, sym, subst, ap, ◌∙◌, arith}
 use Rattle.std.proofs.Common.{Some, Ok}
-use Rattle.std.specs.Prelude.{nat_lt}
+use Rattle.std.specs.Prelude.{◌↔◌, nat_eq, nat_lt}
+use Rattle.std.specs.Cmp.Lexicographic.{pointwise}
 use Rattle.std.proofs.lemmas.Bool.Decides.{nat_tests}
 use Rattle.std.proofs.lemmas.List.{take-append-drop}
-use Rattle.base64ct.proofs.DecodingLaws.{same_true}
+use Rattle.base64ct.proofs.DecodingLaws.{same_true, true_same}
 use Rattle.phc.specs.declared.password_hash.PasswordHash.{PasswordHash}
 use Rattle.any_check.specs.Table.{any_verdict, row, text_scheme}
 use Rattle.scheme_list.specs.declared.schemes.Scheme.{Scheme}
@@ -49,3 +50,16 @@ module _ (accepted : PasswordHash → List ℕ → ℕ → Bool) (tag : List ℕ
 
 pub ok_text : (s t : List ℕ) → ◌≡◌ {A = Answer} (Ok s) (Ok t) → s ≡ t
 ok_text s t h = cc
+
+-- Where crypt(3) prints the password's hash as the text prints its own, it gives the text exactly where the hashes are one.
+pub law_by : (phrase text : List ℕ) (again : List ℕ → List ℕ) (hash own : List ℕ) (matches : Bool)
+    → crypt_text phrase text ≡ Ok (again hash) → text ≡ again own
+    → (again hash ≡ again own → hash ≡ own) → pointwise nat_eq hash own ≡ matches
+    → (crypt_text phrase text ≡ Ok text) ↔ (matches ≡ true)
+law_by phrase text again hash own matches made is once told = (
+  (λ (same : crypt_text phrase text ≡ Ok text).
+      let hashes : hash ≡ own = once (ok_text (again hash) text (sym made ∙ same) ∙ is) in
+      sym told ∙ subst (λ (t : List ℕ). pointwise nat_eq hash t ≡ true) hashes (true_same hash)),
+  (λ (passes : matches ≡ true).
+      made ∙ ap (λ (t : List ℕ). Ok (again t)) (same_true hash own (told ∙ passes)) ∙ ap Ok (sym is)),
+)

@@ -1,11 +1,9 @@
 -- The law for texts of SHA-crypt.
-use Rattle.std.proofs.Common.{◌≡◌, ℕ, ◌≤◌, Bool, true, false, List, ◌∷◌, ◌++◌, length, refl, sym, subst, ap, ◌∙◌, arith}
-use Rattle.std.proofs.Common.{Option, Some, None, Result, Ok, Err}
-use Rattle.std.specs.Prelude.{◌↔◌, codes, nat_eq, nat_lt}
-use Rattle.std.specs.Cmp.Lexicographic.{pointwise}
+use Rattle.std.proofs.Common.{◌≡◌, ℕ, ◌≤◌, Bool, true, false, List, ◌∷◌, ◌++◌, length, refl, sym, ap, ◌∙◌, arith}
+use Rattle.std.proofs.Common.{Option, Some, None, Result, Ok}
+use Rattle.std.specs.Prelude.{◌↔◌, codes, nat_lt}
 use Rattle.std.proofs.lemmas.Bool.Decides.{nat_tests}
 use Rattle.std.proofs.lemmas.List.{append_cancel_left}
-use Rattle.base64ct.proofs.DecodingLaws.{same_true, true_same}
 use Rattle.mcf.specs.Grammar.{fault, mcf, parts}
 use Rattle.mcf.specs.declared.error.Error as mcf_error
 use Rattle.mcf.proofs.Ascii.{mcf_of_valid}
@@ -27,9 +25,9 @@ use Rattle.any_check.proofs.Families.{sha_stored}
 use Rattle.crypt_text.specs.Settings.{sha_setting}
 use Rattle.scheme_list.specs.Schemes.{method_of}
 use Rattle.crypt_text.specs.Texts.{crypt_text, if_setting, method_text, sha_text}
-use Rattle.crypt_law.proofs.Answers.{as_any, as_stored, stored_ok}
+use Rattle.crypt_law.proofs.Answers.{IsTold, as_any, as_stored, stored_ok, told_of}
 use Rattle.crypt_law.proofs.Clean.{mcf_of_fault, valid_clean}
-use Rattle.crypt_law.proofs.Prefixes.{crypt_is, ok_text, row_is}
+use Rattle.crypt_law.proofs.Prefixes.{crypt_is, law_by, row_is}
 use Rattle.crypt_law.proofs.ShaReadings.{sha_read}
 
 -- `$5$` or `$6$`, and the rest
@@ -56,24 +54,24 @@ method_is Sha512 phrase rest = refl
 
 -- ---- the verdict
 
+abbrev sha_matches : Family → List ℕ → ShaFields → Bool
+sha_matches family phrase = hash_matches (family_scheme family).hash (family_scheme family).places phrase
+
 -- the fields behind the identifier, and whether the hash matches
 pub record HasFields (family : Family) (phrase rest : List ℕ) (b : Bool) : Type 0 where
-  pub fields : ShaFields
-  pub are : scheme_fields (family_scheme family) (pieces_at 36 rest) ≡ Ok fields
-  pub told : hash_matches (family_scheme family).hash (family_scheme family).places phrase fields ≡ b
+  pub fields : IsTold (scheme_fields (family_scheme family) (pieces_at 36 rest)) (sha_matches family phrase) b
   pub valid : fault (whole family rest) ≡ None
 
 bool_same : (a b : Bool) → as_stored a ≡ as_stored b → a ≡ b
 bool_same a b h = cc
 
-module _ (accepted : PasswordHash → List ℕ → ℕ → Bool) (tag : List ℕ → PasswordHash → List ℕ → ℕ → List ℕ) where
-  by_fields : (family : Family) (phrase rest : List ℕ) (r : Result ShaFields CheckError) (b : Bool)
-      → scheme_fields (family_scheme family) (pieces_at 36 rest) ≡ r → fault (whole family rest) ≡ None
-      → sha_answer (family_scheme family) phrase r ≡ as_stored b → HasFields family phrase rest b
-  by_fields family phrase rest (Err e) b is valid h = absurd cc
-  by_fields family phrase rest (Ok f) b is valid h =
-      record { fields = f; are = is; told = bool_same _ b h; valid = valid }
+fields_told : (family : Family) (phrase : List ℕ) (r : Result ShaFields CheckError) (b : Bool)
+    → sha_answer (family_scheme family) phrase r ≡ as_stored b → IsTold r (sha_matches family phrase) b
+fields_told family phrase r b h =
+    told_of (sha_answer (family_scheme family) phrase) as_stored (sha_matches family phrase) (λ e c none. cc)
+    (λ f c told. bool_same (sha_matches family phrase f) c told) r b h
 
+module _ (accepted : PasswordHash → List ℕ → ℕ → Bool) (tag : List ℕ → PasswordHash → List ℕ → ℕ → List ℕ) where
   parts_is : (family : Family) (phrase rest : List ℕ)
       → text_answer accepted tag phrase (Ok (parts (whole family rest)))
       ≡ sha_answer (family_scheme family) phrase (scheme_fields (family_scheme family) (pieces_at 36 rest))
@@ -97,8 +95,12 @@ module _ (accepted : PasswordHash → List ℕ → ℕ → Bool) (tag : List ℕ
       → text_answer accepted tag phrase (mcf (whole family rest)) ≡ as_stored b → HasFields family phrase rest b
   by_fault family phrase rest (Some e) b is h = absurd (mcf_fault family phrase rest e b is h)
   by_fault family phrase rest None b is h =
-      by_fields family phrase rest (scheme_fields (family_scheme family) (pieces_at 36 rest)) b refl is
-      (sym (mcf_is family phrase rest is) ∙ h)
+      record {
+        fields =
+            fields_told family phrase (scheme_fields (family_scheme family) (pieces_at 36 rest)) b
+            (sym (mcf_is family phrase rest is) ∙ h);
+        valid = is;
+      }
 
   answer_is : (phrase text : List ℕ) → length phrase ≤ 511
       → verdict accepted tag phrase text ≡ text_answer accepted tag phrase (mcf text)
@@ -153,16 +155,7 @@ module _ (accepted : PasswordHash → List ℕ → ℕ → Bool) (tag : List ℕ
       → (crypt_text phrase (whole family rest) ≡ Ok (whole family rest)) ↔ (b ≡ true)
   sha_law family phrase rest b short h =
       let found = fields_of family phrase rest b short h in
-      let f = found.fields in
-      let made = crypt_by family phrase rest f short found.valid found.are in
-      let stands = whole_by family rest f found.are in (
-        (λ (same : crypt_text phrase (whole family rest) ≡ Ok (whole family rest)).
-            let hash : key family phrase f ≡ f.hash =
-            append_cancel_left (front family f) (key family phrase f) f.hash
-            (ok_text (front family f ++ key family phrase f) (whole family rest) (sym made ∙ same) ∙ sym stands) in
-            sym found.told ∙ subst (λ (t : List ℕ). pointwise nat_eq (key family phrase f) t ≡ true) hash
-            (true_same (key family phrase f))),
-        (λ (passes : b ≡ true).
-            let hash : key family phrase f ≡ f.hash = same_true (key family phrase f) f.hash (found.told ∙ passes) in
-            made ∙ ap (λ (t : List ℕ). Ok (front family f ++ t)) hash ∙ ap Ok stands),
-      )
+      let f = found.fields.means in
+      law_by phrase (whole family rest) (λ (t : List ℕ). front family f ++ t) (key family phrase f) f.hash b
+      (crypt_by family phrase rest f short found.valid found.fields.are) (sym (whole_by family rest f found.fields.are))
+      (append_cancel_left (front family f) (key family phrase f) f.hash) found.fields.told

@@ -1,13 +1,14 @@
 -- The fields of a text of SHA-crypt, read as a setting.
 use Rattle.std.proofs.Common.{◌≡◌, ℕ, ◌≤◌, Bool, true, false, List, [], ◌∷◌, ◌++◌, length, take, drop}
 use Rattle.std.proofs.Common.{refl, sym, ap, subst, ◌∙◌, arith, Ok}
-use Rattle.std.specs.Prelude.{⊤, ◌==◌, ◌&&◌, nat_eq, not, Option, Some, None, if◌then◌else◌, codes}
+use Rattle.std.specs.Prelude.{⊤, ◌&&◌, nat_eq, Option, Some, None, if◌then◌else◌, codes}
 use Rattle.std.specs.Fmt.{decimal}
 use Rattle.std.specs.List.{join_with_byte, list_all, starts_with}
 use Rattle.std.proofs.lemmas.Bool.{and_parts, true≢false}
 use Rattle.std.proofs.lemmas.Bool.Decides.{nat_tests}
 use Rattle.std.proofs.lemmas.List.{take_all}
 use Rattle.pieces.specs.Pieces.{EachLacks, LacksByte, behind, pieces_at}
+use Rattle.pieces.proofs.ByteTests.{is_not}
 use Rattle.pieces.proofs.Cuts.{join_pieces, pieces_lack}
 use Rattle.sha_crypt.specs.Families.{Scheme, scheme_fields}
 use Rattle.sha_crypt.specs.Fields.{ShaFields, old_number}
@@ -19,9 +20,6 @@ use Rattle.crypt_text.specs.Settings.{ShaSetting, are_rounds, before_dollar, sha
 use Rattle.crypt_law.proofs.Cuts.{after_cut, before_cut, has_cut}
 
 -- ---- a front without `$`
-
-abbrev is_not : ℕ → ℕ → Bool
-is_not c b = not (b == c)
 
 cut_first : (n : ℕ) (rest : Bool) → is_not 36 n ≡ true → (nat_eq n 36 && rest) ≡ false
 cut_first n rest h = by_test (nat_eq n 36) refl
@@ -112,8 +110,3 @@ sha_read s rest f h =
     let joined : rest ≡ join_with_byte 36 (field_pieces f) = sym (join_pieces 36 rest) ∙ ap (join_with_byte 36) t.are in
     read_by f.written f.rounds f.salt f.hash rest lacks joined t.short form.least form.most
     (unnamed_by old_number (pieces_at 36 rest) f f.written form.stands)
-
--- the text behind the identifier
-pub sha_rest : (s : Scheme) (rest : List ℕ) (f : ShaFields) → scheme_fields s (pieces_at 36 rest) ≡ Ok f
-    → rest ≡ join_with_byte 36 (field_pieces f)
-sha_rest s rest f h = sym (join_pieces 36 rest) ∙ ap (join_with_byte 36) (today s (pieces_at 36 rest) f h).are

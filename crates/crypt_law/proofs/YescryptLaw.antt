@@ -1,31 +1,27 @@
 -- The law for texts `$y$`.
-use Rattle.std.proofs.Common.{◌≡◌, ℕ, ◌≤◌, Bool, true, false, List, ◌∷◌, ◌++◌, length, drop, refl, sym, subst, ap, ◌∙◌, arith}
-use Rattle.std.proofs.Common.{append_assoc, Option, Some, None, Result, Ok, Err}
-use Rattle.std.specs.Prelude.{◌↔◌, codes, nat_eq, nat_le, nat_lt, if◌then◌else◌}
-use Rattle.std.specs.Cmp.Lexicographic.{pointwise}
+use Rattle.std.proofs.Common.{◌≡◌, ℕ, ◌≤◌, Bool, true, false, List, ◌∷◌, ◌++◌, length, refl, sym, subst, ap, ◌∙◌, arith}
+use Rattle.std.proofs.Common.{append_assoc, Some, Ok, Err}
+use Rattle.std.specs.Prelude.{◌↔◌, codes, nat_le, nat_lt, if◌then◌else◌}
 use Rattle.std.proofs.lemmas.Bool.Decides.{nat_tests}
 use Rattle.std.proofs.lemmas.List.{append_cancel_left}
 use Rattle.base64ct.specs.Alphabets.{base64_sha_crypt}
 use Rattle.base64ct.specs.Encoding.{EachBelow}
-use Rattle.base64ct.proofs.DecodingLaws.{decoding-encoding, same_true, true_same}
+use Rattle.base64ct.proofs.DecodingLaws.{decoding-encoding}
 use Rattle.base64ct.proofs.Encodings.{encoding_once}
 use Rattle.phc.specs.declared.password_hash.PasswordHash.{PasswordHash}
 use Rattle.pieces.specs.Pieces.{pieces_at}
 use Rattle.pieces.proofs.ByteTests.{all_append}
-use Rattle.pieces.proofs.FaultLaws.{err_ok}
 use Rattle.yescrypt_plain.specs.Check.{verdict, yescrypt_answer, yescrypt_matches, yescrypt_verdict}
-use Rattle.yescrypt_plain.specs.Field as field
-use Rattle.yescrypt_plain.specs.Field.{crypt_field, hash_bytes}
-use Rattle.yescrypt_plain.specs.Params.{in_bounds, yescrypt_params, yescrypt_params_text}
-use Rattle.yescrypt_plain.specs.Text.{YescryptFields, YescryptMeaning, pieces_behind, yescrypt_by_hash, yescrypt_by_params}
-use Rattle.yescrypt_plain.specs.Text.{yescrypt_by_salt, yescrypt_fields, yescrypt_of, yescrypt_text}
+use Rattle.yescrypt_plain.specs.Field.{crypt_field}
+use Rattle.yescrypt_plain.specs.Params.{in_bounds, yescrypt_params_text}
+use Rattle.yescrypt_plain.specs.Text.{YescryptMeaning}
+use Rattle.yescrypt_plain.specs.Text.{yescrypt_text}
 use Rattle.yescrypt_plain.specs.Yescrypt.{yescrypt}
 use Rattle.yescrypt_plain.specs.declared.error.CheckError.TheVariants as of_crypt
-use Rattle.yescrypt_plain.specs.declared.error.TextFault.{TextFault}
-use Rattle.yescrypt_plain.specs.declared.error.TextFault.TheVariants as fault
 use Rattle.yescrypt_plain.specs.declared.params.YescryptParams.{YescryptParams}
-use Rattle.yescrypt_plain.proofs.Fields.{field_len, hash_is}
+use Rattle.yescrypt_plain.proofs.Fields.{field_len}
 use Rattle.yescrypt_plain.proofs.KeyBytes.{key_below}
+use Rattle.yescrypt_plain.proofs.Characters.{params_characters}
 use Rattle.yescrypt_plain.proofs.ParamFields.{text_of_params}
 use Rattle.yescrypt_plain.proofs.TextPieces.{field_lacks, params_lack}
 use Rattle.yescrypt_plain.proofs.YescryptTexts.{text_is}
@@ -35,11 +31,11 @@ use Rattle.crypt_text.specs.Settings.{YescryptSetting, salt_bytes, yescrypt_sett
 use Rattle.scheme_list.specs.Schemes.{method_of}
 use Rattle.crypt_text.specs.Texts as crypt
 use Rattle.crypt_text.specs.Texts.{crypt_text, if_setting, if_short, method_text}
-use Rattle.crypt_law.proofs.Answers.{as_any}
-use Rattle.crypt_law.proofs.Characters.{field_clean, params_clean}
+use Rattle.crypt_law.proofs.Answers.{IsTold, as_any, told_of}
+use Rattle.crypt_law.proofs.Characters.{characters_clean, field_clean}
 use Rattle.crypt_law.proofs.Clean.{are_clean, is_clean, none_refused}
 use Rattle.crypt_law.proofs.Cuts.{after_cut, before_cut, before_last_cut, has_cut}
-use Rattle.crypt_law.proofs.Prefixes.{crypt_is, ok_text, row_is}
+use Rattle.crypt_law.proofs.Prefixes.{crypt_is, law_by, row_is}
 
 -- `$y$`, and the rest
 abbrev pub whole : List ℕ → List ℕ
@@ -55,33 +51,6 @@ method_is : (phrase rest : List ℕ) → length (whole rest) ≤ 339
 method_is phrase rest short =
     let fits : nat_lt 339 (length (whole rest)) ≡ false = grind (arith, nat_tests, short) in
     rw fits refl
-
--- ---- the bytes of a hash that is read
-
-hash_by : (p : YescryptParams) (salt text : List ℕ) (o : Option (List ℕ)) (m : YescryptMeaning) → hash_bytes text ≡ o
-    → yescrypt_by_hash p salt o ≡ Ok m → EachBelow 256 m.hash
-hash_by p salt text None m is h = absurd (err_ok fault.Hash m h)
-hash_by p salt text (Some hash) m is h =
-    let same : record { params = p; salt = salt; hash = hash } ≡ m = cc in
-    subst (λ (n : YescryptMeaning). EachBelow 256 n.hash) same (hash_is text hash is).below
-
-hash_by_salt : (p : YescryptParams) (o : Option (List ℕ)) (text : List ℕ) (m : YescryptMeaning)
-    → yescrypt_by_salt p o text ≡ Ok m → EachBelow 256 m.hash
-hash_by_salt p None text m h = absurd (err_ok fault.Salt m h)
-hash_by_salt p (Some salt) text m h = hash_by p salt text (hash_bytes text) m refl h
-
-hash_by_params : (r : Result YescryptParams TextFault) (salt text : List ℕ) (m : YescryptMeaning)
-    → yescrypt_by_params r salt text ≡ Ok m → EachBelow 256 m.hash
-hash_by_params (Err e) salt text m h = absurd (err_ok e m h)
-hash_by_params (Ok p) salt text m h = hash_by_salt p (field.salt_bytes salt) text m h
-
-hash_by_fields : (r : Result YescryptFields TextFault) (m : YescryptMeaning) → yescrypt_of r ≡ Ok m → EachBelow 256 m.hash
-hash_by_fields (Err e) m h = absurd (err_ok e m h)
-hash_by_fields (Ok f) m h = hash_by_params (yescrypt_params f.params) f.salt f.hash m h
-
-hash_below : (text : List ℕ) (m : YescryptMeaning) → yescrypt_text text ≡ Ok m → EachBelow 256 m.hash
-unfolding yescrypt_text
-hash_below text m h = hash_by_fields (yescrypt_fields (pieces_behind (codes "y") text)) m h
 
 -- ---- a text is read as a setting
 
@@ -112,8 +81,8 @@ setting_read params salt hash good most below hash_small =
     let more : List ℕ = crypt_field salt ++ 36 ∷ crypt_field hash in
     rw (
       has_cut field_text more,
-      before_cut field_text more (params_lack params),
-      after_cut field_text more (params_lack params),
+      before_cut field_text more (params_lack params good),
+      after_cut field_text more (params_lack params good),
       before_last_cut (crypt_field salt) (crypt_field hash) (field_lacks hash hash_small),
       text_of_params field_text params (good, refl),
       salt_read salt most below,
@@ -123,7 +92,7 @@ rest_clean : (params : YescryptParams) (salt hash : List ℕ) → in_bounds para
     → EachBelow 256 hash → are_clean (whole (rest_of params salt hash)) ≡ true
 rest_clean params salt hash good below hash_small =
     all_append is_clean (yescrypt_params_text params) (36 ∷ (crypt_field salt ++ 36 ∷ crypt_field hash))
-    (params_clean params good)
+    (characters_clean (yescrypt_params_text params) (params_characters params good))
     (all_append is_clean (crypt_field salt) (36 ∷ crypt_field hash) (field_clean salt below) (field_clean hash hash_small))
 
 -- ---- the answer
@@ -142,12 +111,6 @@ front_is params salt tail =
 abbrev key : List ℕ → YescryptMeaning → List ℕ
 key phrase m = yescrypt phrase m.salt m.params.ln m.params.r m.params.t
 
--- a verdict, and the text that it is on
-record IsTold (phrase text : List ℕ) (matches : Bool) : Type 0 where
-  means : YescryptMeaning
-  read : yescrypt_text text ≡ Ok means
-  told : pointwise nat_eq (key phrase means) means.hash ≡ matches
-
 by_verdict : (phrase : List ℕ) (t matches : Bool) → length phrase ≤ 511
     → of_yescrypt_check (verdict phrase t) ≡ as_any matches → t ≡ matches
 by_verdict phrase t matches short h =
@@ -159,17 +122,13 @@ by_verdict phrase t matches short h =
     by_match true h = cc
     by_match false h = cc
 
-by_text : (phrase text : List ℕ) (r : Result YescryptMeaning TextFault) (matches : Bool) → length phrase ≤ 511
-    → yescrypt_text text ≡ r → of_yescrypt_check (yescrypt_verdict phrase r) ≡ as_any matches
-    → IsTold phrase text matches
-by_text phrase text (Err e) matches short is h = absurd cc
-by_text phrase text (Ok m) matches short is h =
-    record { means = m; read = is; told = by_verdict phrase (yescrypt_matches phrase m) matches short h }
-
-told_of : (phrase text : List ℕ) (matches : Bool) → length phrase ≤ 511
-    → of_yescrypt_check (yescrypt_answer phrase text) ≡ as_any matches → IsTold phrase text matches
+told_by : (phrase text : List ℕ) (matches : Bool) → length phrase ≤ 511
+    → of_yescrypt_check (yescrypt_answer phrase text) ≡ as_any matches
+    → IsTold (yescrypt_text text) (yescrypt_matches phrase) matches
 unfolding yescrypt_answer
-told_of phrase text matches short h = by_text phrase text (yescrypt_text text) matches short refl h
+told_by phrase text matches short h =
+    told_of (λ r. of_yescrypt_check (yescrypt_verdict phrase r)) as_any (yescrypt_matches phrase) (λ e b none. cc)
+    (λ m b told. by_verdict phrase (yescrypt_matches phrase m) b short told) (yescrypt_text text) matches h
 
 module _ (accepted : PasswordHash → List ℕ → ℕ → Bool) (tag : List ℕ → PasswordHash → List ℕ → ℕ → List ℕ) where
   pub yescrypt_law : (phrase rest : List ℕ) (matches : Bool) → length phrase ≤ 511 → length (whole rest) ≤ 339
@@ -177,31 +136,20 @@ module _ (accepted : PasswordHash → List ℕ → ℕ → Bool) (tag : List ℕ
       → (crypt_text phrase (whole rest) ≡ Ok (whole rest)) ↔ (matches ≡ true)
   yescrypt_law phrase rest matches short fits h =
       let text : List ℕ = whole rest in
-      let answer = told_of phrase text matches short
+      let answer = told_by phrase text matches short
       (sym (row_is accepted tag phrase text Yescrypt short (scheme_is rest)) ∙ h) in
       let m = answer.means in
-      let found = text_is text m answer.read in
-      let hash_small = hash_below text m answer.read in
+      let found = text_is text m answer.are in
       let again : List ℕ = rest_of m.params m.salt m.hash in
-      let same_text : text ≡ whole again = found.is in
-      let same_rest : rest ≡ again = ap (drop 3) same_text in
-      let read = setting_read m.params m.salt m.hash found.bounds found.most found.below hash_small in
-      let clean = none_refused (whole again) (rest_clean m.params m.salt m.hash found.bounds found.below hash_small) in
-      let fits_again : length (whole again) ≤ 339 = subst (λ (t : List ℕ). length t ≤ 339) same_text fits in
-      let made : crypt_text phrase text ≡ Ok (front m.params m.salt ++ crypt_field (key phrase m)) =
-      ap (crypt_text phrase) same_text ∙ crypt_is phrase (whole again) short clean ∙ method_is phrase again fits_again
-      ∙ ap (if_setting (crypt.yescrypt_text phrase)) read in
-      let stands : front m.params m.salt ++ crypt_field m.hash ≡ text =
-      front_is m.params m.salt (crypt_field m.hash) ∙ sym same_text in (
-        (λ (same : crypt_text phrase text ≡ Ok text).
-            let fields : crypt_field (key phrase m) ≡ crypt_field m.hash =
-            append_cancel_left (front m.params m.salt) (crypt_field (key phrase m)) (crypt_field m.hash)
-            (ok_text (front m.params m.salt ++ crypt_field (key phrase m)) text (sym made ∙ same) ∙ sym stands) in
-            let hash : key phrase m ≡ m.hash =
-            encoding_once base64_sha_crypt (key phrase m) m.hash refl
-            (key_below phrase m.salt m.params.ln m.params.r m.params.t) hash_small fields in
-            sym answer.told ∙ subst (λ (t : List ℕ). pointwise nat_eq (key phrase m) t ≡ true) hash (true_same (key phrase m))),
-        (λ (passes : matches ≡ true).
-            let hash : key phrase m ≡ m.hash = same_true (key phrase m) m.hash (answer.told ∙ passes) in
-            made ∙ ap (λ (t : List ℕ). Ok (front m.params m.salt ++ crypt_field t)) hash ∙ ap Ok stands),
-      )
+      let clean = none_refused (whole again) (rest_clean m.params m.salt m.hash found.bounds found.below found.hash_below) in
+      let made = ap (crypt_text phrase) found.is ∙ crypt_is phrase (whole again) short clean
+      ∙ method_is phrase again (subst (λ (t : List ℕ). length t ≤ 339) found.is fits)
+      ∙ ap (if_setting (crypt.yescrypt_text phrase))
+      (setting_read m.params m.salt m.hash found.bounds found.most found.below found.hash_below) in
+      law_by phrase text (λ (t : List ℕ). front m.params m.salt ++ crypt_field t) (key phrase m) m.hash matches made
+      (found.is ∙ sym (front_is m.params m.salt (crypt_field m.hash)))
+      (λ same.
+      encoding_once base64_sha_crypt (key phrase m) m.hash refl
+      (key_below phrase m.salt m.params.ln m.params.r m.params.t) found.hash_below
+      (append_cancel_left (front m.params m.salt) (crypt_field (key phrase m)) (crypt_field m.hash) same))
+      answer.told

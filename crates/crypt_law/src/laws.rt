@@ -6,6 +6,4 @@ ghost use Rattle.crypt_law.specs.Law.{MatchesExactly};
 /// the text that crypt(3) gives for them is the text itself. A text of `$7$` or `$y$` has at most 339 bytes here.
 pub fn matches_exactly()
     ensures law { MatchesExactly }
-{
-    bcrypt_plain::laws::matches_exactly();
-}
+{}

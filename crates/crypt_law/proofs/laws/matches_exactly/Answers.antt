@@ -2,4 +2,4 @@ use Rattle.crypt_law.proofs.Law.{law}
 use Rattle.crypt_law.proofs.laws.matches_exactly.Goals as goal
 
 pub returns : goal.returns
-returns c = record { law = law c.matches_exactly.ensures.texts }
+returns c = record { law = law }
