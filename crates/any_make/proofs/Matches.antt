@@ -71,7 +71,7 @@ made_is c password salt text h =
     let found = value_found (hash_text c password salt) text (make_fault c password salt) h in
     (no_fault c password salt found.0, found.1)
 
-short_enough : (c : MakeCost) (n : ℕ) → n ≤ password_length c → n ≤ 4096
+pub short_enough : (c : MakeCost) (n : ℕ) → n ≤ password_length c → n ≤ 4096
 short_enough (cost.ShaCrypt family rounds) n h = h
 short_enough (cost.Scrypt c) n h = h
 short_enough (cost.Bcrypt cost) n h = omega (arith, h)
