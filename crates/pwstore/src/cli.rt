@@ -2,7 +2,7 @@
 
 use clap::{Arg, Command};
 use std::alloc::{AllocError, Global};
-use store_run::HELP;
+use store_run::{HELP, VERSION};
 
 /// The program's command line.
 pub fn command<'a>(alloc: Global) -> Result<Command<'a>, AllocError> {
@@ -14,7 +14,7 @@ pub fn command<'a>(alloc: Global) -> Result<Command<'a>, AllocError> {
     );
     Command::new(alloc, "pwstore")
         .bin_name("pwstore")?
-        .version("0.1.0")
+        .version(VERSION)
         .about(
             "A table of users and stored texts in a file, each change on the disk before it is answered",
         )

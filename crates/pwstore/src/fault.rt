@@ -20,7 +20,7 @@ fn tip_of(text: &str) -> Option<&str> {
 /// Says the first line of a parser's text, with its tip where it has one.
 pub fn say_refused<R: Eprint + AllocGlobal>(rt: &R, error: &Error) {
     let Ok(text) = format!(in rt.alloc(); "{error}") else {
-        return say(rt, "memory is wanting for the cause");
+        return say(rt, "out of memory for the cause");
     };
     let first = text.as_str().lines().next().unwrap_or("");
     let cause = first.strip_prefix("error: ").unwrap_or(first);

@@ -42,7 +42,7 @@ fn words(rt: &HostRuntime) -> Result<Vec<String>, u8> {
 }
 
 fn no_memory(rt: &HostRuntime) -> u8 {
-    say(rt, "memory is wanting for the words of the command line");
+    say(rt, "out of memory for the words of the command line");
     NO_MEMORY
 }
 

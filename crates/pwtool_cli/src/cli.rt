@@ -5,20 +5,25 @@ use crate::options::{file, flag, form, plus, wanted, with_from, with_telling};
 use crate::tables::table;
 use clap::{Arg, Command, value_parser};
 use std::alloc::{AllocError, Global};
+use store_run::VERSION;
 
-/// What stands behind the options in the help of the program.
+/// What the help of the program has after the options.
 const STATUSES: &str = "\
 Statuses:
-   0  the whole input was read, and every answer is a match
-   1  the whole input was read, and some answer is another word
-   3  a read failed; the whole lines that were taken are answered
+   0  the whole input was read, and every answer is good
+   1  the whole input was read, and some answer isn't good
+   3  a read failed; the whole lines that were read are answered
    4  a write failed
-   5  memory is wanting; the lines before are answered
+   5  out of memory; the lines before are answered
    6  the input has more than 2^40 bytes
+   7  unwrap: the input isn't Base64 in such lines; table: a change isn't on the disk
    8  a word of the command line isn't UTF-8
   64  the words of the command line are no form of the program
-  66  the file can't be opened
-'pwtool check --help', 'pwtool join --help', 'pwtool survey --help' and pwtool(1) tell more.";
+  65  table: the file isn't one of a table
+  66  a file can't be opened
+  73  table: a file can't be made
+  75  table: another process has the file
+'pwtool help FORM' has the words and options of a form, and pwtool(1) everything.";
 
 /// What stands behind the options in the help of `check`.
 const LINES: &str = "\
@@ -49,7 +54,7 @@ A line is a user, a colon and a stored text, which ends at the next colon: a lin
 htpasswd file as it is. No password is asked for, and nothing is hashed. A row is the user, the
 scheme, its costs and a judgement, with tabs between them: ok, weak (with what is weak), locked
 (the text begins with * or !), empty, no scheme (none has the text), invalid (it has a fault),
-badline (no user) or toolong. Behind the rows stands how many there are of each. md5-crypt is weak
+badline (no user) or toolong. After the rows comes how many there are of each. md5-crypt is weak
 in any case. Status 0 is for accounts that are ok or locked, 1 for some other; pwtool --help has
 the rest.";
 
@@ -157,7 +162,7 @@ fn with_costs<'a>(
 const MOST: &str = "The most that a stored text may ask for (left out: what its scheme takes)";
 
 /// The heading of the least costs.
-const LEAST: &str = "The least that isn't weak (left out: the number that stands behind)";
+const LEAST: &str = "The least that isn't weak (left out: the number in brackets)";
 
 // The form `check`.
 fn check<'a>(alloc: Global) -> Result<Command<'a>, AllocError> {
@@ -226,10 +231,10 @@ fn program<'a>(alloc: Global) -> Result<Command<'a>, AllocError> {
     let command = Command::new(alloc, "pwtool").bin_name("pwtool")?;
     Ok(
         command
-            .version("0.1.0")
+            .version(VERSION)
+            .propagate_version(true)
             .about("Passwords checked against stored texts of every scheme")
             .subcommand_required(true)
-            .disable_help_subcommand(true)
             .after_help(STATUSES),
     )
 }

@@ -38,7 +38,7 @@ fn words(rt: &HostRuntime) -> Result<Vec<String>, u8> {
 }
 
 fn no_memory(rt: &HostRuntime) -> u8 {
-    say(rt, "memory is wanting for the words of the command line");
+    say(rt, "out of memory for the words of the command line");
     NO_MEMORY
 }
 
@@ -72,7 +72,7 @@ fn form_named(name: &str) -> Form {
 // Runs the form that is named.
 fn run_form(rt: &HostRuntime, matches: &ArgMatches<'_>) -> u8 {
     let Some((name, matches)) = matches.subcommand() else {
-        say(rt, "no form is named");
+        say(rt, "no form is named: 'pwtool --help' has them");
         return BAD_WORDS;
     };
     match form_named(name) {

@@ -18,7 +18,7 @@ it:
   sha256-crypt   --rounds 535000                       passlib 1.7.4
 No text of md5-crypt is made. The kit of this program can't keep a terminal from showing what is
 typed, so it reads none, unless --echo is given. To type a password unseen:
-  stty -echo; head -n 1 | pwtool make yescrypt; stty echo
+  (trap 'stty echo' EXIT INT; stty -echo; head -n 1) | pwtool make yescrypt
 Status 0: the text is written; 1: no text is made of the line; pwtool --help has the rest.";
 
 /// What stands behind the options in the help of `normalize`.

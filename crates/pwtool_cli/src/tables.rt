@@ -34,7 +34,7 @@ pub fn table_form(rt: &HostRuntime, matches: &ArgMatches<'_>) -> u8 {
         None => serve_file(rt, PROGRAM, file),
         Some("compact") => compact_file(rt, PROGRAM, file),
         Some(_) => {
-            say(rt, "what stands behind the file isn't 'compact'");
+            say(rt, "what is after the file isn't 'compact'");
             BAD_WORDS
         }
     }

@@ -22,17 +22,32 @@ fn tip_of(text: &str) -> Option<&str> {
     None
 }
 
-/// Says the first line of a parser's text, with its tip where it has one.
+// The words that a parser's text names in lines of their own after the first.
+fn named_of(text: &str) -> Option<&str> {
+    let second = text.lines().nth(1)?;
+    let word = second.strip_prefix("  ")?;
+    if word.starts_with("tip: ") {
+        None
+    } else {
+        Some(word)
+    }
+}
+
+/// Says the first line of a parser's text, with the first word that it names below it, or with its tip, where it has one.
 pub fn say_refused<R: Eprint + AllocGlobal>(rt: &R, error: &Error) {
     let Ok(text) = format!(in rt.alloc(); "{error}") else {
-        return say(rt, "memory is wanting for the cause");
+        return say(rt, "out of memory for the cause");
     };
     let first = text.as_str().lines().next().unwrap_or("");
     let cause = first.strip_prefix("error: ").unwrap_or(first);
-    match tip_of(text.as_str()) {
-        Some(tip) => {
-            let _ = eprintln!(rt; "pwtool: {cause}: {tip}");
+    let more = named_of(text.as_str()).or(tip_of(text.as_str()));
+    let cause = cause.strip_suffix(":").unwrap_or(cause);
+    match more {
+        Some(more) => {
+            let _ = eprintln!(rt; "pwtool: {cause}: {more}");
         }
-        None => say(rt, cause),
+        None => {
+            let _ = eprintln!(rt; "pwtool: {cause}: 'pwtool --help' has more");
+        }
     }
 }

@@ -7,10 +7,10 @@ use crate::check::{check_lines, check_users};
 use crate::fault::say;
 use crate::foreign::{check_foreign, check_foreign_users, survey_foreign};
 use crate::from::foreign_of;
-use crate::reports::{opened, progress_over, reporting_of, summarize, told};
+use crate::reports::{opened, reporting_of, size_of, summarize, told, watched};
 use crate::status::{BAD_WORDS, NO_FILE};
 use crate::survey::survey_lines;
-use crate::tally::Tally;
+use crate::tally::{Noted, Tally};
 use clap::ArgMatches;
 use foreign_lines::{ForeignLines, LineForm};
 use line_io::{Sink, Source, StdSink, StdSource};
@@ -18,6 +18,9 @@ use shadow_survey::{Format, SurveyLines};
 use std::alloc::Global;
 use std::io;
 use std::io::{Read, Write};
+
+/// What a line asks memory for.
+const KEY: &str = "the key of a line";
 
 // Answers all lines of a source, with or without users, in whatever spelling the texts are.
 fn answer_given<S: Source, K: Sink>(
@@ -42,17 +45,18 @@ pub fn answer<R: Read + Drop, W: Write + Drop>(
     rt: &HostRuntime,
     matches: &ArgMatches<'_>,
     name: &str,
+    size: Option<u64>,
     reader: R,
     writer: W,
 ) -> u8
     ensures status { (result ≤ 6) × (result ≢ 2) }
 {
     let reporting = reporting_of(rt, matches);
-    let mut tally = Tally::new(writer, progress_over(rt, reporting, name));
-    let mut source = StdSource::new(reader);
+    let mut tally = Tally::new(writer);
+    let mut source = StdSource::new(watched(rt, reporting, name, size, reader));
     let mut sink = StdSink::new(&mut tally);
     let status = answer_given(rt.alloc(), matches, &mut source, &mut sink);
-    let status = told(rt, name, status);
+    let status = told(rt, name, KEY, tally.fault(), status);
     summarize(rt, reporting, &tally.counts());
     status
 }
@@ -61,10 +65,13 @@ pub fn answer<R: Read + Drop, W: Write + Drop>(
 pub fn check_form(rt: &HostRuntime, matches: &ArgMatches<'_>) -> u8 {
     let name = matches.get_str("FILE").unwrap_or("-");
     if name == "-" {
-        return answer(rt, matches, name, rt.reader(), io::writer(rt));
+        return answer(rt, matches, name, None, rt.reader(), io::writer(rt));
     }
     match opened(rt, name) {
-        Some(file) => answer(rt, matches, name, file, io::writer(rt)),
+        Some(file) => {
+            let size = size_of(&file);
+            answer(rt, matches, name, size, file, io::writer(rt))
+        }
         None => NO_FILE,
     }
 }
@@ -75,14 +82,15 @@ pub fn survey<R: Read + Drop, W: Write + Drop>(
     matches: &ArgMatches<'_>,
     lines: SurveyLines,
     name: &str,
+    size: Option<u64>,
     reader: R,
     writer: W,
 ) -> u8
     ensures status { (result ≤ 6) × (result ≢ 2) }
 {
-    let progress = progress_over(rt, reporting_of(rt, matches), name);
-    let mut source = StdSource::new(reader);
-    let mut sink = StdSink::new(Tally::new(writer, progress));
+    let mut source = StdSource::new(watched(rt, reporting_of(rt, matches), name, size, reader));
+    let mut writer = Noted::new(writer);
+    let mut sink = StdSink::new(&mut writer);
     let status = match foreign_of(matches) {
         Some(foreign) => {
             let mut lines = ForeignLines {
@@ -97,7 +105,7 @@ pub fn survey<R: Read + Drop, W: Write + Drop>(
             survey_lines(&mut lines, &mut source, &mut sink)
         }
     };
-    told(rt, name, status)
+    told(rt, name, KEY, writer.fault(), status)
 }
 
 /// What answers the lines of a survey, as the command line asks for it; none where it asks for two formats.
@@ -119,10 +127,13 @@ pub fn survey_form(rt: &HostRuntime, matches: &ArgMatches<'_>) -> u8 {
     };
     let name = matches.get_str("FILE").unwrap_or("-");
     if name == "-" {
-        return survey(rt, matches, lines, name, rt.reader(), io::writer(rt));
+        return survey(rt, matches, lines, name, None, rt.reader(), io::writer(rt));
     }
     match opened(rt, name) {
-        Some(file) => survey(rt, matches, lines, name, file, io::writer(rt)),
+        Some(file) => {
+            let size = size_of(&file);
+            survey(rt, matches, lines, name, size, file, io::writer(rt))
+        }
         None => NO_FILE,
     }
 }

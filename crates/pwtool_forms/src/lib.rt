@@ -18,6 +18,7 @@ mod normalize;
 pub mod pair;
 pub mod progress;
 pub mod reports;
+mod rules;
 pub mod small_forms;
 pub mod status;
 mod survey;

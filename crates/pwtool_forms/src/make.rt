@@ -5,7 +5,10 @@ ghost use Rattle.any_make.specs.Costs.{scheme_of};
 ghost use Rattle.pwtool_forms.specs.Make.{end_status};
 
 use crate::fault::say;
+use crate::reports::say_write;
+use crate::rules::broken_rule;
 use crate::status::BAD_WORDS;
+use crate::tally::Noted;
 use any_check::CostFamily;
 use any_make::{
     Argon2Cost, MakeCost, MakeEnd, MakeFault, NameFault, recommended, run_make, scheme_named,
@@ -14,7 +17,7 @@ use clap::ArgMatches;
 use line_io::{StdSink, StdSource};
 use line_program::status::{ALL_GOOD, NO_MEMORY, READ_FAULT, SOME_OTHER, WRITE_FAULT};
 use std::io;
-use std::io::IsTerminal;
+use std::io::{ErrorKind, IsTerminal};
 use std::random::RandomSource;
 use yescrypt_plain::{ScryptParams, YescryptParams};
 
@@ -107,17 +110,17 @@ fn cause_of(fault: MakeFault) -> &'static str {
         MakeFault::Cost => "the scheme doesn't take the cost",
         MakeFault::Salt => "the salt has another length than the scheme's",
         MakeFault::PasswordTooLong => {
-            "the password has more bytes than count: 4096, of bcrypt 72"
+            "the password is too long: at most 4096 bytes, and of bcrypt 72, are hashed"
         }
         MakeFault::NotUtf8 => "the password isn't UTF-8",
-        MakeFault::ZeroByte => "the password has a zero byte, where crypt(3) takes it to end",
-        MakeFault::OutOfMemory => "memory is wanting for the key",
+        MakeFault::ZeroByte => "the password has a zero byte, at which crypt(3) would end it",
+        MakeFault::OutOfMemory => "out of memory for the key",
         MakeFault::BufferShort => "the text is too long",
     }
 }
 
-/// Says why there is no text, and gives the status.
-pub fn told(rt: &impl Eprint, end: MakeEnd) -> u8
+/// Says why there is no text, and gives the status. `fault` is why a write failed.
+pub fn told(rt: &impl Eprint, fault: Option<ErrorKind>, end: MakeEnd) -> u8
     ensures status { result ≡ end_status end }
 {
     match end {
@@ -127,7 +130,7 @@ pub fn told(rt: &impl Eprint, end: MakeEnd) -> u8
             READ_FAULT
         }
         MakeEnd::WriteFault => {
-            say(rt, "standard output: a write failed");
+            say_write(rt, fault);
             WRITE_FAULT
         }
         MakeEnd::NoLine => {
@@ -135,7 +138,10 @@ pub fn told(rt: &impl Eprint, end: MakeEnd) -> u8
             SOME_OTHER
         }
         MakeEnd::LongLine => {
-            say(rt, "standard input: the line has more than 8192 bytes");
+            say(
+                rt,
+                "standard input: the first line has more than 8192 bytes",
+            );
             SOME_OTHER
         }
         MakeEnd::Refused(MakeFault::OutOfMemory) => {
@@ -161,8 +167,10 @@ fn make(rt: &HostRuntime, cost: MakeCost) -> u8 {
         return READ_FAULT;
     }
     let mut source = StdSource::new(rt.reader());
-    let mut sink = StdSink::new(io::writer(rt));
-    told(rt, run_make(rt.alloc(), cost, salt, &mut source, &mut sink))
+    let mut writer = Noted::new(io::writer(rt));
+    let mut sink = StdSink::new(&mut writer);
+    let end = run_make(rt.alloc(), cost, salt, &mut source, &mut sink);
+    told(rt, writer.fault(), end)
 }
 
 /// Makes the text of the password on standard input, and gives the status.
@@ -177,15 +185,14 @@ pub fn make_form(rt: &HostRuntime, matches: &ArgMatches<'_>) -> u8 {
     }
     let cost = cost_of(matches, recommended);
     if !cost.is_taken() {
-        let _ = eprintln!(rt;
-            "pwtool: {name}: it doesn't take the cost: 'pwtool make --help' has the ranges"
-        );
+        let rule = broken_rule(cost);
+        let _ = eprintln!(rt; "pwtool: {name}: the cost isn't taken: {rule}");
         return BAD_WORDS;
     }
     if rt.stdin().is_terminal() && !matches.get_flag("echo") {
         let _ = eprintln!(rt;
-            "pwtool: the terminal would show the password: \
-            'stty -echo; head -n 1 | pwtool make {name}; stty echo', or --echo"
+            "pwtool: the terminal would show the password: give --echo, or type it into \
+            (trap 'stty echo' EXIT INT; stty -echo; head -n 1) | pwtool make {name}"
         );
         return BAD_WORDS;
     }

@@ -3,15 +3,17 @@
 ghost use Rattle.std.specs.Prelude.{◌≡◌};
 
 use crate::fault::{say, say_at};
-use crate::progress::{Progress, lines_of};
+use crate::progress::{Progress, Watched};
 use crate::tally::Counts;
 use clap::ArgMatches;
 use line_program::status::{NO_MEMORY, OVER_MAX, READ_FAULT, WRITE_FAULT};
 use std::fs::File;
-use std::io::IsTerminal;
+use std::io::{ErrorKind, IsTerminal, Read};
 
-/// What standard input is called in messages.
-const STANDARD_INPUT: &str = "standard input";
+/// What a file is called in messages.
+pub fn called(name: &str) -> &str {
+    if name == "-" { "standard input" } else { name }
+}
 
 /// What is told of a run on standard error beside its faults.
 #[derive(Clone, Copy)]
@@ -29,21 +31,30 @@ pub fn reporting_of(rt: &HostRuntime, matches: &ArgMatches<'_>) -> Reporting {
     }
 }
 
-/// What tells the progress over the lines of a file, where that is asked for.
-pub fn progress_over<'a>(
+/// A reader of a file of so many bytes, whose progress is told where that is asked for.
+pub fn watched<'a, R: Read + Drop>(
     rt: &'a HostRuntime,
     reporting: Reporting,
-    name: &str,
-) -> Option<Progress<'a>> {
-    if !reporting.has_progress {
-        return None;
-    }
-    let total = if name == "-" {
-        None
+    name: &'a str,
+    size: Option<u64>,
+    reader: R,
+) -> Watched<'a, R> {
+    let progress = if reporting.has_progress {
+        Progress::new(rt, called(name), size)
     } else {
-        lines_of(rt, name)
+        None
     };
-    Progress::new(rt, total)
+    Watched::new(reader, progress)
+}
+
+/// The bytes of a regular file. Any other has no number of bytes before it is read.
+pub fn size_of(file: &File) -> Option<u64> {
+    let metadata = file.metadata().ok()?;
+    if metadata.is_file() {
+        Some(metadata.len())
+    } else {
+        None
+    }
 }
 
 /// Says how many lines were answered, and how.
@@ -57,16 +68,29 @@ pub fn summarize(rt: &HostRuntime, reporting: Reporting, counts: &Counts) {
     }
 }
 
-/// Says why a run ended before the end of its input, and gives its status.
-pub fn told(rt: &impl Eprint, name: &str, status: u8) -> u8
+/// Says why a write to standard output failed. Where the reader of a pipe has gone, nobody waits for the rest, so nothing is said.
+pub(crate) fn say_write(rt: &impl Eprint, fault: Option<ErrorKind>) {
+    match fault {
+        Some(ErrorKind::BrokenPipe) => {}
+        Some(kind) => {
+            let _ = eprintln!(rt; "pwtool: standard output: {kind}");
+        }
+        None => say(rt, "standard output: a write failed"),
+    }
+}
+
+/// Says why a run ended before the end of its input, and gives its status. `memory` says what memory was asked for.
+pub fn told(rt: &impl Eprint, name: &str, memory: &str, fault: Option<ErrorKind>, status: u8) -> u8
     ensures status { result ≡ status }
 {
-    let name = if name == "-" { STANDARD_INPUT } else { name };
+    let name = called(name);
     match status {
         READ_FAULT => say_at(rt, name, "a read failed"),
-        WRITE_FAULT => say(rt, "standard output: a write failed"),
-        NO_MEMORY => say_at(rt, name, "memory is wanting for the key of a line"),
-        OVER_MAX => say_at(rt, name, "it has more than 2^40 bytes"),
+        WRITE_FAULT => say_write(rt, fault),
+        NO_MEMORY => {
+            let _ = eprintln!(rt; "pwtool: {name}: out of memory for {memory}");
+        }
+        OVER_MAX => say_at(rt, name, "the input has more than 2^40 bytes"),
         _ => {}
     }
     status
@@ -83,7 +107,7 @@ pub fn opened(rt: &HostRuntime, name: &str) -> Option<File> {
     };
     if let Ok(metadata) = file.metadata() {
         if metadata.is_dir() {
-            say_at(rt, name, "it is a directory");
+            say_at(rt, name, "this is a directory");
             return None;
         }
     }

@@ -2,8 +2,9 @@
 
 use crate::fault::{say, say_at};
 use crate::normalize::normalize_lines;
-use crate::reports::{opened, told};
+use crate::reports::{called, opened, told};
 use crate::status::{BAD_WORDS, NO_FILE};
+use crate::tally::Noted;
 use clap::ArgMatches;
 use line_io::{StdSink, StdSource};
 use line_program::status;
@@ -17,8 +18,10 @@ const NO_TEXT: u8 = 7;
 // Writes the normal texts of the lines that a reader gives.
 fn normalize<R: Read + Drop>(rt: &HostRuntime, name: &str, reader: R) -> u8 {
     let mut source = StdSource::new(reader);
-    let mut sink = StdSink::new(io::writer(rt));
-    told(rt, name, normalize_lines(&mut source, &mut sink))
+    let mut writer = Noted::new(io::writer(rt));
+    let mut sink = StdSink::new(&mut writer);
+    let status = normalize_lines(&mut source, &mut sink);
+    told(rt, name, "a line", writer.fault(), status)
 }
 
 /// Writes the normal texts of the lines of the file that is named, or of standard input, and gives the status.
@@ -43,17 +46,22 @@ fn stream<R: Read + Drop>(
 ) -> u8 {
     let width = matches.get_str("W").unwrap_or("");
     let mut source = StdSource::new(reader);
-    let mut sink = StdSink::new(io::writer(rt));
+    let mut writer = Noted::new(io::writer(rt));
+    let mut sink = StdSink::new(&mut writer);
     match run_stream(form, width, &mut source, &mut sink) {
         status::BAD_WORDS => {
             say(rt, "W is a number from 4 to 65536");
             BAD_WORDS
         }
         NO_TEXT => {
-            say_at(rt, name, "it is no Base64 in lines of this width");
+            say_at(
+                rt,
+                called(name),
+                "this is no Base64 in lines of the width W",
+            );
             NO_TEXT
         }
-        status => told(rt, name, status),
+        status => told(rt, name, "a line", writer.fault(), status),
     }
 }
 

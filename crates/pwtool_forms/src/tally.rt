@@ -1,8 +1,7 @@
-//! How many answers are written, by their words.
+//! How many answers are written, by their words, and why a write failed.
 
-use crate::progress::Progress;
 use std::io;
-use std::io::Write;
+use std::io::{ErrorKind, Write};
 
 /// How many lines were written, by what they end in.
 #[derive(Clone, Copy, Debug, PartialEq, Eq)]
@@ -46,29 +45,76 @@ const MATCH: u64 = 0x6d_61_74_63_68;
 
 const MISMATCH: u64 = 0x6d_69_73_6d_61_74_63_68;
 
-/// A writer that counts the lines which go through it, and tells the progress of a run, where that is asked for.
+/// A writer that keeps why the last write failed.
 #[derive(Drop)]
-pub struct Tally<'a, W: Write + Drop> {
+pub struct Noted<W: Write + Drop> {
     writer: W,
-    counts: Counts,
-    recent: u64,
-    progress: Option<Progress<'a>>,
+    fault: Option<ErrorKind>,
 }
 
-impl<'a, W: Write + Drop> Tally<'a, W> {
-    /// What counts the lines for this writer.
-    pub fn new(writer: W, progress: Option<Progress<'a>>) -> Tally<'a, W> {
-        Tally {
+impl<W: Write + Drop> Noted<W> {
+    /// A writer of which no write has failed.
+    pub fn new(writer: W) -> Noted<W> {
+        Noted {
             writer,
+            fault: None,
+        }
+    }
+
+    /// Why the last write failed, if one did.
+    pub fn fault(&self) -> Option<ErrorKind> {
+        self.fault
+    }
+}
+
+impl<W: Write + Drop> Write for Noted<W> {
+    fn write(&mut self, piece: &[u8]) -> io::Result<usize> {
+        match self.writer.write(piece) {
+            Ok(count) => Ok(count),
+            Err(error) => {
+                self.fault = Some(error.kind());
+                Err(error)
+            }
+        }
+    }
+
+    fn flush(&mut self) -> io::Result<()> {
+        match self.writer.flush() {
+            Ok(()) => Ok(()),
+            Err(error) => {
+                self.fault = Some(error.kind());
+                Err(error)
+            }
+        }
+    }
+}
+
+/// A writer that counts the lines which go through it by the words that they end in.
+#[derive(Drop)]
+pub struct Tally<W: Write + Drop> {
+    writer: Noted<W>,
+    counts: Counts,
+    recent: u64,
+}
+
+impl<W: Write + Drop> Tally<W> {
+    /// What counts the lines for this writer.
+    pub fn new(writer: W) -> Tally<W> {
+        Tally {
+            writer: Noted::new(writer),
             counts: Counts::none(),
             recent: 0,
-            progress,
         }
     }
 
     /// The lines that were written so far.
     pub fn counts(&self) -> Counts {
         self.counts
+    }
+
+    /// Why the last write failed, if one did.
+    pub fn fault(&self) -> Option<ErrorKind> {
+        self.writer.fault()
     }
 
     // Counts the lines that end in these bytes.
@@ -86,13 +132,10 @@ impl<'a, W: Write + Drop> Tally<'a, W> {
     }
 }
 
-impl<'a, W: Write + Drop> Write for Tally<'a, W> {
+impl<W: Write + Drop> Write for Tally<W> {
     fn write(&mut self, piece: &[u8]) -> io::Result<usize> {
         let count = self.writer.write(piece)?;
         self.count(&piece[..count]);
-        if let Some(progress) = &mut self.progress {
-            progress.tell(self.counts.lines());
-        }
         Ok(count)
     }
 

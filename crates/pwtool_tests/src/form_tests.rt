@@ -12,7 +12,7 @@ use pwtool_forms::tally::{Counts, Tally};
 use std::cell::Cell;
 use std::fmt::Display;
 use std::hash::{BuildHasher, RandomState};
-use std::io::Write;
+use std::io::{ErrorKind, Write};
 use std::os::unix::fs::PermissionsExt;
 use std::test::Fail;
 use std::{fs, io};
@@ -65,7 +65,7 @@ fn options_of_check(rt: HostRuntime) -> Result<(), Fail> {
             panic!(rt; "a form is named")
         };
         let mut out = Vec::new(rt.alloc());
-        let given = answer(&rt, matches, "-", input, &mut out);
+        let given = answer(&rt, matches, "-", None, input, &mut out);
         assert!(rt; given == status, "{words:?}: {given}");
         assert!(rt; out.as_slice() == output, "{words:?}");
     }
@@ -124,7 +124,7 @@ fn options_of_survey(rt: HostRuntime) -> Result<(), Fail> {
             panic!(rt; "one format is asked for")
         };
         let mut out = Vec::new(rt.alloc());
-        let given = survey(&rt, matches, lines, "-", input, &mut out);
+        let given = survey(&rt, matches, lines, "-", None, input, &mut out);
         assert!(rt; given == status, "{words:?}: {given}");
         assert!(rt; out.as_slice() == output, "{words:?}");
     }
@@ -226,13 +226,10 @@ impl<'a> Write for Narrow<'a> {
 #[test]
 fn lines_through_a_tally(rt: HostRuntime) -> Result<(), Fail> {
     let (taken, flushes) = (Cell::new(0), Cell::new(0));
-    let mut tally = Tally::new(
-        Narrow {
-            taken: &taken,
-            flushes: &flushes,
-        },
-        None,
-    );
+    let mut tally = Tally::new(Narrow {
+        taken: &taken,
+        flushes: &flushes,
+    });
     let mut left: &[u8] = b"match\nann\tmismatch\nmatch\ntoo-costly\nmat";
     for _ in 0..100 {
         let count = tally.write(left)?;
@@ -285,20 +282,35 @@ fn causes_of_make_are_said(rt: HostRuntime) {
         let ear = Ear {
             lines: Cell::new(0),
         };
-        assert!(rt; told(&ear, end) == status, "{end:?}");
+        assert!(rt; told(&ear, None, end) == status, "{end:?}");
         assert!(rt; ear.lines.get() == lines, "{end:?}");
     }
 }
 
 #[test]
 fn causes_of_runs_are_said(rt: HostRuntime) {
+    let full = Some(ErrorKind::StorageFull);
     for (status, lines) in [(0, 0), (1, 0), (3, 1), (4, 1), (5, 1), (6, 1)] {
         let ear = Ear {
             lines: Cell::new(0),
         };
-        assert!(rt; reports::told(&ear, "-", status) == status, "{status}");
+        assert!(rt;
+            reports::told(&ear, "-", "a key", full, status) == status,
+            "{status}"
+        );
         assert!(rt; ear.lines.get() == lines, "{status}");
     }
+}
+
+#[test]
+fn a_pipe_without_a_reader_is_left_quietly(rt: HostRuntime) {
+    let ear = Ear {
+        lines: Cell::new(0),
+    };
+    let gone = Some(ErrorKind::BrokenPipe);
+    assert!(rt; reports::told(&ear, "-", "a key", gone, 4) == 4);
+    assert!(rt; told(&ear, gone, MakeEnd::WriteFault) == 4);
+    assert!(rt; ear.lines.get() == 0);
 }
 
 #[test]

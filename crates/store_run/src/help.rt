@@ -1,6 +1,9 @@
 //! What the programs tell of their commands.
 
-/// What stands behind the options in the help: the commands, `compact`, the statuses.
+/// The version of the programs, as `--version` prints it. The header, CHANGELOG and the packages have the same one.
+pub const VERSION: &str = "1.1.0";
+
+/// What a help has after the options: the commands, `compact`, the statuses.
 pub const HELP: &str = "\
 The commands, a line each, with one tab between their parts:
   set USER TEXT               the text is the user's from now on
@@ -11,14 +14,14 @@ A user is a name of 1 to 64 bytes of UTF-8 without control characters and colons
 a shadow or htpasswd file. The replies are ok, match, mismatch, upgraded, a listing, or a word
 for what is refused; pwstore(1) has them all.
 
-With 'compact' behind FILE no command is read: FILE is written anew, a line for each user.
+With 'compact' after FILE no command is read: FILE is written anew, a line for each user.
 
 Statuses:
    0  the whole input was read, and each reply is ok, match, upgraded or a listing
    1  the whole input was read, and some reply is another
    3  a read of standard input failed; the whole lines that were taken are answered
    4  a write to standard output failed
-   5  memory is wanting; the lines before are answered
+   5  out of memory; the lines before are answered
    6  the input has more than 2^40 bytes
    7  a write of FILE failed; changes since then are answered disk-fault
    8  a word of the command line isn't UTF-8

@@ -11,6 +11,6 @@ mod opened;
 pub mod status;
 mod table;
 
-pub use help::HELP;
+pub use help::{HELP, VERSION};
 pub use opened::{compact_file, serve_file, tell};
 pub use table::{Untaken, compact, serve, store_of};

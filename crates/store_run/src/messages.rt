@@ -64,7 +64,7 @@ impl Speaker<'_> {
             OpenFault::Io(error) => {
                 let _ = eprintln!(rt; "{program}: {file}: {error}");
             }
-            OpenFault::OutOfMemory => self.say_at(rt, "memory is wanting for its bytes"),
+            OpenFault::OutOfMemory => self.say_at(rt, "out of memory for its bytes"),
         }
     }
 
@@ -129,7 +129,7 @@ impl Speaker<'_> {
             }
             OpenError::Failed if is_there => self.say_failed(rt, failure, "it isn't repaired"),
             OpenError::Failed => self.say_failed(rt, failure, "it isn't made"),
-            OpenError::OutOfMemory => self.say_at(rt, "memory is wanting for its users"),
+            OpenError::OutOfMemory => self.say_at(rt, "out of memory for its users"),
         }
     }
 }

@@ -86,7 +86,7 @@ pub fn tell(
     match status {
         READ_FAULT => speaker.say(rt, "standard input: a read failed"),
         WRITE_FAULT => speaker.say(rt, "standard output: a write failed"),
-        NO_MEMORY => speaker.say(rt, "memory is wanting for a line"),
+        NO_MEMORY => speaker.say(rt, "out of memory for a line"),
         OVER_MAX => speaker.say(rt, "standard input: it has more than 2^40 bytes"),
         _ => {}
     }
@@ -158,7 +158,7 @@ fn compact_store<'a>(
             failed(store.device().cause())
         }
         NO_MEMORY => {
-            speaker.say(rt, "memory is wanting for the new file");
+            speaker.say(rt, "out of memory for the new file");
             NO_MEMORY
         }
         _ => ALL_GOOD,
