@@ -18,7 +18,8 @@ use Rattle.bcrypt_plain.proofs.MadeTexts.{field_passes, hash_below, hash_long, p
 use Rattle.bcrypt_plain.proofs.ReadTexts.{current_is, current_lacks, text_is}
 use Rattle.any_check.specs.Table.{any_verdict, of_bcrypt_check, text_scheme}
 use Rattle.scheme_list.specs.declared.schemes.Scheme.TheVariants.{Bcrypt}
-use Rattle.crypt_text.specs.Settings.{bcrypt_setting, method_of}
+use Rattle.crypt_text.specs.Settings.{bcrypt_setting}
+use Rattle.scheme_list.specs.Schemes.{method_of}
 use Rattle.crypt_text.specs.Texts.{bcrypt_text, crypt_text, if_setting, method_text}
 use Rattle.crypt_law.proofs.Answers.{IsTold, as_any, told_of}
 use Rattle.crypt_law.proofs.BcryptReadings.{bcrypt_read}

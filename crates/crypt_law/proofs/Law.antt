@@ -5,7 +5,8 @@ use Rattle.std.proofs.lemmas.Bool.{false≢true, or_cases}
 use Rattle.phc.specs.declared.password_hash.PasswordHash.{PasswordHash}
 use Rattle.sha_crypt.specs.declared.errors.Family.TheVariants.{Sha256, Sha512}
 use Rattle.any_check.specs.Table.{any_verdict}
-use Rattle.crypt_text.specs.Settings.{begins, method_of}
+use Rattle.crypt_text.specs.Settings.{begins}
+use Rattle.scheme_list.specs.Schemes.{method_of}
 use Rattle.crypt_text.specs.Texts.{crypt_text, takes_memory}
 use Rattle.crypt_text.specs.declared.methods.Method.{Method}
 use Rattle.crypt_law.specs.Law.{MatchesExactly}

@@ -18,7 +18,8 @@ use Rattle.md5_plain.specs.declared.magic.Magic.TheVariants.{Md5}
 use Rattle.md5_plain.proofs.Fields.{fields_are}
 use Rattle.any_check.specs.Table.{any_verdict, md5_answer, of_md5, text_scheme}
 use Rattle.scheme_list.specs.declared.schemes.Scheme.TheVariants.{Md5Crypt}
-use Rattle.crypt_text.specs.Settings.{method_of, md5_salt}
+use Rattle.crypt_text.specs.Settings.{md5_salt}
+use Rattle.scheme_list.specs.Schemes.{method_of}
 use Rattle.crypt_text.specs.Texts.{crypt_text, md5_text, method_text}
 use Rattle.crypt_law.proofs.Answers.{IsTold, as_any, as_md5, md5_ok, told_of}
 use Rattle.crypt_law.proofs.Clean.{mcf_of_fault, valid_clean}

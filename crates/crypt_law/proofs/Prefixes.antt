@@ -9,7 +9,8 @@ use Rattle.base64ct.proofs.DecodingLaws.{same_true, true_same}
 use Rattle.phc.specs.declared.password_hash.PasswordHash.{PasswordHash}
 use Rattle.any_check.specs.Table.{any_verdict, row, text_scheme}
 use Rattle.scheme_list.specs.declared.schemes.Scheme.{Scheme}
-use Rattle.crypt_text.specs.Settings.{begins, has_refused, method_of}
+use Rattle.crypt_text.specs.Settings.{begins, has_refused}
+use Rattle.scheme_list.specs.Schemes.{method_of}
 use Rattle.crypt_text.specs.Texts.{Answer, crypt_text, method_text}
 
 -- a text that begins with a front is the front, and what stands behind it

@@ -30,7 +30,8 @@ use Rattle.yescrypt_plain.proofs.ScryptTexts.{text_is}
 use Rattle.yescrypt_plain.proofs.TextPieces.{field_lacks}
 use Rattle.any_check.specs.Table.{any_verdict, of_scrypt_check, text_scheme}
 use Rattle.scheme_list.specs.declared.schemes.Scheme.TheVariants.{ScryptCrypt}
-use Rattle.crypt_text.specs.Settings.{ScryptSetting, are_salt_bytes, is_dollar, method_of, scrypt_setting}
+use Rattle.crypt_text.specs.Settings.{ScryptSetting, are_salt_bytes, is_dollar, scrypt_setting}
+use Rattle.scheme_list.specs.Schemes.{method_of}
 use Rattle.crypt_text.specs.Texts as crypt
 use Rattle.crypt_text.specs.Texts.{crypt_text, if_setting, method_text}
 use Rattle.crypt_law.proofs.Answers.{IsTold, as_any, told_of}

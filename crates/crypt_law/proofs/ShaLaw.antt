@@ -22,7 +22,8 @@ use Rattle.sha_crypt.proofs.Spellings.{prints_back}
 use Rattle.stored_check.specs.Verdict.{sha_answer, text_answer, verdict}
 use Rattle.any_check.specs.Table.{any_verdict, sha_scheme, text_scheme}
 use Rattle.any_check.proofs.Families.{sha_stored}
-use Rattle.crypt_text.specs.Settings.{method_of, sha_setting}
+use Rattle.crypt_text.specs.Settings.{sha_setting}
+use Rattle.scheme_list.specs.Schemes.{method_of}
 use Rattle.crypt_text.specs.Texts.{crypt_text, if_setting, method_text, sha_text}
 use Rattle.crypt_law.proofs.Answers.{IsTold, as_any, as_stored, stored_ok, told_of}
 use Rattle.crypt_law.proofs.Clean.{mcf_of_fault, valid_clean}

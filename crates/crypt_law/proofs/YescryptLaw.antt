@@ -27,7 +27,8 @@ use Rattle.yescrypt_plain.proofs.TextPieces.{field_lacks, params_lack}
 use Rattle.yescrypt_plain.proofs.YescryptTexts.{text_is}
 use Rattle.any_check.specs.Table.{any_verdict, of_yescrypt_check, text_scheme}
 use Rattle.scheme_list.specs.declared.schemes.Scheme.TheVariants.{Yescrypt}
-use Rattle.crypt_text.specs.Settings.{YescryptSetting, method_of, salt_bytes, yescrypt_setting}
+use Rattle.crypt_text.specs.Settings.{YescryptSetting, salt_bytes, yescrypt_setting}
+use Rattle.scheme_list.specs.Schemes.{method_of}
 use Rattle.crypt_text.specs.Texts as crypt
 use Rattle.crypt_text.specs.Texts.{crypt_text, if_setting, if_short, method_text}
 use Rattle.crypt_law.proofs.Answers.{IsTold, as_any, told_of}

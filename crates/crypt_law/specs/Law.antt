@@ -3,7 +3,7 @@ use Rattle.std.specs.Prelude.{◌≡◌, ◌↔◌, ◌≤◌, ℕ, Bool, true, 
 use Rattle.phc.specs.declared.password_hash.PasswordHash.{PasswordHash}
 use Rattle.any_check.specs.Table.{any_verdict}
 use Rattle.crypt_text.specs.Limits.{phrase_max, setting_max}
-use Rattle.crypt_text.specs.Settings.{method_of}
+use Rattle.scheme_list.specs.Schemes.{method_of}
 use Rattle.crypt_text.specs.Texts.{crypt_text, takes_memory}
 
 -- For each text of one of crypt's methods, of at most 339 bytes where that is `$7$` or `$y$`, on which there is a verdict, and

@@ -1,21 +1,21 @@
 -- What crypt_checksalt(3) says of a setting: its bytes and its method are looked at, and nothing else.
 use Rattle.std.specs.Prelude.{ℕ, List, Option, Some, None, if◌then◌else◌}
-use Rattle.sha_crypt.specs.declared.errors.Family.TheVariants.{Sha256, Sha512}
-use Rattle.crypt_text.specs.Settings.{has_refused, method_of}
-use Rattle.crypt_text.specs.declared.methods.Method.{Method}
-use Rattle.crypt_text.specs.declared.methods.Method.TheVariants.{Bcrypt, Md5Crypt, Scrypt, ShaCrypt, Yescrypt}
+use Rattle.scheme_list.specs.Schemes.{method_of}
+use Rattle.scheme_list.specs.declared.schemes.Scheme.{Scheme}
+use Rattle.scheme_list.specs.declared.schemes.Scheme.TheVariants.{Bcrypt, Md5Crypt, ScryptCrypt, Sha256Crypt, Sha512Crypt, Yescrypt}
+use Rattle.crypt_text.specs.Settings.{has_refused}
 use Rattle.crypt_text.specs.declared.status.SaltStatus.{SaltStatus}
 use Rattle.crypt_text.specs.declared.status.SaltStatus.TheVariants.{Invalid, Legacy, Valid}
 
 -- by the method: md5-crypt and SHA-256-crypt are old ones for crypt(3)
-abbrev pub method_status : Option Method → SaltStatus
-method_status None = Invalid
+abbrev pub method_status : Option Scheme → SaltStatus
 method_status (Some Md5Crypt) = Legacy
-method_status (Some (ShaCrypt Sha256)) = Legacy
-method_status (Some (ShaCrypt Sha512)) = Valid
+method_status (Some Sha256Crypt) = Legacy
+method_status (Some Sha512Crypt) = Valid
 method_status (Some Bcrypt) = Valid
-method_status (Some Scrypt) = Valid
 method_status (Some Yescrypt) = Valid
+method_status (Some ScryptCrypt) = Valid
+method_status method = Invalid
 
 -- of a setting
 abbrev pub salt_status : List ℕ → SaltStatus

@@ -4,25 +4,27 @@ use Rattle.std.specs.Prelude.{Option, Some, None, if◌then◌else◌, codes}
 use Rattle.bcrypt_plain.specs.Field.{bcrypt_field}
 use Rattle.bcrypt_plain.specs.Made.{two_digits}
 use Rattle.bcrypt_plain.specs.Text.{is_cost}
+use Rattle.scheme_list.specs.Schemes.{method_of}
+use Rattle.scheme_list.specs.declared.schemes.Scheme.{Scheme}
+use Rattle.scheme_list.specs.declared.schemes.Scheme.TheVariants.{Bcrypt, Md5Crypt, ScryptCrypt, Sha256Crypt, Sha512Crypt, Yescrypt}
 use Rattle.sha_crypt.specs.Limits.{rounds_default, rounds_max, rounds_min}
 use Rattle.sha_crypt.specs.Records.{family_id, rounds_part}
 use Rattle.sha_crypt.specs.declared.errors.Family.{Family}
+use Rattle.sha_crypt.specs.declared.errors.Family.TheVariants.{Sha256, Sha512}
 use Rattle.yescrypt_plain.specs.Field.{crypt_field}
 use Rattle.yescrypt_plain.specs.Params.{scrypt_params_text, yescrypt_params_text}
 use Rattle.yescrypt_plain.specs.declared.params.ScryptParams.{ScryptParams}
 use Rattle.yescrypt_plain.specs.declared.params.YescryptParams.{YescryptParams}
-use Rattle.crypt_text.specs.Settings.{method_of}
-use Rattle.crypt_text.specs.declared.methods.Method.{Method}
-use Rattle.crypt_text.specs.declared.methods.Method.TheVariants.{Bcrypt, Md5Crypt, Scrypt, ShaCrypt, Yescrypt}
 
 -- so many random bytes are drawn for a method where the caller gives none; 0 for no method
-abbrev pub random_len : Option Method → ℕ
-random_len None = 0
+abbrev pub random_len : Option Scheme → ℕ
 random_len (Some Md5Crypt) = 9
-random_len (Some (ShaCrypt family)) = 15
+random_len (Some Sha256Crypt) = 15
+random_len (Some Sha512Crypt) = 15
 random_len (Some Bcrypt) = 16
-random_len (Some Scrypt) = 16
 random_len (Some Yescrypt) = 16
+random_len (Some ScryptCrypt) = 16
+random_len method = 0
 
 -- a setting, where the count and the bytes are taken
 abbrev pub where_taken : Bool → List ℕ → Option (List ℕ)
@@ -90,13 +92,14 @@ yescrypt_new count bytes =
 
 -- ---- by the method
 
-abbrev pub method_new : Option Method → List ℕ → ℕ → List ℕ → Option (List ℕ)
-method_new None prefix count bytes = None
+abbrev pub method_new : Option Scheme → List ℕ → ℕ → List ℕ → Option (List ℕ)
 method_new (Some Md5Crypt) prefix count bytes = md5_new count bytes
-method_new (Some (ShaCrypt family)) prefix count bytes = sha_new family count bytes
+method_new (Some Sha256Crypt) prefix count bytes = sha_new Sha256 count bytes
+method_new (Some Sha512Crypt) prefix count bytes = sha_new Sha512 count bytes
 method_new (Some Bcrypt) prefix count bytes = bcrypt_new prefix count bytes
-method_new (Some Scrypt) prefix count bytes = scrypt_new count bytes
 method_new (Some Yescrypt) prefix count bytes = yescrypt_new count bytes
+method_new (Some ScryptCrypt) prefix count bytes = scrypt_new count bytes
+method_new method prefix count bytes = None
 
 -- The setting of a prefix, which need only begin with a method's, a count and random bytes; none where the method does not
 -- take them.

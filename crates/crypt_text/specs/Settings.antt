@@ -1,5 +1,5 @@
--- The settings of crypt(3) (crypt(5)), as libxcrypt 4.4.33 reads them: the bytes that none has, the method by the prefix,
--- and for each method what is read behind it. A whole stored text is a setting: what follows the salt is ignored.
+-- The settings of crypt(3) (crypt(5)), as libxcrypt 4.4.33 reads them: the bytes that none has, and for each
+-- method what is read behind its prefix, which `scheme_list` tells. A whole stored text is a setting: what follows the salt is ignored.
 use Rattle.std.specs.Prelude.{ℕ, ◌*◌, ◌/◌, ◌==◌, ◌&&◌, ◌||◌, not, Bool, true, false, List, [], ◌∷◌, ◌++◌, length, take, drop, nat_le}
 use Rattle.std.specs.Prelude.{Option, Some, None, Result, Ok, Err, if◌then◌else◌, codes, slice_index}
 use Rattle.std.specs.List.{after_first, before_first, list_any, position_or_len}
@@ -13,14 +13,11 @@ use Rattle.bcrypt_plain.specs.Field.{field_bytes}
 use Rattle.bcrypt_plain.specs.Text.{cost_of}
 use Rattle.sha_crypt.specs.Fields.{plain_number}
 use Rattle.sha_crypt.specs.Limits.{rounds_default, rounds_max, rounds_min, salt_max_len}
-use Rattle.sha_crypt.specs.declared.errors.Family.TheVariants.{Sha256, Sha512}
 use Rattle.yescrypt_plain.specs.Params.{scrypt_params, yescrypt_params}
 use Rattle.pieces.specs.Characters.{is_crypt_character}
 use Rattle.yescrypt_plain.specs.declared.error.TextFault.{TextFault}
 use Rattle.yescrypt_plain.specs.declared.params.ScryptParams.{ScryptParams}
 use Rattle.yescrypt_plain.specs.declared.params.YescryptParams.{YescryptParams}
-use Rattle.crypt_text.specs.declared.methods.Method.{Method}
-use Rattle.crypt_text.specs.declared.methods.Method.TheVariants.{Bcrypt, Md5Crypt, Scrypt, ShaCrypt, Yescrypt}
 
 -- ---- bytes
 
@@ -53,25 +50,6 @@ after_dollar text = after_first is_dollar text
 unfoldable pub before_last_dollar : List ℕ → List ℕ
 before_last_dollar [] = []
 before_last_dollar (b ∷ text) = if is_dollar b && not (has_dollar text) then [] else b ∷ before_last_dollar text
-
--- ---- methods
-
--- the prefix of bcrypt's settings, with one of three letters
-abbrev pub begins_bcrypt : List ℕ → Bool
-begins_bcrypt text = begins text (codes "$2a$") || begins text (codes "$2b$") || begins text (codes "$2y$")
-
--- scrypt's, yescrypt's and bcrypt's
-abbrev pub longer_method : List ℕ → Option Method
-longer_method text =
-    if begins text (codes "$7$") then Some Scrypt
-    else (if begins text (codes "$y$") then Some Yescrypt else (if begins_bcrypt text then Some Bcrypt else None))
-
--- the method of a setting, or of the prefix that a new one is to have: none where it is no one of these
-abbrev pub method_of : List ℕ → Option Method
-method_of text =
-    if begins text (codes "$1$") then Some Md5Crypt
-    else (if begins text (codes "$5$") then Some (ShaCrypt Sha256)
-    else (if begins text (codes "$6$") then Some (ShaCrypt Sha512) else longer_method text))
 
 -- ---- `$1$`: the rest behind it begins with the salt
 

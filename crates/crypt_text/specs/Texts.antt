@@ -8,20 +8,22 @@ use Rattle.md5_plain.specs.Digest.{md5_crypt_digest}
 use Rattle.md5_plain.specs.Field.{md5_field}
 use Rattle.md5_plain.specs.declared.magic.Magic.TheVariants.{Md5}
 use Rattle.scrypt_plain.specs.Scrypt.{scrypt}
+use Rattle.scheme_list.specs.Schemes.{method_of}
+use Rattle.scheme_list.specs.declared.schemes.Scheme.{Scheme}
+use Rattle.scheme_list.specs.declared.schemes.Scheme.TheVariants.{Bcrypt, Md5Crypt, ScryptCrypt, Sha256Crypt, Sha512Crypt, Yescrypt}
 use Rattle.sha_crypt.specs.Digest.{sha_crypt_digest}
 use Rattle.sha_crypt.specs.Families.{Scheme}
 use Rattle.sha_crypt.specs.HashField.{hash_field}
 use Rattle.sha_crypt.specs.Records.{family_scheme, record_text}
 use Rattle.sha_crypt.specs.declared.errors.Family.{Family}
+use Rattle.sha_crypt.specs.declared.errors.Family.TheVariants.{Sha256, Sha512}
 use Rattle.yescrypt_plain.specs.Field.{crypt_field}
 use Rattle.yescrypt_plain.specs.Yescrypt.{yescrypt}
 use Rattle.crypt_text.specs.Limits.{phrase_max, setting_max}
 use Rattle.crypt_text.specs.Settings.{BcryptSetting, ScryptSetting, ShaSetting, YescryptSetting, bcrypt_setting, has_refused}
-use Rattle.crypt_text.specs.Settings.{md5_salt, method_of, scrypt_setting, sha_setting, yescrypt_setting}
+use Rattle.crypt_text.specs.Settings.{md5_salt, scrypt_setting, sha_setting, yescrypt_setting}
 use Rattle.crypt_text.specs.declared.error.CryptError.{CryptError}
 use Rattle.crypt_text.specs.declared.error.CryptError.TheVariants.{OutOfMemory, Setting, TooLong}
-use Rattle.crypt_text.specs.declared.methods.Method.{Method}
-use Rattle.crypt_text.specs.declared.methods.Method.TheVariants.{Bcrypt, Md5Crypt, Scrypt, ShaCrypt, Yescrypt}
 
 -- a text, or the cause that there is none
 abbrev pub Answer : Type 0
@@ -76,16 +78,17 @@ abbrev pub if_short : List ℕ → Answer → Answer
 if_short setting answer = if nat_lt setting_max (length setting) then Err TooLong else answer
 
 -- by the method of the setting
-abbrev pub method_text : Option Method → List ℕ → List ℕ → Answer
-method_text None phrase setting = Err Setting
+abbrev pub method_text : Option Scheme → List ℕ → List ℕ → Answer
 method_text (Some Md5Crypt) phrase setting = Ok (md5_text phrase (drop 3 setting))
-method_text (Some (ShaCrypt family)) phrase setting = if_setting (sha_text family phrase) (sha_setting (drop 3 setting))
+method_text (Some Sha256Crypt) phrase setting = if_setting (sha_text Sha256 phrase) (sha_setting (drop 3 setting))
+method_text (Some Sha512Crypt) phrase setting = if_setting (sha_text Sha512 phrase) (sha_setting (drop 3 setting))
 method_text (Some Bcrypt) phrase setting =
     if_setting (bcrypt_text (take 2 (drop 1 setting)) phrase) (bcrypt_setting (drop 4 setting))
-method_text (Some Scrypt) phrase setting =
+method_text (Some ScryptCrypt) phrase setting =
     if_short setting (if_setting (scrypt_text (drop 3 setting) phrase) (scrypt_setting (drop 3 setting)))
 method_text (Some Yescrypt) phrase setting =
     if_short setting (if_setting (yescrypt_text phrase) (yescrypt_setting (drop 3 setting)))
+method_text method phrase setting = Err Setting
 
 -- The text for a phrase and a setting, or the first cause that there is none: a phrase of 512 bytes and more, whatever the
 -- setting; a byte that no setting has; no method; a setting of `$7$` or `$y$` of 340 bytes and more; what the method refuses.
@@ -97,13 +100,10 @@ crypt_text phrase setting =
 -- ---- memory
 
 -- scrypt and yescrypt take memory
-abbrev pub takes_memory : Option Method → Bool
-takes_memory None = false
-takes_memory (Some Md5Crypt) = false
-takes_memory (Some (ShaCrypt family)) = false
-takes_memory (Some Bcrypt) = false
-takes_memory (Some Scrypt) = true
+abbrev pub takes_memory : Option Scheme → Bool
+takes_memory (Some ScryptCrypt) = true
 takes_memory (Some Yescrypt) = true
+takes_memory method = false
 
 -- there would be a text, and memory is needed for it
 unfoldable pub may_lack : List ℕ → List ℕ → Bool

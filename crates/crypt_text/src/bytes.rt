@@ -1,6 +1,7 @@
-//! The bytes of settings, and settings cut at a `$`.
+//! The bytes of settings, how they begin, and settings cut at a `$`.
 
 ghost use Rattle.std.specs.Prelude.{◌≡◌, ◌≤◌, ◌+◌, MatchOption, length, take, true, false};
+ghost use Rattle.pieces.specs.Pieces.{begins};
 ghost use Rattle.crypt_text.specs.Settings.{after_dollar, before_dollar, before_last_dollar, has_dollar, has_refused, is_refused};
 
 use pieces::places::{first_place, last_place};
@@ -62,4 +63,12 @@ pub(crate) fn before_last_dollar(text: &[u8]) -> &[u8]
         Some(at) => &text[..at],
         None => text,
     }
+}
+
+/// Whether a text begins with `front`.
+pub(crate) fn begins(text: &[u8], front: &[u8]) -> bool
+    ensures test { result ≡ begins text.now front.now }
+    ensures long { result ≡ true → length front.now ≤ length text.now }
+{
+    text.starts_with(front)
 }

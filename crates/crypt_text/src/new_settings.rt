@@ -2,13 +2,13 @@
 
 ghost use Rattle.std.specs.Prelude.{◌≡◌, ◌≤◌, length};
 ghost use Rattle.crypt_text.specs.NewSettings.{bcrypt_new, group_salt, long_salt, md5_new, method_new, new_rounds, new_setting, or_default, random_len, scrypt_new, sha_new, yescrypt_count_params, yescrypt_new};
-ghost use Rattle.crypt_text.specs.Settings.{method_of};
+ghost use Rattle.scheme_list.specs.Schemes.{method_of};
 
 use crate::bytes::front;
 use crate::fields::{crypt_field, two_digits};
-use crate::{Method, method_of};
 use bcrypt_plain::encode_salt;
 use pieces::short_bytes::ShortBytes;
+use scheme_list::{Scheme, method_of};
 use sha_crypt::{Family, push_rounds};
 use yescrypt_plain::{ScryptParams, YescryptParams, scrypt_params_text, yescrypt_params_text};
 
@@ -20,10 +20,10 @@ pub fn random_len(prefix: &[u8]) -> usize
     ensures len { result ≡ random_len (method_of prefix.now) }
 {
     match method_of(prefix) {
-        None => 0,
-        Some(Method::Md5Crypt) => 9,
-        Some(Method::ShaCrypt(_)) => 15,
-        Some(_) => 16,
+        Some(Scheme::Md5Crypt) => 9,
+        Some(Scheme::Sha256Crypt | Scheme::Sha512Crypt) => 15,
+        Some(Scheme::Bcrypt | Scheme::Yescrypt | Scheme::ScryptCrypt) => 16,
+        _ => 0,
     }
 }
 
@@ -171,11 +171,12 @@ pub fn new_setting(prefix: &[u8], count: u64, bytes: &[u8]) -> Option<ShortBytes
     ensures setting { result ≡ new_setting prefix.now count bytes.now }
 {
     match method_of(prefix) {
-        None => None,
-        Some(Method::Md5Crypt) => md5_new(count, bytes),
-        Some(Method::ShaCrypt(family)) => sha_new(family, count, bytes),
-        Some(Method::Bcrypt) => bcrypt_new(prefix, count, bytes),
-        Some(Method::Scrypt) => scrypt_new(count, bytes),
-        Some(Method::Yescrypt) => yescrypt_new(count, bytes),
+        Some(Scheme::Md5Crypt) => md5_new(count, bytes),
+        Some(Scheme::Sha256Crypt) => sha_new(Family::Sha256, count, bytes),
+        Some(Scheme::Sha512Crypt) => sha_new(Family::Sha512, count, bytes),
+        Some(Scheme::Bcrypt) => bcrypt_new(prefix, count, bytes),
+        Some(Scheme::Yescrypt) => yescrypt_new(count, bytes),
+        Some(Scheme::ScryptCrypt) => scrypt_new(count, bytes),
+        _ => None,
     }
 }

@@ -10,8 +10,7 @@ ghost use Rattle.crypt_text.specs.Settings.{are_rounds, sha_by_number, sha_salt,
 ghost use Rattle.crypt_text.specs.Texts.{if_setting, sha_text};
 ghost use Rattle.crypt_text.specs.Views.{as_sha, sha_view};
 
-use crate::bytes::{before_dollar, cut_at_dollar, front};
-use crate::methods::begins;
+use crate::bytes::{before_dollar, begins, cut_at_dollar, front};
 use crate::{CryptError, TEXT_MAX};
 use pieces::short_bytes::ShortBytes;
 use pieces::text::text_of;

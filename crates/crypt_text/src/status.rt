@@ -4,8 +4,7 @@ ghost use Rattle.std.specs.Prelude.{◌≡◌};
 ghost use Rattle.crypt_text.specs.Checks.{method_status, salt_status};
 
 use crate::bytes::has_refused;
-use crate::{Method, method_of};
-use sha_crypt::Family;
+use scheme_list::{Scheme, method_of};
 
 /// What crypt_checksalt(3) says of a setting.
 #[derive(Clone, Copy, Debug, PartialEq, Eq)]
@@ -19,13 +18,15 @@ pub enum SaltStatus {
 }
 
 // By the method.
-fn method_status(method: Option<Method>) -> SaltStatus
+fn method_status(method: Option<Scheme>) -> SaltStatus
     ensures { result ≡ method_status method }
 {
     match method {
-        None => SaltStatus::Invalid,
-        Some(Method::Md5Crypt) | Some(Method::ShaCrypt(Family::Sha256)) => SaltStatus::Legacy,
-        Some(_) => SaltStatus::Valid,
+        Some(Scheme::Md5Crypt | Scheme::Sha256Crypt) => SaltStatus::Legacy,
+        Some(Scheme::Sha512Crypt | Scheme::Bcrypt | Scheme::Yescrypt | Scheme::ScryptCrypt) => {
+            SaltStatus::Valid
+        }
+        _ => SaltStatus::Invalid,
     }
 }
 

@@ -2,17 +2,19 @@
 
 ghost use Rattle.std.specs.Prelude.{◌≡◌, ◌≤◌, ◌&&◌, is_ok, length};
 ghost use Rattle.crypt_text.specs.Limits.{phrase_max};
-ghost use Rattle.crypt_text.specs.Settings.{method_of};
+ghost use Rattle.scheme_list.specs.Schemes.{method_of};
 ghost use Rattle.crypt_text.specs.Texts.{IsAnswer, crypt_text, may_lack, method_text, takes_memory};
 
+use crate::CryptError;
 use crate::bcrypt_texts::bcrypt_answer;
 use crate::bytes::has_refused;
 use crate::md5_texts::md5_text;
 use crate::scrypt_texts::scrypt_answer;
 use crate::sha_texts::sha_answer;
 use crate::yescrypt_texts::yescrypt_answer;
-use crate::{CryptError, Method, method_of};
 use pieces::short_bytes::ShortBytes;
+use scheme_list::{Scheme, method_of};
+use sha_crypt::Family;
 use std::alloc::Global;
 
 /// The most bytes of a phrase.
@@ -35,12 +37,13 @@ fn method_text(
         in IsAnswer expected (takes_memory (method_of setting.now) && is_ok expected) result }
 {
     match method_of(setting) {
-        None => Err(CryptError::Setting),
-        Some(Method::Md5Crypt) => Ok(md5_text(phrase, &setting[3..])),
-        Some(Method::ShaCrypt(family)) => sha_answer(family, phrase, &setting[3..]),
-        Some(Method::Bcrypt) => bcrypt_answer(phrase, setting),
-        Some(Method::Scrypt) => scrypt_answer(alloc, phrase, setting),
-        Some(Method::Yescrypt) => yescrypt_answer(alloc, phrase, setting),
+        Some(Scheme::Md5Crypt) => Ok(md5_text(phrase, &setting[3..])),
+        Some(Scheme::Sha256Crypt) => sha_answer(Family::Sha256, phrase, &setting[3..]),
+        Some(Scheme::Sha512Crypt) => sha_answer(Family::Sha512, phrase, &setting[3..]),
+        Some(Scheme::Bcrypt) => bcrypt_answer(phrase, setting),
+        Some(Scheme::Yescrypt) => yescrypt_answer(alloc, phrase, setting),
+        Some(Scheme::ScryptCrypt) => scrypt_answer(alloc, phrase, setting),
+        _ => Err(CryptError::Setting),
     }
 }
 

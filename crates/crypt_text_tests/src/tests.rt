@@ -1,7 +1,7 @@
 //! Texts, new settings and answers of libxcrypt 4.4.33.
 
 use crypt_text::{
-    CryptError, Method, SaltStatus, crypt_text, method_of, new_setting, random_len, salt_status,
+    CryptError, SaltStatus, Scheme, crypt_text, method_of, new_setting, random_len, salt_status,
 };
 use std::alloc::Global;
 use std::test::Fail;
@@ -533,7 +533,7 @@ fn random_lens(rt: HostRuntime) -> Result<(), Fail> {
         assert!(rt; random_len(prefix) == wanted, "{prefix:?}");
         assert!(rt; method_of(prefix).is_some() == (wanted > 0), "{prefix:?}");
     }
-    assert!(rt; method_of(b"$y$") == Some(Method::Yescrypt));
+    assert!(rt; method_of(b"$y$") == Some(Scheme::Yescrypt));
     Ok(())
 }
 

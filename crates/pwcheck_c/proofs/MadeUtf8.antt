@@ -37,7 +37,7 @@ use Rattle.any_check.specs.Table.{any_verdict, is_record, of_stored, sha_scheme,
 use Rattle.any_check.proofs.Families.{sha_stored}
 use Rattle.any_check.specs.Cost.{verdict_within}
 use Rattle.any_check.proofs.Causes.{within}
-use Rattle.any_make.specs.Costs.{is_taken, password_length}
+use Rattle.any_make.specs.Costs.{is_taken}
 use Rattle.any_make.specs.Made.{hash_text}
 use Rattle.any_make.specs.Records.{argon2_record, pbkdf2_record, scrypt_record}
 use Rattle.any_make.specs.declared.scheme.Argon2Cost.{Argon2Cost}
@@ -45,7 +45,7 @@ use Rattle.yescrypt_plain.specs.declared.params.ScryptParams.{ScryptParams}
 use Rattle.any_make.specs.declared.scheme.MakeCost.{MakeCost}
 use Rattle.any_make.specs.declared.scheme.MakeCost.TheVariants as cost
 use Rattle.any_make.proofs.Judged.{by_record, by_row}
-use Rattle.any_make.proofs.Matches.{made_is, made_matches}
+use Rattle.any_make.proofs.Matches.{made_is, made_matches, short_enough}
 use Rattle.pwcheck_c.specs.AnyAnswers.{any_answer, bounds_of, cause_answer}
 use Rattle.pwcheck_c.specs.Laws.{MadeMatches}
 
@@ -248,14 +248,6 @@ made_ascii (cost.Pbkdf2Sha256 n) password salt taken short is =
     of_record password _ short (pbkdf2_scheme n salt _) is
 
 -- ---- the law
-
-short_enough : (c : MakeCost) (n : ℕ) → n ≤ password_length c → n ≤ 4096
-short_enough (cost.ShaCrypt family rounds) n h = h
-short_enough (cost.Scrypt c) n h = h
-short_enough (cost.Bcrypt cost) n h = omega (arith, h)
-short_enough (cost.Yescrypt c) n h = h
-short_enough (cost.Argon2id c) n h = h
-short_enough (cost.Pbkdf2Sha256 rounds) n h = h
 
 pub any_matches : MadeMatches
 unfolding any_answer

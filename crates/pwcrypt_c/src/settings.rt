@@ -3,7 +3,7 @@
 ghost use Rattle.std.specs.Prelude.{◌≡◌};
 ghost use Rattle.crypt_text.specs.Checks.{salt_status};
 ghost use Rattle.crypt_text.specs.NewSettings.{new_setting, random_len};
-ghost use Rattle.crypt_text.specs.Settings.{method_of};
+ghost use Rattle.scheme_list.specs.Schemes.{method_of};
 ghost use Rattle.pwcrypt_c.specs.Answers.{IsSettingTold};
 ghost use Rattle.pwcrypt_c.specs.Statuses.{salt_number};
 
