@@ -9,7 +9,7 @@ use Rattle.md5_plain.specs.Field.{md5_field}
 use Rattle.md5_plain.specs.declared.magic.Magic.TheVariants.{Md5}
 use Rattle.scrypt_plain.specs.Scrypt.{scrypt}
 use Rattle.scheme_list.specs.Schemes.{method_of}
-use Rattle.scheme_list.specs.declared.schemes.Scheme.{Scheme}
+use Rattle.scheme_list.specs.declared.schemes.Scheme.{Scheme as StoredScheme}
 use Rattle.scheme_list.specs.declared.schemes.Scheme.TheVariants.{Bcrypt, Md5Crypt, ScryptCrypt, Sha256Crypt, Sha512Crypt, Yescrypt}
 use Rattle.sha_crypt.specs.Digest.{sha_crypt_digest}
 use Rattle.sha_crypt.specs.Families.{Scheme}
@@ -78,7 +78,7 @@ abbrev pub if_short : List ℕ → Answer → Answer
 if_short setting answer = if nat_lt setting_max (length setting) then Err TooLong else answer
 
 -- by the method of the setting
-abbrev pub method_text : Option Scheme → List ℕ → List ℕ → Answer
+abbrev pub method_text : Option StoredScheme → List ℕ → List ℕ → Answer
 method_text (Some Md5Crypt) phrase setting = Ok (md5_text phrase (drop 3 setting))
 method_text (Some Sha256Crypt) phrase setting = if_setting (sha_text Sha256 phrase) (sha_setting (drop 3 setting))
 method_text (Some Sha512Crypt) phrase setting = if_setting (sha_text Sha512 phrase) (sha_setting (drop 3 setting))
@@ -100,7 +100,7 @@ crypt_text phrase setting =
 -- ---- memory
 
 -- scrypt and yescrypt take memory
-abbrev pub takes_memory : Option Scheme → Bool
+abbrev pub takes_memory : Option StoredScheme → Bool
 takes_memory (Some ScryptCrypt) = true
 takes_memory (Some Yescrypt) = true
 takes_memory method = false
