@@ -6,9 +6,12 @@ use Rattle.phc.specs.declared.password_hash.PasswordHash.{PasswordHash}
 use Rattle.sha_crypt.specs.declared.errors.Family.TheVariants.{Sha256, Sha512}
 use Rattle.any_check.specs.Table.{any_verdict}
 use Rattle.crypt_text.specs.Settings.{begins}
-use Rattle.scheme_list.specs.Schemes.{method_of}
+use Rattle.scheme_list.proofs.Found.{found_holds}
+use Rattle.scheme_list.specs.Schemes.{has_prefix, method_of, schemes}
+use Rattle.scheme_list.specs.declared.schemes.Scheme.{Scheme}
+use Rattle.scheme_list.specs.declared.schemes.Scheme.TheVariants.{Argon2d, Argon2i, Argon2id, Bcrypt, Md5Crypt, Pbkdf2Sha256}
+use Rattle.scheme_list.specs.declared.schemes.Scheme.TheVariants.{Pbkdf2Sha512, Scrypt, ScryptCrypt, Sha256Crypt, Sha512Crypt, Yescrypt}
 use Rattle.crypt_text.specs.Texts.{crypt_text, takes_memory}
-use Rattle.crypt_text.specs.declared.methods.Method.{Method}
 use Rattle.crypt_law.specs.Law.{MatchesExactly}
 use Rattle.crypt_law.proofs.Answers.{as_any}
 use Rattle.crypt_law.proofs.BcryptLaw.{bcrypt_law, of_a, of_b, of_y}
@@ -18,15 +21,9 @@ use Rattle.crypt_law.proofs.ScryptLaw.{scrypt_law}
 use Rattle.crypt_law.proofs.ShaLaw.{sha_law}
 use Rattle.crypt_law.proofs.YescryptLaw.{yescrypt_law}
 
--- where there is a method, it is the first one, or one of the others
-first_or : (t : Bool) (m : Method) (others : Option Method) → is_some (if t then Some m else others) ≡ true
-    → (t ≡ true) ⊎ (is_some others ≡ true)
-first_or true m others h = inl refl
-first_or false m others h = inr h
-
-last_one : (t : Bool) (m : Method) → is_some (if t then Some m else None) ≡ true → t ≡ true
-last_one true m h = refl
-last_one false m h = absurd (false≢true h)
+-- a setting that begins with one of one prefix begins with it
+only : (t : Bool) → t || false ≡ true → t ≡ true
+only t is = elim (or_cases t false is) [ inl h ↦ h | inr h ↦ absurd (false≢true h) ]
 
 module _ (accepted : PasswordHash → List ℕ → ℕ → Bool)
     (tag : List ℕ → PasswordHash → List ℕ → ℕ → List ℕ) (phrase : List ℕ) (matches : Bool) where
@@ -41,42 +38,45 @@ module _ (accepted : PasswordHash → List ℕ → ℕ → Bool)
   of_prefix : (text prefix : List ℕ) → begins text prefix ≡ true → Holds (prefix ++ drop (length prefix) text) → Holds text
   of_prefix text prefix is holds = subst Holds (sym (front_is text prefix is)) holds
 
-  by_bcrypt : (text : List ℕ) → (begins text (codes "$2a$") || begins text (codes "$2b$") || begins text (codes "$2y$")) ≡ true
-      → Holds text
+  by_bcrypt : (text : List ℕ) → has_prefix text Bcrypt ≡ true → Holds text
   by_bcrypt text is =
-      elim (or_cases (begins text (codes "$2a$") || begins text (codes "$2b$")) (begins text (codes "$2y$")) is) [
-        | inl either ↦
-            elim (or_cases (begins text (codes "$2a$")) (begins text (codes "$2b$")) either) [
-              | inl a ↦ of_prefix text (codes "$2a$") a (λ short fits h. bcrypt_law accepted tag of_a phrase (drop 4 text) matches short h)
-              | inr b ↦ of_prefix text (codes "$2b$") b (λ short fits h. bcrypt_law accepted tag of_b phrase (drop 4 text) matches short h)
+      elim (or_cases (begins text (codes "$2a$")) (begins text (codes "$2b$") || (begins text (codes "$2y$") || false)) is) [
+        | inl a ↦ of_prefix text (codes "$2a$") a (λ short fits h. bcrypt_law accepted tag of_a phrase (drop 4 text) matches short h)
+        | inr others ↦
+            elim (or_cases (begins text (codes "$2b$")) (begins text (codes "$2y$") || false) others) [
+              | inl b ↦ of_prefix text (codes "$2b$") b (λ short fits h. bcrypt_law accepted tag of_b phrase (drop 4 text) matches short h)
+              | inr y ↦ of_prefix text (codes "$2y$") (only (begins text (codes "$2y$")) y)
+                  (λ short fits h. bcrypt_law accepted tag of_y phrase (drop 4 text) matches short h)
             ]
-        | inr y ↦ of_prefix text (codes "$2y$") y (λ short fits h. bcrypt_law accepted tag of_y phrase (drop 4 text) matches short h)
       ]
 
-  by_method : (text : List ℕ) → is_some (method_of text) ≡ true → Holds text
-  by_method text some =
-      elim (first_or (begins text (codes "$1$")) _ _ some) [
-        | inl is ↦ of_prefix text (codes "$1$") is (λ short fits h. md5_law accepted tag phrase (drop 3 text) matches short h)
-        | inr other ↦
-            elim (first_or (begins text (codes "$5$")) _ _ other) [
-              | inl is ↦ of_prefix text (codes "$5$") is (λ short fits h. sha_law accepted tag Sha256 phrase (drop 3 text) matches short h)
-              | inr other ↦
-                  elim (first_or (begins text (codes "$6$")) _ _ other) [
-                    | inl is ↦ of_prefix text (codes "$6$") is (λ short fits h. sha_law accepted tag Sha512 phrase (drop 3 text) matches short h)
-                    | inr other ↦
-                        elim (first_or (begins text (codes "$7$")) _ _ other) [
-                          | inl is ↦ of_prefix text (codes "$7$") is
-                              (λ short fits h. scrypt_law accepted tag phrase (drop 3 text) matches short (fits refl) h)
-                          | inr other ↦
-                              elim (first_or (begins text (codes "$y$")) _ _ other) [
-                                | inl is ↦ of_prefix text (codes "$y$") is
-                                    (λ short fits h. yescrypt_law accepted tag phrase (drop 3 text) matches short (fits refl) h)
-                                | inr other ↦ by_bcrypt text (last_one _ _ other)
-                              ]
-                        ]
-                  ]
-            ]
-      ]
+  by_scheme : (text : List ℕ) (s : Scheme) → has_prefix text s ≡ true → Holds text
+  by_scheme text Md5Crypt is =
+      of_prefix text (codes "$1$") (only (begins text (codes "$1$")) is)
+      (λ short fits h. md5_law accepted tag phrase (drop 3 text) matches short h)
+  by_scheme text Sha256Crypt is =
+      of_prefix text (codes "$5$") (only (begins text (codes "$5$")) is)
+      (λ short fits h. sha_law accepted tag Sha256 phrase (drop 3 text) matches short h)
+  by_scheme text Sha512Crypt is =
+      of_prefix text (codes "$6$") (only (begins text (codes "$6$")) is)
+      (λ short fits h. sha_law accepted tag Sha512 phrase (drop 3 text) matches short h)
+  by_scheme text Bcrypt is = by_bcrypt text is
+  by_scheme text Yescrypt is =
+      of_prefix text (codes "$y$") (only (begins text (codes "$y$")) is)
+      (λ short fits h. yescrypt_law accepted tag phrase (drop 3 text) matches short (fits refl) h)
+  by_scheme text ScryptCrypt is =
+      of_prefix text (codes "$7$") (only (begins text (codes "$7$")) is)
+      (λ short fits h. scrypt_law accepted tag phrase (drop 3 text) matches short (fits refl) h)
+  by_scheme text Scrypt is = absurd (false≢true is)
+  by_scheme text Pbkdf2Sha256 is = absurd (false≢true is)
+  by_scheme text Pbkdf2Sha512 is = absurd (false≢true is)
+  by_scheme text Argon2d is = absurd (false≢true is)
+  by_scheme text Argon2i is = absurd (false≢true is)
+  by_scheme text Argon2id is = absurd (false≢true is)
+
+  by_method : (text : List ℕ) (o : Option Scheme) → method_of text ≡ o → is_some o ≡ true → Holds text
+  by_method text None is some = absurd (false≢true some)
+  by_method text (Some s) is some = by_scheme text s (found_holds (has_prefix text) schemes s is)
 
 pub law : MatchesExactly
-law accepted tag phrase text matches some = by_method accepted tag phrase matches text some
+law accepted tag phrase text matches some = by_method accepted tag phrase matches text (method_of text) refl some
