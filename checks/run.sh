@@ -16,6 +16,7 @@ python3 crypt3/numbers.py swaps
 python3 checks/pages.py
 python3 checks/same_numbers.py changed
 python3 checks/layers.py
+python3 checks/copies.py
 python3 bench/pictures.py check
 python3 bench/run.py --check
 python3 checks/dist.py

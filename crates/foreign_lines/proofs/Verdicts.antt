@@ -2,21 +2,18 @@
 use Rattle.std.proofs.Common.{◌≡◌, ℕ, ◌^◌, ◌<◌, ◌≤◌, true, false, List, [], ◌∷◌, ◌++◌, length, refl, sym, ap, ◌∙◌}
 use Rattle.std.proofs.Common.{append-nil, append_assoc, arith, Ok}
 use Rattle.std.specs.Prelude.{codes, nat_le, nat_lt, Some, None}
-use Rattle.std.specs.Char.{is_ascii_digit}
 use Rattle.std.specs.Fmt.{decimal}
 use Rattle.std.proofs.lemmas.Bool.Decides.{nat_tests}
 use Rattle.base64ct.specs.Encoding.{EachBelow}
-use Rattle.mcf.specs.Grammar.{Parts, fault, field_fault, first_field_fault, is_field_byte, is_identifier, mcf, parts, parts_text}
+use Rattle.mcf.specs.Grammar.{Parts, fault, field_fault, first_field_fault, is_identifier, mcf, parts, parts_text}
 use Rattle.mcf.proofs.Built.{mcf-parts_text}
-use Rattle.mcf.proofs.ValidTexts.{pieces_of_valid}
 use Rattle.mcf.proofs.Pushed.{good_field}
 use Rattle.pieces.proofs.FaultLaws.{value_found}
 use Rattle.pieces.proofs.PlainNumbers.{decimal_read}
 use Rattle.phc.specs.Encoded.{encoding}
-use Rattle.phc.specs.Grammar.{decimal_value, is_value_byte}
-use Rattle.phc.specs.Record.{phc, phc_of_pieces, phc_text, record_text}
-use Rattle.phc.proofs.Characters.{all_weaker, decimal_digits, encoding_value}
-use Rattle.phc.proofs.EncodedBytes.{encoded_length}
+use Rattle.phc.specs.Grammar.{decimal_value}
+use Rattle.phc.specs.Record.{phc, record_text}
+use Rattle.phc_kdf.proofs.RecordFields.{encoded_good, in_field, read_phc}
 use Rattle.pbkdf2_key.specs.Profile.{pbkdf2_accepts, pbkdf2_key, pbkdf2_with}
 use Rattle.stored_check.specs.Verdict.{parts_answer, phc_answer, same_text, scheme_of, verdict}
 use Rattle.stored_check.proofs.MadeTexts.{of_parts}
@@ -34,21 +31,9 @@ use Rattle.foreign_text.proofs.Records.{read_again}
 
 -- ---- fields
 
-digit_in_field : (b : ℕ) → is_ascii_digit b ≡ true → is_field_byte b ≡ true
-digit_in_field b h = grind (arith, nat_tests)
-
-value_in_field : (b : ℕ) → is_value_byte b ≡ true → is_field_byte b ≡ true
-value_in_field b value = grind (arith, nat_tests, value)
-
-encoded_good : (b : List ℕ) → EachBelow 256 b → 1 ≤ length b → field_fault (encoding b) ≡ None
-encoded_good b below some =
-    good_field (encoding b) (omega (arith, encoded_length b below, some))
-    (all_weaker is_value_byte is_field_byte value_in_field (encoding b) (encoding_value b below))
-
 rounds_good : (n : ℕ) → n < 2 ^ 32 → field_fault (105 ∷ 61 ∷ decimal n) ≡ None
 rounds_good n small =
-    let digits = all_weaker is_ascii_digit is_field_byte digit_in_field (decimal n) (decimal_digits n small) in
-    good_field (105 ∷ 61 ∷ decimal n) (omega arith) digits
+    good_field (105 ∷ 61 ∷ decimal n) (omega arith) (in_field n small)
 
 -- ---- the parts
 
@@ -69,12 +54,6 @@ printed Sha512 rounds salt key =
     let params : List ℕ = 36 ∷ 105 ∷ 61 ∷ decimal rounds in
     ap (λ (t : List ℕ). codes "$pbkdf2-sha512" ++ (params ++ ((36 ∷ encoding salt) ++ t))) (append-nil (36 ∷ encoding key))
     ∙ ap (λ (t : List ℕ). codes "$pbkdf2-sha512" ++ t) (sym (append_assoc params (36 ∷ encoding salt) (36 ∷ encoding key)))
-
-read_phc : (text : List ℕ) (p : Parts) → mcf text ≡ Ok p → phc_text text ≡ phc p.id p.fields
-unfolding mcf phc_text
-read_phc text p h =
-    let is = value_found (parts text) p (fault text) h in
-    ap phc_of_pieces (pieces_of_valid text is.0) ∙ ap (λ (q : Parts). phc q.id q.fields) is.1
 
 named : (text : List ℕ) (p : Parts) → mcf text ≡ Ok p → text_scheme text ≡ scheme_named p.id
 unfolding mcf text_scheme

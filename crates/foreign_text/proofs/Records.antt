@@ -1,20 +1,17 @@
 -- The text of a record: how it is put together, and that it is read as the record.
 use Rattle.std.proofs.Common.{◌≡◌, ℕ, ◌^◌, ◌<◌, ◌≤◌, true, List, ◌∷◌, ◌++◌, length, refl, ap, ◌∙◌, arith}
 use Rattle.std.proofs.Common.{append_assoc, Ok}
-use Rattle.std.specs.Prelude.{codes, nat_le}
-use Rattle.std.specs.Char.{is_ascii_digit}
+use Rattle.std.specs.Prelude.{codes}
 use Rattle.std.specs.Fmt.{decimal}
 use Rattle.std.specs.List.{list_all}
-use Rattle.std.proofs.lemmas.Bool.Decides.{nat_tests}
 use Rattle.std.proofs.lemmas.List.{length-append}
 use Rattle.phc.specs.Encoded.{encoding}
-use Rattle.phc.specs.Grammar.{is_name, is_value_byte}
+use Rattle.phc.specs.Grammar.{is_name}
 use Rattle.phc.specs.Limits.{params_max}
 use Rattle.phc.specs.Params.{pairs_text}
 use Rattle.phc.specs.Record.{IsRecord, is_pair, is_printable, phc_text, record_text}
-use Rattle.phc.proofs.Characters.{all_weaker, decimal_digits}
 use Rattle.phc.proofs.ParsedBack.{parses_back}
-use Rattle.phc.proofs.ValueBytes.{decimal_length}
+use Rattle.phc.proofs.ValueBytes.{decimal_length, few, values}
 use Rattle.foreign_text.specs.Fronts.{front_text, pbkdf2_sign}
 use Rattle.foreign_text.specs.Laws.{AreHeld, CostFits}
 use Rattle.foreign_text.specs.Records.{identifier, made_text, params_of, record_of}
@@ -57,17 +54,6 @@ joined_is kdf salt key text is =
     ∙ ap (λ (t : List ℕ). t ++ codes "$" ++ encoding key) (append_assoc front (codes "$") (encoding salt))
     ∙ append_assoc (front ++ 36 ∷ encoding salt) (codes "$") (encoding key)
     ∙ made_is kdf salt key
-
--- ---- the numbers
-
-digit_is_value : (b : ℕ) → is_ascii_digit b ≡ true → is_value_byte b ≡ true
-digit_is_value b h = grind (arith, nat_tests)
-
-pub values : (n : ℕ) → n < 2 ^ 32 → list_all is_value_byte (decimal n) ≡ true
-values n small = all_weaker is_ascii_digit is_value_byte digit_is_value (decimal n) (decimal_digits n small)
-
-few : (n : ℕ) → n < 2 ^ 32 → nat_le (length (decimal n)) 64 ≡ true
-few n small = let size = decimal_length n small in grind (arith, nat_tests, size)
 
 -- ---- the record
 

@@ -39,7 +39,7 @@ use Rattle.foreign_text.specs.declared.kdf.Kdf.TheVariants.{Pbkdf2}
 use Rattle.foreign_text.specs.declared.kdf.Pbkdf2Hash.{Pbkdf2Hash}
 use Rattle.foreign_text.specs.declared.kdf.Pbkdf2Hash.TheVariants.{Sha256, Sha512}
 use Rattle.foreign_text.proofs.Lengths.{key_held, salt_held, taken}
-use Rattle.foreign_text.proofs.Records.{values}
+use Rattle.phc.proofs.ValueBytes.{values}
 
 -- ---- no `$` in fields
 

@@ -1,14 +1,10 @@
 -- The schemes that foreign texts name, by how the texts begin.
-use Rattle.std.specs.Prelude.{ℕ, Bool, ◌||◌, List, nat_eq, Option, Some, None, if◌then◌else◌, codes}
-use Rattle.std.specs.List.{starts_with}
+use Rattle.std.specs.Prelude.{ℕ, Bool, ◌||◌, List, Option, Some, None, if◌then◌else◌, codes}
+pub use Rattle.pieces.specs.Pieces.{begins}
 use Rattle.pieces.specs.Pieces.{behind}
 use Rattle.foreign_text.specs.declared.fault.Unread.{Unread}
 use Rattle.foreign_text.specs.declared.fault.Unread.TheVariants.{BcryptSha256, Cleartext, DesCrypt, Md5, Other, Pbkdf2Sha1}
 use Rattle.foreign_text.specs.declared.fault.Unread.TheVariants.{Sha1, Sha2}
-
--- a text begins with this front
-abbrev pub begins : List ℕ → List ℕ → Bool
-begins text front = starts_with nat_eq text front
 
 -- ---- Django's hashers (django.contrib.auth.hashers, `algorithm`) that aren't read
 

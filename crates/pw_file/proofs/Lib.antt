@@ -4,6 +4,7 @@ pub mod Content
 pub mod Calls
 pub mod Own
 pub mod Distinct
+pub mod GoodRows
 pub mod Listed
 pub mod Entries
 pub mod LineAnswers

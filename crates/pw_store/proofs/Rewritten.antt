@@ -23,32 +23,12 @@ use Rattle.pw_file.proofs.Calls.{no_change}
 use Rattle.pw_file.proofs.Distinct.{Distinct, content_distinct, distinct_middle, insert_absent}
 use Rattle.pw_file.proofs.Listed.{command_named}
 use Rattle.pw_store.specs.Store.{is_taken, recovered_rows, rows_after}
+use Rattle.pw_file.proofs.GoodRows.{AreRows, IsRow, rows_inserted}
 use Rattle.pw_store.proofs.Contents.{of_file}
 use Rattle.pw_store.proofs.Grouped.{file_is}
 use Rattle.pw_store.proofs.Lines.{good, is_line, line_after, line_taken, no_check, no_upgrade}
 
 module _ {T V : Type 0} (p : TextPolicy T V) (law : IsLawful p) where
-  -- ---- what the rows of a file are
-
-  -- a name, and a text that `set` takes
-  pub record IsRow (row : List ℕ × List ℕ) : Type 0 where
-    pub name : p.is_name row.0 ≡ true
-    pub short : length row.1 ≤ 1024
-    pub good : p.text_fault row.1 ≡ None
-
-  abbrev pub AreRows : Rows → Type 0
-  AreRows [] = Unit {0}
-  AreRows (row ∷ rows) = IsRow row × AreRows rows
-
-  inserted : (rows : Rows) (user new : List ℕ) → AreRows rows → IsRow (user, new) → AreRows (insert_entry same_text rows user new)
-  inserted [] user new all one = (one, tt)
-  inserted (e ∷ es) user new all one = by_test (same_text user e.0) (inserted es user new all.1 one)
-    where
-      by_test : (t : Bool) → AreRows (insert_entry same_text es user new)
-          → AreRows (if t then (e.0, new) ∷ es else e ∷ insert_entry same_text es user new)
-      by_test true rest = (record { name = all.0.name; short = one.short; good = one.good }, all.1)
-      by_test false rest = (all.0, rest)
-
   -- a line that is taken is a `set`
   pub record IsSet (rows : Rows) (line : List ℕ) : Type 0 where
     pub user : List ℕ
@@ -85,22 +65,22 @@ module _ {T V : Type 0} (p : TextPolicy T V) (law : IsLawful p) where
       ap (changed rows) (ap (λ (c : Option Command). change_of c (table_reply p rows line)) s.is
       ∙ ap (λ b. cond b (Some (s.user, s.text)) None) taken)
 
-  rows_good : (rows last : Rows) (ls : List (List ℕ)) → AreRows rows → rows_after p rows ls ≡ Some last → AreRows last
+  rows_good : (rows last : Rows) (ls : List (List ℕ)) → AreRows p rows → rows_after p rows ls ≡ Some last → AreRows p last
   rows_good rows last [] are is = by_same (some_same is)
     where
       some_same : Some rows ≡ Some last → rows ≡ last
       some_same e = cc e
 
-      by_same : rows ≡ last → AreRows last
-      by_same same = subst AreRows same are
+      by_same : rows ≡ last → AreRows p last
+      by_same same = subst (AreRows p) same are
   rows_good rows last (l ∷ ls) are is = by_test (is_taken p rows l) refl (λ next. rows_good (table_after p rows l) last ls next)
     where
-      by_test : (t : Bool) → is_taken p rows l ≡ t → (AreRows (table_after p rows l) → rows_after p (table_after p rows l) ls ≡ Some last → AreRows last) → AreRows last
+      by_test : (t : Bool) → is_taken p rows l ≡ t → (AreRows p (table_after p rows l) → rows_after p (table_after p rows l) ls ≡ Some last → AreRows p last) → AreRows p last
       by_test true t more =
           let s = set_of rows l t in
           let g = good p (text_in rows s.user) (length rows) s.text s.ok in
-          let next : AreRows (with_text rows s.user s.text) = inserted rows s.user s.text are (record { name = s.name; short = g.short; good = g.good }) in
-          more (subst AreRows (sym (set_after rows l t s)) next) (sym (ap (λ b. cond b (rows_after p (table_after p rows l) ls) None) t) ∙ is)
+          let next : AreRows p (with_text rows s.user s.text) = rows_inserted p rows s.user s.text are (record { name = s.name; short = g.short; good = g.good }) in
+          more (subst (AreRows p) (sym (set_after rows l t s)) next) (sym (ap (λ b. cond b (rows_after p (table_after p rows l) ls) None) t) ∙ is)
       by_test false t more = absurd (cc (ap (λ b. cond b (rows_after p (table_after p rows l) ls) None) t, is))
 
   -- ---- their lines
@@ -108,7 +88,7 @@ module _ {T V : Type 0} (p : TextPolicy T V) (law : IsLawful p) where
   abbrev pub line_of : List ℕ × List ℕ → List ℕ
   line_of row = set_line row.0 row.1
 
-  lines_are : (rows : Rows) → AreRows rows → AreLines (map line_of rows)
+  lines_are : (rows : Rows) → AreRows p rows → AreLines (map line_of rows)
   lines_are [] are = tt
   lines_are (row ∷ rows) are = (is_line p law row.0 row.1 are.0.name are.0.good, lines_are rows are.1)
 
@@ -117,15 +97,15 @@ module _ {T V : Type 0} (p : TextPolicy T V) (law : IsLawful p) where
   text_is (row ∷ rows) =
       append_assoc (line_of row) (10 ∷ []) (flat_map row_line rows) ∙ ap (λ (t : List ℕ). line_of row ++ 10 ∷ t) (text_is rows)
 
-  pub text_lines : (rows : Rows) → AreRows rows → open_lines (flat_map row_line rows) ≡ map line_of rows
+  pub text_lines : (rows : Rows) → AreRows p rows → open_lines (flat_map row_line rows) ≡ map line_of rows
   text_lines rows are =
       ap open_lines (text_is rows ∙ sym (append-nil (joined (map line_of rows))))
       ∙ open_lines-joined (map line_of rows) [] (lines_are rows are) ∙ append-nil (map line_of rows)
 
-  pub text_whole : (rows : Rows) → AreRows rows → AreWhole (flat_map row_line rows)
+  pub text_whole : (rows : Rows) → AreRows p rows → AreWhole (flat_map row_line rows)
   text_whole rows are = text_is rows ∙ sym (ap joined (text_lines rows are))
 
-  row_short : (row : List ℕ × List ℕ) → IsRow row → length (row_line row) ≤ 1094
+  row_short : (row : List ℕ × List ℕ) → IsRow p row → length (row_line row) ≤ 1094
   row_short row is =
       let name = is.name in
       let most : length row.0 ≤ 64 = law.name_short row.0 name in
@@ -134,7 +114,7 @@ module _ {T V : Type 0} (p : TextPolicy T V) (law : IsLawful p) where
       let all : length (row_line row) ≡ length (line_of row) + 1 = length-append (line_of row) (10 ∷ []) in
       omega (arith, most, short, size, all)
 
-  text_short : (rows : Rows) → AreRows rows → length (flat_map row_line rows) ≤ 1094 * length rows
+  text_short : (rows : Rows) → AreRows p rows → length (flat_map row_line rows) ≤ 1094 * length rows
   text_short [] are = omega arith
   text_short (row ∷ rows) are =
       let one = row_short row are.0 in
@@ -144,7 +124,7 @@ module _ {T V : Type 0} (p : TextPolicy T V) (law : IsLawful p) where
 
   -- ---- taken again
 
-  relisted : (done rest all : Rows) → done ++ rest ≡ all → AreRows rest → Distinct (keys_of all) → length all ≤ 4096 → rows_after p done (map line_of rest) ≡ Some all
+  relisted : (done rest all : Rows) → done ++ rest ≡ all → AreRows p rest → Distinct (keys_of all) → length all ≤ 4096 → rows_after p done (map line_of rest) ≡ Some all
   relisted done [] all is are d few = ap (λ (r : Rows). Some r) (sym (append-nil done) ∙ is)
   relisted done (row ∷ rest) all is are d few =
       let keys : keys_of all ≡ keys_of done ++ row.0 ∷ keys_of rest =
@@ -162,7 +142,7 @@ module _ {T V : Type 0} (p : TextPolicy T V) (law : IsLawful p) where
       roomy None n room = grind (arith, nat_tests, room)
       roomy (Some old) n room = refl
 
-      set_ok : (rows : Rows) (row : List ℕ × List ℕ) → IsRow row → length rows + 1 ≤ 4096 → set_answer p (text_in rows row.0) (length rows) row.1 ≡ Ok tt
+      set_ok : (rows : Rows) (row : List ℕ × List ℕ) → IsRow p row → length rows + 1 ≤ 4096 → set_answer p (text_in rows row.0) (length rows) row.1 ≡ Ok tt
       set_ok rows row is room =
           let short : nat_le (length row.1) 1024 ≡ true = let s = is.short in grind (arith, nat_tests, s) in
           rw (short, is.good, roomy (text_in rows row.0) (length rows) room) refl

@@ -6,7 +6,7 @@ use Rattle.line_io.specs.Lines.{lines}
 use Rattle.line_program.specs.Outcome.{Outcome}
 use Rattle.line_program.specs.Rules.{LineRules}
 use Rattle.shadow_fields.specs.Loads.{Loaded}
-use Rattle.shadow_fields.specs.Passwords.{Rows, password_in, password_of}
+use Rattle.shadow_fields.specs.Passwords.{UserPasswords, password_in, password_of}
 use Rattle.shadow_fields.specs.Wanted.{LoadedWanted, has_line, is_in, wanted_password}
 use Rattle.shadow_check.specs.FewerOutcome.{FewerOutcome, WantedOutcome}
 use Rattle.shadow_check.specs.JoinOutcome.{JoinOutcome}
@@ -17,7 +17,7 @@ use Rattle.shadow_check.proofs.TwoFiles.{both, first_alone}
 
 -- ---- a table that ended early, or that has what the file says
 
-module _ (rows : Rows) (status max : ℕ) where
+module _ (rows : UserPasswords) (status max : ℕ) where
   loaded_early : (held taken added : List ℕ) → Loaded rows status max held taken added
       → (added ≡ []) × (status ≡ 6 → max < length held)
   loaded_early held taken added o = (o.nothing, o.budget)
@@ -41,7 +41,7 @@ module _ (rows : Rows) (status max : ℕ) where
 
 -- ---- the runs
 
-module _ (owed : (List ℕ → Option (List ℕ)) → LineRules) (rows : Rows) (status max : ℕ) where
+module _ (owed : (List ℕ → Option (List ℕ)) → LineRules) (rows : UserPasswords) (status max : ℕ) where
   -- the passwords weren't read to their end
   pub passwords_end : 1 < status → (left left_now t w w_mid : Option (List ℕ))
       → WhereTold left left_now w w_mid (λ held taken added. Loaded rows status max held taken added)
@@ -108,7 +108,7 @@ module _ (owed : (List ℕ → Option (List ℕ)) → LineRules) (rows : Rows) (
 
 -- ---- users without a text
 
-module _ (rows : Rows) (status max : ℕ) where
+module _ (rows : UserPasswords) (status max : ℕ) where
   -- the texts weren't read to their end
   pub no_texts_end : 1 < status → (left left_now t w w_mid : Option (List ℕ))
       → WhereTold left left_now w w_mid (λ held taken added. Loaded rows status max held taken added)

@@ -12,7 +12,7 @@ use Rattle.line_program.specs.Outcome.{StateOutcome}
 use Rattle.shadow_fields.specs.Fields.{has_user}
 use Rattle.shadow_fields.specs.LoadRules.{loading_rules, rows_behind}
 use Rattle.shadow_fields.specs.Loads.{Loaded}
-use Rattle.shadow_fields.specs.Passwords.{Rows, is_given, password_in, password_of}
+use Rattle.shadow_fields.specs.Passwords.{UserPasswords, is_given, password_in, password_of}
 use Rattle.shadow_fields.specs.declared.load.Loading.{Loading}
 use Rattle.shadow_fields.proofs.Tables.{lines_behind}
 
@@ -24,7 +24,7 @@ given_user line short = rw short refl
 pub given_long : (line : List ℕ) → nat_lt 8192 (length line) ≡ true → is_given line ≡ false
 given_long line long = rw long refl
 
-pub rows_given : (rows : Rows) (line : List ℕ) → is_given line ≡ false → rows_behind rows line ≡ rows
+pub rows_given : (rows : UserPasswords) (line : List ℕ) → is_given line ≡ false → rows_behind rows line ≡ rows
 rows_given rows line other = rw other refl
 
 -- ---- the run
@@ -55,7 +55,7 @@ loaded s s_now empty status max held taken added o = record {
     (o.0.done low).0,
     (o.0.done low).1,
     λ user. ap (λ (t : Loading). password_in t.passwords user) (o.1 low)
-        ∙ ap (λ (rows : Rows). password_in rows user) (rows_after s (lines held))
+        ∙ ap (λ (rows : UserPasswords). password_in rows user) (rows_after s (lines held))
         ∙ lines_behind (lines held) s.passwords user
         ∙ rw empty refl,
   );

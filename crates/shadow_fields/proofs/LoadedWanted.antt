@@ -8,7 +8,7 @@ use Rattle.line_io.specs.Runs.{IsPrefix}
 use Rattle.line_program.specs.Rules.{after_lines, all_good, replies}
 use Rattle.line_program.specs.Outcome.{StateOutcome}
 use Rattle.shadow_fields.specs.Fields.{rest_of, user_of}
-use Rattle.shadow_fields.specs.Passwords.{Rows, is_given, is_same, password_behind, password_in, password_of, with_password}
+use Rattle.shadow_fields.specs.Passwords.{UserPasswords, is_given, is_same, password_behind, password_in, password_of, with_password}
 use Rattle.shadow_fields.specs.Wanted.{LoadedWanted, has_line, is_in, wanted_behind, wanted_password}
 use Rattle.shadow_fields.specs.WantedRules.{loading_wanted_rules}
 use Rattle.shadow_fields.specs.declared.wanted.LoadingWanted.{LoadingWanted}
@@ -22,7 +22,7 @@ module _ (is_wanted : List ℕ → Bool) where
   same_wanted : (q user : List ℕ) (t : Bool) → is_same q user ≡ t → t ≡ true → is_wanted q ≡ is_wanted user
   same_wanted q user t here is = ap is_wanted (same_true q user (here ∙ is))
 
-  wanted_cases : (given wanted : Bool) (same : Bool) (wants : Bool) (rows : Rows) (line q : List ℕ)
+  wanted_cases : (given wanted : Bool) (same : Bool) (wants : Bool) (rows : UserPasswords) (line q : List ℕ)
       → is_same q (user_of line) ≡ same → (same ≡ true → wants ≡ wanted)
       → password_in (if given && wanted then with_password rows (user_of line) (rest_of line) else rows) q
       ≡ (if wants then (if given && same then Some (rest_of line) else password_in rows q) else password_in rows q)
@@ -40,21 +40,21 @@ module _ (is_wanted : List ℕ → Bool) where
   wanted_cases true true false false rows line q here tie =
       password_inserted rows (user_of line) (rest_of line) q ∙ rw here refl
 
-  line_behind : (rows : Rows) (line q : List ℕ)
+  line_behind : (rows : UserPasswords) (line q : List ℕ)
       → password_in (wanted_behind is_wanted rows line) q
       ≡ (if is_wanted q then password_behind q (password_in rows q) line else password_in rows q)
   line_behind rows line q =
       wanted_cases (is_given line) (is_wanted (user_of line)) (is_same q (user_of line)) (is_wanted q) rows line q refl
       (same_wanted q (user_of line) (is_same q (user_of line)) refl)
 
-  folded_cases : (wants : Bool) (q : List ℕ) (rows more : Rows) (line : List ℕ) (ls : List (List ℕ))
+  folded_cases : (wants : Bool) (q : List ℕ) (rows more : UserPasswords) (line : List ℕ) (ls : List (List ℕ))
       → password_in more q ≡ (if wants then password_behind q (password_in rows q) line else password_in rows q)
       → (if wants then fold (password_behind q) (password_in more q) ls else password_in more q)
       ≡ (if wants then fold (password_behind q) (password_behind q (password_in rows q) line) ls else password_in rows q)
   folded_cases true q rows more line ls h = ap (λ (last : Option (List ℕ)). fold (password_behind q) last ls) h
   folded_cases false q rows more line ls h = h
 
-  pub wanted_lines : (ls : List (List ℕ)) (rows : Rows) (q : List ℕ)
+  pub wanted_lines : (ls : List (List ℕ)) (rows : UserPasswords) (q : List ℕ)
       → password_in (fold (wanted_behind is_wanted) rows ls) q
       ≡ (if is_wanted q then fold (password_behind q) (password_in rows q) ls else password_in rows q)
   wanted_lines [] rows q = if_same (is_wanted q) (password_in rows q) where
@@ -120,7 +120,7 @@ loaded_wanted s s_now empty status max held taken added o = record {
     (o.0.done low).0,
     (o.0.done low).1,
     λ user. ap (λ (t : LoadingWanted). password_in t.passwords user) (o.1 low)
-        ∙ ap (λ (rows : Rows). password_in rows user) (rows_after s (lines held))
+        ∙ ap (λ (rows : UserPasswords). password_in rows user) (rows_after s (lines held))
         ∙ wanted_lines (is_in s.users) (lines held) s.passwords user
         ∙ rw empty refl,
   );

@@ -2,11 +2,11 @@
 use Rattle.std.specs.Prelude.{[], if◌then◌else◌, List, ℕ}
 use Rattle.line_program.specs.Rules.{StateRules}
 use Rattle.shadow_fields.specs.Fields.{rest_of, user_of}
-use Rattle.shadow_fields.specs.Passwords.{Rows, is_given, with_password}
+use Rattle.shadow_fields.specs.Passwords.{UserPasswords, is_given, with_password}
 use Rattle.shadow_fields.specs.declared.load.Loading.{Loading}
 
 -- the table behind a line
-abbrev pub rows_behind : Rows → List ℕ → Rows
+abbrev pub rows_behind : UserPasswords → List ℕ → UserPasswords
 rows_behind rows line = if is_given line then with_password rows (user_of line) (rest_of line) else rows
 
 -- nothing is written

@@ -2,10 +2,10 @@
 use Rattle.std.specs.Prelude.{◌≡◌, ◌<◌, ◌≤◌, ℕ, List, [], length, if◌then◌else◌}
 use Rattle.std.specs.List.{list_all}
 use Rattle.line_io.specs.Lines.{lines}
-use Rattle.shadow_fields.specs.Passwords.{Rows, is_given, password_in, password_of}
+use Rattle.shadow_fields.specs.Passwords.{UserPasswords, is_given, password_in, password_of}
 
 -- The source held `held`, of which `taken` was taken; `added` was added to the sink.
-pub record Loaded (rows : Rows) (status max : ℕ) (held taken added : List ℕ) : Type 0 where
+pub record Loaded (rows : UserPasswords) (status max : ℕ) (held taken added : List ℕ) : Type 0 where
   -- 0 and 1: all was taken, and each user has the password of the user's last line
   pub done : status ≤ 1 → (length held ≤ max) × (taken ≡ held)
       × ((user : List ℕ) → password_in rows user ≡ password_of (lines held) user)

@@ -8,23 +8,23 @@ use Rattle.line_io.specs.Limits.{line_max}
 use Rattle.shadow_fields.specs.Fields.{has_user, rest_of, user_of}
 
 -- a table of users
-abbrev pub Rows : Type 0
-Rows = List (List ℕ × List ℕ)
+abbrev pub UserPasswords : Type 0
+UserPasswords = List (List ℕ × List ℕ)
 
 -- two users are the same
 abbrev pub is_same : List ℕ → List ℕ → Bool
 is_same a b = pointwise nat_eq a b
 
 -- the entries of the map, as a table
-abbrev pub rows_of : {A B : Type 0} → List (Vec ℕ A × Vec ℕ B) → Rows
+abbrev pub rows_of : {A B : Type 0} → List (Vec ℕ A × Vec ℕ B) → UserPasswords
 rows_of entries = map (λ entry. (entry.0.items, entry.1.items)) entries
 
 -- the user's password in a table
-abbrev pub password_in : Rows → List ℕ → Option (List ℕ)
+abbrev pub password_in : UserPasswords → List ℕ → Option (List ℕ)
 password_in rows user = lookup (is_same user) rows
 
 -- the table with a password of a user: a new user goes last
-abbrev pub with_password : Rows → List ℕ → List ℕ → Rows
+abbrev pub with_password : UserPasswords → List ℕ → List ℕ → UserPasswords
 with_password rows user password = insert_entry is_same rows user password
 
 -- ---- by the lines of a file

@@ -3,10 +3,10 @@ use Rattle.std.specs.Prelude.{◌≡◌, ◌<◌, ◌≤◌, ℕ, Bool, List, []
 use Rattle.std.specs.List.{list_all}
 use Rattle.line_io.specs.Lines.{lines}
 use Rattle.shadow_fields.specs.Fields.{rest_of, user_of}
-use Rattle.shadow_fields.specs.Passwords.{Rows, is_given, password_in, password_of, with_password}
+use Rattle.shadow_fields.specs.Passwords.{UserPasswords, is_given, password_in, password_of, with_password}
 
 -- a user is in a table
-abbrev pub is_in : Rows → List ℕ → Bool
+abbrev pub is_in : UserPasswords → List ℕ → Bool
 is_in rows user = is_some (password_in rows user)
 
 -- a user has a line that is taken
@@ -14,7 +14,7 @@ abbrev pub has_line : List (List ℕ) → List ℕ → Bool
 has_line ls user = is_some (password_of ls user)
 
 -- the table behind a line: a user who isn't wanted is left out
-abbrev pub wanted_behind : (List ℕ → Bool) → Rows → List ℕ → Rows
+abbrev pub wanted_behind : (List ℕ → Bool) → UserPasswords → List ℕ → UserPasswords
 wanted_behind is_wanted rows line =
     if is_given line && is_wanted (user_of line) then with_password rows (user_of line) (rest_of line) else rows
 
@@ -23,7 +23,7 @@ abbrev pub wanted_password : (List ℕ → Bool) → List (List ℕ) → List �
 wanted_password is_wanted ls user = if is_wanted user then password_of ls user else None
 
 -- What the loading of such a table did. The source held `held`, of which `taken` was taken; `added` was added to the sink.
-pub record LoadedWanted (is_wanted : List ℕ → Bool) (rows : Rows) (status max : ℕ) (held taken added : List ℕ) : Type 0 where
+pub record LoadedWanted (is_wanted : List ℕ → Bool) (rows : UserPasswords) (status max : ℕ) (held taken added : List ℕ) : Type 0 where
   -- 0 and 1: all was taken, and each wanted user has the password of the user's last line, each other none
   pub done : status ≤ 1 → (length held ≤ max) × (taken ≡ held)
       × ((user : List ℕ) → password_in rows user ≡ wanted_password is_wanted (lines held) user)
