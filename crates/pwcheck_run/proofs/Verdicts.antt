@@ -16,7 +16,8 @@ use Rattle.scrypt_plain.proofs.MadeRecord.{IsWritten}
 use Rattle.scrypt_plain.proofs.MadeRecord as made_record
 use Rattle.sha_crypt.specs.Simple.{characters}
 use Rattle.sha_crypt.specs.declared.errors.Family.TheVariants.{Sha256, Sha512}
-use Rattle.sha_crypt.proofs.Digests.{below_append, characters_pass, length-characters}
+use Rattle.base64ct.proofs.GoodBlocks.{below-append}
+use Rattle.sha_crypt.proofs.Digests.{characters_pass, length-characters}
 use Rattle.sha_crypt.proofs.MadeTexts.{is_salt}
 use Rattle.stored_check.proofs.MadeTexts.{sha_made}
 use Rattle.stored_check.proofs.MadeTexts as made_texts
@@ -62,7 +63,7 @@ words-below : (k : ℕ) (g : ChaCha) → EachBelow 256 (word_bytes (to_le_bytes 
 unfolding word_bytes
 words-below zero g = λ i. omega arith
 words-below (suc k) g =
-    below_append 256 (word_bytes (to_le_bytes w32) (next_word 10) k g).0
+    below-append (word_bytes (to_le_bytes w32) (next_word 10) k g).0
     (to_le_bytes w32 (next_word 10 (word_bytes (to_le_bytes w32) (next_word 10) k g).1).0)
     (words-below k g) (four_low (next_word 10 (word_bytes (to_le_bytes w32) (next_word 10) k g).1).0)
   where
