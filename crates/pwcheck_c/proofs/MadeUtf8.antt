@@ -48,6 +48,7 @@ use Rattle.any_make.specs.declared.scheme.MakeCost.{MakeCost}
 use Rattle.any_make.specs.declared.scheme.MakeCost.TheVariants as cost
 use Rattle.any_make.proofs.Judged.{by_record, by_row}
 use Rattle.any_make.proofs.Matches.{made_is, made_matches}
+use Rattle.any_make.proofs.Matches.{short_enough}
 use Rattle.pwcheck_c.specs.AnyAnswers.{any_answer, bounds_of, cause_answer}
 use Rattle.pwcheck_c.specs.Laws.{MadeMatches}
 
@@ -250,14 +251,6 @@ made_ascii (cost.Pbkdf2Sha256 n) password salt taken short is =
     of_record password _ short (pbkdf2_scheme n salt _) is
 
 -- ---- the law
-
-short_enough : (s : MakeScheme) (n : ℕ) → n ≤ password_length s → n ≤ 4096
-short_enough (make.ShaCrypt family) n h = h
-short_enough make.Scrypt n h = h
-short_enough make.Bcrypt n h = omega (arith, h)
-short_enough make.Yescrypt n h = h
-short_enough make.Argon2id n h = h
-short_enough make.Pbkdf2Sha256 n h = h
 
 pub any_matches : MadeMatches
 unfolding any_answer

@@ -7,11 +7,13 @@ use Rattle.std.proofs.lemmas.Bool.{and_parts, eqb-true, false≢true}
 use Rattle.std.proofs.lemmas.Bool.Decides.{nat_tests}
 use Rattle.mcf.specs.Grammar.{is_field_byte}
 use Rattle.phc.proofs.Characters.{all_weaker}
-use Rattle.sha_crypt.proofs.MadeTexts.{IsSalt, is_not}
+use Rattle.pieces.proofs.ByteTests.{is_not}
+use Rattle.sha_crypt.proofs.MadeTexts.{IsSalt}
 use Rattle.sha_crypt.specs.declared.errors.CryptError.{CryptError}
 use Rattle.stored_check.specs.declared.error.StoredError.{StoredError}
+pub use Rattle.stored_check.proofs.Normals.{as_verdict}
 use Rattle.pwcheck_c.specs.Inputs.{is_password, is_salt, is_salt_character, rounds_taken, text_takes}
-use Rattle.pwcheck_c.specs.Written.{IsPut}
+use Rattle.c_buffers.specs.Put.{IsPut}
 
 -- what is no character of a salt is another one
 other : (c : ℕ) → is_salt_character c ≡ false → (b : ℕ) → is_salt_character b ≡ true → is_not c b ≡ true
@@ -91,6 +93,3 @@ text_put text_of password salt text old new rounds params n_old n_new status mad
     let same : params ≡ rounds = rounds_once params rounds made is (inside parts.least parts.most) in
     subst (λ (t : List ℕ). IsPut t old new n_old n_new status)
     (text_is ∙ ap (λ (n : ℕ). text_of password salt n) same) put
-
-abbrev pub as_verdict : Bool → Result Bool StoredError
-as_verdict b = Ok b

@@ -2,24 +2,21 @@
 use Rattle.std.proofs.Common.{◌≡◌, ℕ, ◌*◌, ◌^◌, ◌<◌, ◌≤◌, Bool, true, List, ◌∷◌, ◌++◌, length}
 use Rattle.std.proofs.Common.{refl, sym, ap, ◌∙◌, arith, append_assoc, inl, inr, Ok}
 use Rattle.std.specs.Prelude.{◌⊎◌, ◌&&◌, codes, nat_le, nat_lt, Some}
-use Rattle.std.specs.Char.{is_ascii_digit}
 use Rattle.std.specs.Fmt.{decimal}
 use Rattle.std.specs.List.{list_all}
 use Rattle.std.proofs.lemmas.Bool.{and_parts}
 use Rattle.std.proofs.lemmas.Bool.Decides.{nat_tests}
 use Rattle.std.proofs.lemmas.List.{length-append}
 use Rattle.std.proofs.Math.Nat.{le-mul_of_pos_right}
-use Rattle.pieces.proofs.PlainNumbers.{decimal_read}
-use Rattle.base64ct.specs.Encoding.{EachBelow, longest_input}
+use Rattle.base64ct.specs.Encoding.{EachBelow}
 use Rattle.mcf.specs.Grammar.{is_field_byte}
 use Rattle.mcf.proofs.Pushed.{good_field}
 use Rattle.phc.specs.Encoded.{encoding}
-use Rattle.phc.specs.Grammar.{decimal_value, is_value_byte}
 use Rattle.phc.specs.Params.{pairs_text}
 use Rattle.phc.specs.Record.{record_text}
-use Rattle.phc.proofs.Characters.{all_append, all_weaker, decimal_digits}
-use Rattle.phc.proofs.EncodedBytes.{encoded_length}
-use Rattle.phc.proofs.ValueBytes.{decimal_length}
+use Rattle.phc.proofs.Characters.{all_append}
+use Rattle.phc.proofs.ValueBytes.{decimal_length, few, number_read, values}
+use Rattle.phc_kdf.proofs.RecordFields.{in_field}
 use Rattle.scrypt_plain.specs.Bounds.{in_bounds}
 use Rattle.scrypt_plain.specs.Profile.{accepted, key}
 use Rattle.scrypt_plain.specs.Scrypt.{scrypt}
@@ -55,24 +52,6 @@ small_bounds ln r p h =
     record { of_ln = omega (arith, log_small); of_r = omega (arith, all_small, r_less); of_p = omega (arith, p_small) }
 
 -- ---- their decimals
-
-digit_is_value : (b : ℕ) → is_ascii_digit b ≡ true → is_value_byte b ≡ true
-digit_is_value b h = grind (arith, nat_tests)
-
-digit_in_field : (b : ℕ) → is_ascii_digit b ≡ true → is_field_byte b ≡ true
-digit_in_field b h = grind (arith, nat_tests)
-
-values : (n : ℕ) → n < 2 ^ 32 → list_all is_value_byte (decimal n) ≡ true
-values n small = all_weaker is_ascii_digit is_value_byte digit_is_value (decimal n) (decimal_digits n small)
-
-in_field : (n : ℕ) → n < 2 ^ 32 → list_all is_field_byte (decimal n) ≡ true
-in_field n small = all_weaker is_ascii_digit is_field_byte digit_in_field (decimal n) (decimal_digits n small)
-
-few : (n : ℕ) → n < 2 ^ 32 → nat_le (length (decimal n)) 64 ≡ true
-few n small = let size = decimal_length n small in grind (arith, nat_tests, size)
-
-number_read : (n : ℕ) → n < 2 ^ 32 → decimal_value (decimal n) ≡ Some n
-number_read n small = decimal_read (2 ^ 32) n (omega arith) small
 
 module _ (ln r p : ℕ) (small : AreSmall ln r p) (bounds : in_bounds ln r p ≡ true) where
   written : IsWritten (decimal ln) (decimal r) (decimal p) ln r p
@@ -142,10 +121,3 @@ scrypt_verdict password salt ln r p bounds below size short =
     (scrypt_made (decimal ln) (decimal r) (decimal p) ln r p (written ln r p small bounds) password salt below
     (omega (arith, size)) (omega (arith, size))) in
     made.1 password short ∙ ap (λ (b : Bool). Ok b) made.2
-
--- ---- there is room for the encoding of few bytes
-
-pub never_refused : (bytes : List ℕ) (n : ℕ) → EachBelow 256 bytes → length bytes ≤ 32 → 43 ≤ n
-    → ((longest_input < length bytes) ⊎ (n < length (encoding bytes))) → ⊥
-never_refused bytes n small few room (inl long) = omega (arith, long, few)
-never_refused bytes n small few room (inr short) = omega (arith, encoded_length bytes small, short, few, room)

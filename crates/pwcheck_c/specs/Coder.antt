@@ -6,7 +6,8 @@ use Rattle.base64ct.specs.Alphabets.{base64, base64_unpadded, base64_url, base64
 use Rattle.base64ct.specs.Alphabets.{base64_bcrypt, base64_crypt, base64_pbkdf2, base64_sha_crypt}
 use Rattle.base64ct.specs.Decoding.{decoding}
 use Rattle.base64ct.specs.Encoding.{Alphabet, EachBelow, IsMisaligned, decoded_len, encoding, longest_input}
-use Rattle.pwcheck_c.specs.Statuses.{status_done, status_no_room, status_not_base64}
+use Rattle.c_buffers.specs.Statuses.{status_done, status_no_room}
+use Rattle.pwcheck_c.specs.Statuses.{status_not_base64}
 
 -- the alphabets by number
 abbrev pub alphabets : List Alphabet

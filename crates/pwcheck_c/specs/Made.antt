@@ -4,9 +4,10 @@ use Rattle.any_make.specs.declared.error.MakeFault.{MakeFault}
 use Rattle.any_make.specs.declared.scheme.MakeCost.{MakeCost}
 use Rattle.any_make.specs.declared.scheme.MakeCost.TheVariants as cost
 use Rattle.any_make.specs.declared.error.MakeFault.TheVariants.{BufferShort, Cost, NotUtf8, OutOfMemory, PasswordTooLong, Salt, ZeroByte}
-use Rattle.pwcheck_c.specs.Statuses.{status_no_memory, status_no_room, status_out_of_range}
+use Rattle.c_buffers.specs.Statuses.{status_no_memory, status_no_room}
+use Rattle.pwcheck_c.specs.Statuses.{status_out_of_range}
 use Rattle.pwcheck_c.specs.Statuses.{status_refused_length, status_refused_utf8, status_refused_zero}
-use Rattle.pwcheck_c.specs.Written.{IsPut}
+use Rattle.c_buffers.specs.Put.{IsPut, IsRefused}
 
 -- ---- costs, by the numbers of a call
 
@@ -29,10 +30,6 @@ fault_status NotUtf8 = status_refused_utf8
 fault_status ZeroByte = status_refused_zero
 fault_status OutOfMemory = status_no_memory
 fault_status BufferShort = status_no_room
-
--- the status is the one of a cause, and nothing is written
-abbrev pub IsRefused : ℤ → List ℕ → List ℕ → ℕ → ℕ → ℤ → Type 0
-IsRefused cause old new n_old n_new status = (status ≡ cause) × (new ≡ old) × (n_new ≡ n_old)
 
 -- the text that is made stands at the front of what was old and is new, where there is room; or the cause that none is made
 -- is told

@@ -1,21 +1,9 @@
 -- What the calls answer that give no verdict, by number.
 use Rattle.std.specs.Prelude.{ℤ, pos, negsuc}
 
--- it is done
-abbrev pub status_done : ℤ
-status_done = pos 0
-
 -- -1: a number or a length is outside what is taken
 abbrev pub status_out_of_range : ℤ
 status_out_of_range = negsuc 0
-
--- -2: memory is wanting
-abbrev pub status_no_memory : ℤ
-status_no_memory = negsuc 1
-
--- -3: the buffer is too short
-abbrev pub status_no_room : ℤ
-status_no_room = negsuc 2
 
 -- -4: the text is the encoding of no bytes
 abbrev pub status_not_base64 : ℤ

@@ -7,7 +7,8 @@ ghost use Rattle.sha_crypt.specs.Digest.{sha_crypt_digest};
 ghost use Rattle.sha_crypt.specs.HashField.{map_sha256, map_sha512, hash_field};
 ghost use Rattle.pwcheck_c.specs.Inputs.{sha_takes};
 ghost use Rattle.sha_crypt.specs.Limits.{pw_size_sha256, pw_size_sha512};
-ghost use Rattle.pwcheck_c.specs.Statuses.{status_done, status_out_of_range};
+ghost use Rattle.c_buffers.specs.Statuses.{status_done};
+ghost use Rattle.pwcheck_c.specs.Statuses.{status_out_of_range};
 
 use crate::statuses::{DONE, OUT_OF_RANGE};
 use sha_crypt::{

@@ -3,7 +3,8 @@
 ghost use Rattle.std.specs.Prelude.{◌≡◌, ◌⊎◌, ◌^◌, length, true, false};
 ghost use Rattle.scrypt_plain.specs.Scrypt.{scrypt};
 ghost use Rattle.pwcheck_c.specs.Inputs.{scrypt_takes};
-ghost use Rattle.pwcheck_c.specs.Statuses.{status_done, status_no_memory, status_out_of_range};
+ghost use Rattle.c_buffers.specs.Statuses.{status_done, status_no_memory};
+ghost use Rattle.pwcheck_c.specs.Statuses.{status_out_of_range};
 
 use crate::statuses::{DONE, NO_MEMORY, OUT_OF_RANGE, TOO_LONG};
 use scrypt_plain::{in_bounds, scrypt};

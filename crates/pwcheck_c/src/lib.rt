@@ -23,7 +23,6 @@ mod lengths;
 mod makers;
 #[cfg(test)]
 mod makers_tests;
-mod put;
 mod scrypt_text;
 mod sha_check;
 mod sha_text;

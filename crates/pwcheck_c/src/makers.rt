@@ -6,7 +6,7 @@ ghost use Rattle.any_check.specs.Table.{any_verdict};
 ghost use Rattle.any_make.specs.Costs.{needs_memory, scheme_of};
 ghost use Rattle.any_make.specs.Made.{made};
 ghost use Rattle.pwcheck_c.specs.Made.{IsMade, IsMadeOrLacks, argon2id_cost, fault_status, yescrypt_cost};
-ghost use Rattle.pwcheck_c.specs.Statuses.{status_done};
+ghost use Rattle.c_buffers.specs.Statuses.{status_done};
 
 use crate::statuses::{
     DONE, NO_MEMORY, NO_ROOM, OUT_OF_RANGE, REFUSED_LENGTH, REFUSED_UTF8, REFUSED_ZERO,

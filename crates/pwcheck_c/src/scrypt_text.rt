@@ -6,14 +6,15 @@ ghost use Rattle.phc.specs.Encoded.{encoding};
 ghost use Rattle.scrypt_plain.specs.Bounds.{in_bounds};
 ghost use Rattle.pwcheck_c.specs.Inputs.{scrypt_text_takes};
 ghost use Rattle.pwcheck_c.specs.Texts.{scrypt_text};
-ghost use Rattle.pwcheck_c.specs.Statuses.{status_no_memory, status_out_of_range};
-ghost use Rattle.pwcheck_c.specs.Written.{IsPut};
+ghost use Rattle.c_buffers.specs.Statuses.{status_no_memory};
+ghost use Rattle.pwcheck_c.specs.Statuses.{status_out_of_range};
+ghost use Rattle.c_buffers.specs.Put.{IsPut};
 ghost use Rattle.phc_kdf.specs.Limits.{password_max};
 
 use crate::check::text_of;
-use crate::put::put;
 use crate::statuses::{NO_MEMORY, OUT_OF_RANGE};
 use base64ct::{Base64Unpadded, Encoding};
+use c_buffers::put;
 use pieces::short_bytes::ShortBytes;
 use scrypt_plain::{in_bounds, scrypt};
 use std::alloc::{AllocError, Global};

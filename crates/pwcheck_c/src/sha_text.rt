@@ -2,27 +2,22 @@
 
 ghost use Rattle.std.specs.Prelude.{◌≡◌, ◌≤◌, ◌<◌, ◌+◌, ◌^◌, ◌++◌, ◌==◌, ◌&&◌, codes, not, length, true, false};
 ghost use Rattle.std.specs.List.{list_all};
-ghost use Rattle.sha_crypt.specs.Records.{rounds_part};
-ghost use Rattle.sha_crypt.specs.Simple.{sha256_text, sha512_text};
+ghost use Rattle.sha_crypt.specs.Simple.{made_text, sha256_text, sha512_text};
 ghost use Rattle.pwcheck_c.specs.Inputs.{is_password, is_salt, is_salt_character, text_takes};
-ghost use Rattle.pwcheck_c.specs.Written.{IsPut};
+ghost use Rattle.c_buffers.specs.Put.{IsPut};
 ghost use Rattle.std.specs.Str.{is_utf8};
 ghost use Rattle.phc_kdf.specs.Limits.{password_max};
-ghost use Rattle.sha_crypt.specs.Limits.{pw_size_sha512, rounds_default, salt_max_len};
+ghost use Rattle.sha_crypt.specs.Limits.{salt_max_len};
 ghost use Rattle.pwcheck_c.specs.Statuses.{status_out_of_range};
 
 use crate::check::text_of;
-use crate::put::put;
 use crate::statuses::OUT_OF_RANGE;
+use c_buffers::put;
 use pieces::short_bytes::ShortBytes;
 use sha_crypt::{
-    ROUNDS_DEFAULT, SALT_MAX_LEN, Sha256Params, Sha512Params, encode_sha256, encode_sha512,
-    sha256_crypt, sha512_crypt,
+    Family, ROUNDS_DEFAULT, SALT_MAX_LEN, Sha256Params, Sha512Params, TEXT_MAX, password_text,
 };
 use stored_check::PASSWORD_MAX;
-
-// Room for the longest text: 28 bytes that name the rounds, 16 of salt, 86 of hash, the identifier and three `$`.
-const TEXT_MAX: usize = 134;
 
 // Whether this is a character of a salt.
 fn is_salt_character(c: u8) -> bool
@@ -54,58 +49,12 @@ fn is_password(password: &[u8]) -> bool
     password.len() <= PASSWORD_MAX && text_of(password).is_some()
 }
 
-// Appends what names the rounds, where they aren't the default.
-fn push_rounds(text: &mut ShortBytes<TEXT_MAX>, rounds: usize)
-    requires room { length text.old + 28 ≤ 134 }
-    ensures appended { text.new ≡ text.old ++ rounds_part (not (rounds == rounds_default)) rounds }
-    ensures len { length text.new ≤ length text.old + 28 }
-{
-    if rounds != ROUNDS_DEFAULT {
-        text.push_all(b"rounds=");
-        text.push_decimal(rounds as u64);
-        text.push_all(b"$");
-    }
-}
-
-// `$id$[rounds=N$]salt$hash`.
-fn joined(id: &[u8], rounds: usize, salt: &[u8], hash: &[u8]) -> ShortBytes<TEXT_MAX>
-    requires id { length id.now ≤ 1 }
+// The text of a family for a password and a salt.
+fn made_text(family: Family, password: &[u8], salt: &[u8], rounds: usize) -> ShortBytes<TEXT_MAX>
     requires salt { length salt.now ≤ salt_max_len }
-    requires hash { length hash.now ≤ pw_size_sha512 }
-    ensures { result ≡ codes "$" ++ id.now ++ codes "$" ++ rounds_part (not (rounds == rounds_default)) rounds
-        ++ salt.now ++ codes "$" ++ hash.now }
+    ensures { result ≡ made_text family password.now salt.now rounds }
 {
-    let mut text = ShortBytes::new();
-    text.push_all(b"$");
-    text.push_all(id);
-    text.push_all(b"$");
-    push_rounds(&mut text, rounds);
-    text.push_all(salt);
-    text.push_all(b"$");
-    text.push_all(hash);
-    text
-}
-
-// The SHA-256-crypt text of a password and a salt.
-#[tactic(auto, unfolding(sha_crypt::specs::Records::record_text))]
-fn sha256_text(password: &[u8], salt: &[u8], params: &Sha256Params) -> ShortBytes<TEXT_MAX>
-    requires password { length password.now ≤ password_max }
-    requires salt { length salt.now ≤ salt_max_len }
-    ensures { result ≡ sha256_text password.now salt.now params.now }
-{
-    let hash = encode_sha256(&sha256_crypt(password, salt, params));
-    joined(b"5", params.rounds(), salt, &hash)
-}
-
-// The SHA-512-crypt text of a password and a salt.
-#[tactic(auto, unfolding(sha_crypt::specs::Records::record_text))]
-fn sha512_text(password: &[u8], salt: &[u8], params: &Sha512Params) -> ShortBytes<TEXT_MAX>
-    requires password { length password.now ≤ password_max }
-    requires salt { length salt.now ≤ salt_max_len }
-    ensures { result ≡ sha512_text password.now salt.now params.now }
-{
-    let hash = encode_sha512(&sha512_crypt(password, salt, params));
-    joined(b"6", params.rounds(), salt, &hash)
+    password_text(family, rounds != ROUNDS_DEFAULT, password, salt, rounds)
 }
 
 /// Writes the SHA-256-crypt text `$5$[rounds=N$]salt$hash` of a password, without a zero behind it: at most 80
@@ -127,7 +76,10 @@ pub extern "C" fn pwcheck_sha256_crypt_text(
         return OUT_OF_RANGE;
     }
     match Sha256Params::new(rounds as usize) {
-        Ok(params) => put(sha256_text(password, salt, &params).as_slice(), out, len),
+        Ok(params) => {
+            let text = made_text(Family::Sha256, password, salt, params.rounds());
+            put(text.as_slice(), out, len)
+        }
         Err(_) => OUT_OF_RANGE,
     }
 }
@@ -151,7 +103,10 @@ pub extern "C" fn pwcheck_sha512_crypt_text(
         return OUT_OF_RANGE;
     }
     match Sha512Params::new(rounds as usize) {
-        Ok(params) => put(sha512_text(password, salt, &params).as_slice(), out, len),
+        Ok(params) => {
+            let text = made_text(Family::Sha512, password, salt, params.rounds());
+            put(text.as_slice(), out, len)
+        }
         Err(_) => OUT_OF_RANGE,
     }
 }

@@ -1,16 +1,9 @@
 //! What the exports answer that give no verdict. These numbers are no answer's but for `DONE`.
 
-/// It is done.
-pub const DONE: i32 = 0;
+pub use c_buffers::{DONE, NO_MEMORY, NO_ROOM};
 
 /// A number or a length is outside what is taken.
 pub const OUT_OF_RANGE: i32 = -1;
-
-/// Memory is wanting.
-pub const NO_MEMORY: i32 = -2;
-
-/// The buffer is too short.
-pub const NO_ROOM: i32 = -3;
 
 /// The text is the encoding of no bytes.
 pub const NOT_BASE64: i32 = -4;

@@ -1,8 +1,9 @@
 -- The answers to C.
 use Rattle.std.specs.Prelude.{◌≡◌, ◌⊎◌, ℕ, ℤ, Bool, true, List, Option, Some, None, Ok, Err}
 use Rattle.crypt_text.specs.Texts.{Answer}
-use Rattle.pwcrypt_c.specs.Statuses.{error_status, status_no_memory, status_no_setting}
-use Rattle.pwcrypt_c.specs.Written.{IsPut, IsRefused}
+use Rattle.c_buffers.specs.Statuses.{status_no_memory}
+use Rattle.pwcrypt_c.specs.Statuses.{error_status, status_no_setting}
+use Rattle.c_buffers.specs.Put.{IsPut, IsRefused}
 
 -- a text is put, or the cause that there is none is told
 abbrev pub IsTold : Answer → List ℕ → List ℕ → ℕ → ℕ → ℤ → Type 0

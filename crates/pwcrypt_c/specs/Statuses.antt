@@ -2,24 +2,13 @@
 use Rattle.std.specs.Prelude.{ℤ, pos, negsuc}
 use Rattle.crypt_text.specs.declared.error.CryptError.{CryptError}
 use Rattle.crypt_text.specs.declared.error.CryptError.TheVariants.{OutOfMemory, Setting, TooLong}
+use Rattle.c_buffers.specs.Statuses.{status_no_memory}
 use Rattle.crypt_text.specs.declared.status.SaltStatus.{SaltStatus}
 use Rattle.crypt_text.specs.declared.status.SaltStatus.TheVariants.{Invalid, Legacy, Valid}
-
--- it is done
-abbrev pub status_done : ℤ
-status_done = pos 0
 
 -- -1: the phrase or the setting is too long, ERANGE
 abbrev pub status_too_long : ℤ
 status_too_long = negsuc 0
-
--- -2: memory is wanting, ENOMEM
-abbrev pub status_no_memory : ℤ
-status_no_memory = negsuc 1
-
--- -3: the buffer is too short, ERANGE
-abbrev pub status_no_room : ℤ
-status_no_room = negsuc 2
 
 -- -4: it is no setting, or the method does not take the count or so few bytes, EINVAL
 abbrev pub status_no_setting : ℤ

@@ -4,7 +4,6 @@
 //! Each export calls one function of `crypt_text`, and requires nothing. A slice is a pointer and a length.
 #![tactic(auto)]
 
-mod put;
 mod settings;
 mod statuses;
 #[cfg(test)]

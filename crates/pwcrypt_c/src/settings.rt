@@ -7,8 +7,8 @@ ghost use Rattle.crypt_text.specs.Settings.{method_of};
 ghost use Rattle.pwcrypt_c.specs.Answers.{IsSettingTold};
 ghost use Rattle.pwcrypt_c.specs.Statuses.{salt_number};
 
-use crate::put::put;
 use crate::statuses::{NO_SETTING, salt_number};
+use c_buffers::put;
 use crypt_text::{new_setting, random_len, salt_status};
 
 /// Writes the new setting of a prefix, a count and random bytes, without a zero behind it.

@@ -3,19 +3,11 @@
 ghost use Rattle.std.specs.Prelude.{◌≡◌};
 ghost use Rattle.pwcrypt_c.specs.Statuses.{error_status, salt_number};
 
+use c_buffers::NO_MEMORY;
 use crypt_text::{CryptError, SaltStatus};
-
-/// It is done.
-pub const DONE: i32 = 0;
 
 /// The phrase or the setting is too long.
 pub const TOO_LONG: i32 = -1;
-
-/// Memory is wanting.
-pub const NO_MEMORY: i32 = -2;
-
-/// The buffer is too short.
-pub const NO_ROOM: i32 = -3;
 
 /// It is no setting; or the method does not take the count, or so few bytes.
 pub const NO_SETTING: i32 = -4;

@@ -1,8 +1,9 @@
 //! Each export, on vectors of libxcrypt 4.4.33.
 
 use crate::settings::{pwcrypt_checksalt, pwcrypt_random_len, pwcrypt_setting};
-use crate::statuses::{DONE, NO_ROOM, NO_SETTING, TOO_LONG};
+use crate::statuses::{NO_SETTING, TOO_LONG};
 use crate::texts::pwcrypt_text;
+use c_buffers::{DONE, NO_ROOM};
 
 // A setting, and what libxcrypt's crypt gives for it and the phrase `correct horse`.
 const TEXTS: [(&[u8], &[u8]); 4] = [

@@ -4,8 +4,8 @@ ghost use Rattle.std.specs.Prelude.{◌≡◌};
 ghost use Rattle.crypt_text.specs.Texts.{crypt_text, may_lack};
 ghost use Rattle.pwcrypt_c.specs.Answers.{IsTextTold};
 
-use crate::put::put;
 use crate::statuses::error_status;
+use c_buffers::put;
 use crypt_text::crypt_text;
 use std::alloc::Global;
 

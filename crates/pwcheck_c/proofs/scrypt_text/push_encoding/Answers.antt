@@ -1,6 +1,6 @@
 use Rattle.std.proofs.Common.{rules, arith}
 use Rattle.base64ct.specs.Encoding.{EachBelow}
-use Rattle.pwcheck_c.proofs.ScryptTexts.{never_refused}
+use Rattle.phc.proofs.EncodedBytes.{never_refused}
 use Rattle.pwcheck_c.proofs.scrypt_text.push_encoding.Goals as goal
 
 pub unreachable-requires : goal.unreachable-requires

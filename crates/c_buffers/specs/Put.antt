@@ -1,6 +1,6 @@
 -- What is written for C.
 use Rattle.std.specs.Prelude.{◌≡◌, ℕ, ℤ, ◌<◌, ◌≤◌, List, ◌++◌, length, drop}
-use Rattle.pwcrypt_c.specs.Statuses.{status_done, status_no_room}
+use Rattle.c_buffers.specs.Statuses.{status_done, status_no_room}
 
 -- the text stands at the front of what was old and is new, and its length is told, where there is room
 pub record IsPut (text old new : List ℕ) (n_old n_new : ℕ) (status : ℤ) : Type 0 where
