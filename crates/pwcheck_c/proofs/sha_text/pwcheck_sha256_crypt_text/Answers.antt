@@ -1,4 +1,4 @@
-use Rattle.std.proofs.Common.{◌∙◌, rules}
+use Rattle.std.proofs.Common.{ℕ, ap, ◌∙◌, rules}
 use Rattle.sha_crypt.specs.Simple.{sha256_text}
 use Rattle.pwcheck_c.proofs.Salts.{text_put}
 use Rattle.pwcheck_c.proofs.sha_text.pwcheck_sha256_crypt_text.Goals as goal
@@ -7,5 +7,8 @@ pub returns-in-Ok-clause-text : goal.returns-in-Ok-clause-text
 returns-in-Ok-clause-text c = λ taken.
     let put = text_put sha256_text c.args.password.now c.args.salt.now c.as_slice.result.now c.args.out.now
     c.put.new.out c.args.rounds c.in-Ok.params c.args.len.now c.put.new.len c.put.result c.new.result taken
-    c.new.ensures.inside c.in-Ok.is (c.as_slice.ensures.value ∙ c.made_text-text.ensures) c.put.ensures.put in
+    c.new.ensures.inside c.in-Ok.is
+    (c.as_slice.ensures.value ∙ c.made_text-text.ensures
+    ∙ ap (λ (n : ℕ). sha256_text c.args.password.now c.args.salt.now n) c.rounds.ensures.number)
+    c.put.ensures.put in
     search rules
