@@ -13,6 +13,7 @@ It needs the built program, by default crates/pwtool/out/pwtool, or what PWTOOL 
 usage: bench/maker_texts.py [SEED] [DAMAGED]       (1 and 1000 if left out)
 """
 import collections
+import csv
 import os
 import random
 import subprocess
@@ -68,7 +69,7 @@ def vectors(count, faults):
             texts = [f"{user}:{text}".encode() for user, (_, text, *_) in zip(users, told)]
             wanted = [f"{user}\t{'match' if scheme else answer}" for user, (_, _, scheme, answer) in zip(users, told)]
             compare(maker, "join", texts, wanted, ask(["join", "--quiet", "--from", maker, "-", passwords], texts), count, faults)
-        got = [line.split(",")[1] for line in ask(["survey", "--quiet", "--csv", "--from", maker], texts)]
+        got = [row[1] for row in csv.reader(ask(["survey", "--quiet", "--csv", "--from", maker], texts))]
         names = {"1": "md5-crypt", "5": "sha256-crypt", "6": "sha512-crypt", "2a": "bcrypt", "2b": "bcrypt", "2y": "bcrypt", "y": "yescrypt", None: "-"}
         compare(maker, "survey", texts, [names.get(scheme, scheme) for _, _, scheme, _ in told], got, count, faults)
 

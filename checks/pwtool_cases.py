@@ -263,7 +263,7 @@ def surveys(tool):
     tool.case(["survey", file], "", "".join("\t".join(row) + "\n" for row in wanted) + "\n" + counts, 1)
     for maker, text, scheme, cost in MAKERS:
         tool.case(["survey", "--from", maker, "--csv"], f"ann:{text}\n",
-                  lambda got, scheme=scheme, cost=cost: got.startswith(f"ann,{scheme},") and cost in got, lambda status: status in (0, 1))
+                  lambda got, scheme=scheme, cost=cost: next(csv.reader(io.StringIO(got)))[1] == scheme and cost in got, lambda status: status in (0, 1))
     for spelling, text in (("django", DJANGO), ("ldap", LDAP), ("passlib", PASSLIB)):
         tool.case(["survey", "--from", spelling, "--least-pbkdf2-rounds", "1000", "--least-pbkdf2-sha512-rounds", "1000"], f"ann:{text}\n",
                   lambda got: got.split("\t")[2] == "rounds=1000" and got.split("\n")[0].endswith("\tok"), 0)
