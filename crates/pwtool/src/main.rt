@@ -6,7 +6,7 @@
 //! `pwtool table FILE`: answers commands over a table of users and their stored texts that is kept in a file, as `pwstore` does.
 //! `pwtool normalize`, `wrap` and `unwrap`: what `pwcheck` and `wrapstream` do under these names.
 //!
-//! With `--from` the texts are those of Django, LDAP or passlib.
+//! With `--from` the texts are those of another maker, as Django, LDAP or Werkzeug.
 //!
 //! A file is standard input where it is `-`, and each answer goes to standard output with a line feed. Errors are one line on
 //! standard error, where the progress of a run and how many answers there were are told, too. The status says how the run
