@@ -2,8 +2,9 @@
 # The repository's own checks, after the prover's. Each ends with a status that isn't 0 where it finds a fault.
 #
 #     checks/run.sh quick    the numbers of the header and of the bindings, what the pages name, the blocks of README and GUIDE, the layers, the pictures, dist/ and its
-#                            comparison, the faces in C over the libraries of dist/, the built pwtool over each form and option, and what crashes leave of a table of the built
-#                            pwstore, in a minute, without any proof: for each push; it needs strace
+#                            comparison; and of what the gate built (dist/ where nothing is built) the faces in C, pwtool over each form and
+#                            option, and what crashes leave of a table of pwstore. In a minute or two, without any proof: for each push; it
+#                            needs strace
 #     checks/run.sh          that, and the C library, its callers, a run under sanitizers, the installation, the programs of README.md
 #
 # The second needs gcc, binutils and pkg-config, and builds the library and the programs by rt, which proves what no
@@ -11,6 +12,8 @@
 set -eu
 cd "$(dirname "$0")/.."
 export PYTHONDONTWRITEBYTECODE=1
+work=$(mktemp -d)
+trap 'rm -rf "$work"' EXIT
 python3 bindings/numbers.py swaps
 python3 crypt3/numbers.py swaps
 python3 checks/pages.py
@@ -24,16 +27,22 @@ checks/verify_try.sh
 if command -v mandoc >/dev/null 2>&1; then
   for page in man/*; do mandoc -Tlint -Wwarning "$page"; done
 fi
-checks/c_faces.sh
-python3 checks/pwtool_cases.py
+# What the gate built, laid out as dist/ is; where it built nothing, dist/ itself.
+made=$PWD/dist
+if PWCHECK_AS_BUILT=1 packaging/dist.sh "$work/made" >"$work/log" 2>&1; then
+  made=$work/made
+  echo "run.sh: tried is what was built here"
+else
+  echo "run.sh: tried is dist/, since not everything was built here: $(tail -n 1 "$work/log")"
+fi
+checks/c_faces.sh "$made"
+PWTOOL=$made/pwtool python3 checks/pwtool_cases.py
+python3 checks/blocks.py "$made"
 command -v strace >/dev/null 2>&1 || apt-get install -y strace >/dev/null 2>&1 || true
-python3 bench/crashes.py quick
-work=$(mktemp -d)
-trap 'rm -rf "$work"' EXIT
+PWSTORE=$made/pwstore python3 bench/crashes.py quick
 PWCHECK_DIST=1 ./install.sh "$work/dist" >/dev/null
 ("$work/dist/bin/pwcheck" check --count <examples/passwords.txt || true) | cmp - crates/pwcheck/stdout
 echo "install.sh: what dist/ holds, installed, answers as the stored run"
-python3 checks/blocks.py "$work/dist/bin"
 [ "${1:-}" = quick ] && exit 0
 python3 bindings/library.py "$work/lib"
 python3 checks/exports.py "$work/lib"
