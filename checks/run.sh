@@ -36,7 +36,7 @@ else
   echo "run.sh: tried is dist/, since not everything was built here: $(tail -n 1 "$work/log")"
 fi
 checks/c_faces.sh "$made"
-PWTOOL=$made/pwtool python3 checks/pwtool_cases.py
+python3 checks/pwtool_cases.py "$made/pwtool"
 python3 checks/blocks.py "$made"
 command -v strace >/dev/null 2>&1 || apt-get install -y strace >/dev/null 2>&1 || true
 PWSTORE=$made/pwstore python3 bench/crashes.py quick
