@@ -105,7 +105,7 @@ def places(names, found):
 
 
 def statuses():
-    text = specs("pwcheck_c", "Statuses")
+    text = specs("c_buffers", "Statuses") + "\n" + specs("pwcheck_c", "Statuses")
     found = re.findall(r"^status_([a-z0-9_]+) = (pos|negsuc) ([0-9]+)$", text, re.M)
     need(len(found) == len(re.findall(r"^abbrev pub status_", text, re.M)), "a status isn't read")
     return {name.upper(): int(n) if sign == "pos" else -1 - int(n) for name, sign, n in found}
