@@ -47,6 +47,7 @@ ROWS = [Row(*row) for row in (
     ("crypt_clients.py", "compare", "perl", 2, None, "programs that call crypt(3), with libpwcrypt under them"),
     ("crypt_definitions.py", "compare", "", 2, "2000", "the definitions of crypt(3) in Python beside libxcrypt"),
     ("crypt_differ.py", "compare", "gcc", 5, None, "libpwcrypt beside libxcrypt"),
+    ("damaged_texts.py", "compare", "", 2, None, "damaged texts of every scheme: `pwtool check` and `survey` agree on each"),
     ("differ.py", "compare", "", 2, "1 400", "`pwcheck check` beside a reading of docs/WORDS.md"),
     ("foreign_texts.py", "compare", "", 3, None, "texts of Django, LDAP and passlib, asked of `pwtool --from`"),
     ("htpasswd_lines.py", "compare", "htpasswd", 1, None, "lines of htpasswd, asked of `pwlegacy`"),
