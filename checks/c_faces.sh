@@ -78,9 +78,12 @@ else
   echo "c_faces.sh: another compiler than that of $folder/COMPILER, so the shared libraries weren't linked anew: $(tr '\n' ';' <"$folder/COMPILER" 2>/dev/null)"
 fi
 
-STACK_MOST=${STACK_MOST:-8192}
-python3 "$top/checks/stack.py" --clean --most $STACK_MOST "$folder/libpwcheck.so.1.1" "$folder/libpwcrypt.so.1.0" >"$work/stack" || {
-  cat "$work/stack" >&2
-  fail "a call takes more than $STACK_MOST bytes of stack, or leaves something of a password"
+stack() { # LIBRARY BYTES
+  python3 "$top/checks/stack.py" --clean --most "$2" "$folder/$1" >"$work/stack" || {
+    cat "$work/stack" >&2
+    fail "a call of $1 takes more than $2 bytes of stack, or leaves something of a password"
+  }
+  echo "c_faces.sh: no call of $1 takes more than $2 bytes of stack, or leaves anything of a password"
 }
-echo "c_faces.sh: no call of the C libraries takes more than $STACK_MOST bytes of stack, or leaves anything of a password"
+stack libpwcheck.so.1.1 12800
+stack libpwcrypt.so.1.0 8192

@@ -7,7 +7,7 @@
 #include <stdint.h>
 
 /* The bytes of stack that are wiped after a call: at least as many as a proved call takes below its caller, which
- * checks/stack.py measures. */
+ * checks/stack.py measures. This many are libpwcheck's, where Argon2 takes most; libpwcrypt, which has no Argon2, sets fewer. */
 #ifndef FACE_STACK
 #define FACE_STACK 12288
 #endif
