@@ -194,6 +194,8 @@ def versions():
     need(f'version = "{version}.0"' in read("bindings", "rust", "Cargo.toml"), f"Cargo.toml isn't {version}.0")
     need(f"libpwcheck.so.{version}" in read("bindings", "library.py"), f"library.py doesn't tell of {version}")
     need(f'version = "{version}.0"' in read("bindings", "python", "pyproject.toml"), f"pyproject.toml isn't {version}.0")
+    need(f'VERSION: &str = "{version}.0"' in read("crates", "store_run", "src", "help.rt"), f"the version of the programs isn't {version}.0")
+    need(re.search(r"^## ([0-9.]+)", read("CHANGELOG.md"), re.M).group(1) == version + ".0", f"CHANGELOG.md doesn't begin with {version}.0")
     return {"VERSION_MAJOR": int(version.split(".")[0]), "VERSION_MINOR": int(version.split(".")[1])}
 
 
