@@ -16,14 +16,15 @@
  * - The time of a check is told by the stored text: its rounds, or the parameters of scrypt. SHA-crypt's grows with the
  *   square of the password's length too, so it takes passwords of at most 4,096 bytes. A stored text of another's
  *   choice may ask for hours: bound it by pwcheck_check_limited, or by the limits of pwcheck_check_any.
- * - The processor is x86-64-v2 or later. No call was seen to need more than 16 KB of stack beside malloc's:
- *   a thread of 24 KB is enough, and one of PTHREAD_STACK_MIN (16 KB) isn't for bcrypt.
- * - Nothing is wiped: what a call has left on the stack and in freed memory may tell of the password.
+ * - The processor is x86-64-v2 or later. No call takes more than 12,800 bytes of stack beside malloc's, as
+ *   checks/stack.py measures: a thread of 24 KB is enough, and one of PTHREAD_STACK_MIN (16 KB) isn't.
+ * - After each call that takes a password the stack that it used, the vector registers and the memory that it took are
+ *   overwritten or given back to the system. The caller's own copies, swap and core dumps are not the library's.
  *
  * How to check a password
  * - Compare the answer with PWCHECK_MATCH, and with nothing less. Every other number is no leave to enter:
- *       if (pwcheck_check(p, n, stored, m) == PWCHECK_MATCH)    right
- *       if (pwcheck_check(p, n, stored, m))                     wrong: true of a mismatch, false of a match
+ *       if (pwcheck_check_login(p, n, stored, m) == PWCHECK_MATCH)    right
+ *       if (pwcheck_check_login(p, n, stored, m))                     wrong: true of a mismatch, false of a match
  * - PWCHECK_OUT_OF_MEMORY is no verdict, and PWCHECK_OVER_COST is none: tell the user to try later, and an operator.
  *   Don't count it as a wrong password.
  * - For a user that doesn't exist check the password against a fixed text of the same scheme and cost as the others,
@@ -31,12 +32,10 @@
  * - Draw salts by getrandom(2), arc4random_buf(3) or what else the system has for secrets, never by rand(3).
  *
  * How to make a text to store, with PWCHECK_DONE the one status that it is there:
- *       uint8_t salt[PWCHECK_SALT_SIZE], text[PWCHECK_TEXT_MAX];
+ *       uint8_t text[PWCHECK_TEXT_MAX];
  *       size_t n;
- *       if (getrandom(salt, sizeof salt, 0) == sizeof salt
- *           && pwcheck_bcrypt_text(password, len, salt, sizeof salt, PWCHECK_RECOMMENDED_BCRYPT_COST,
- *                                  text, sizeof text, &n) == PWCHECK_DONE)
- *           keep(text, n);                                  n bytes, and no zero behind them
+ *       if (pwcheck_make(password, len, text, sizeof text, &n) == PWCHECK_DONE)
+ *           keep(text, n);                                  n bytes, and no zero after them
  */
 #ifndef PWCHECK_H
 #define PWCHECK_H
@@ -141,7 +140,9 @@ enum pwcheck_status {
     /* -5 to -7, from version 1.1 on: the password is refused, and nothing was written. Its user may choose another */
     PWCHECK_REFUSED_LENGTH = -5,    /* more than 4,096 bytes; for bcrypt, of which no more count, more than 72 */
     PWCHECK_REFUSED_UTF8 = -6,      /* it isn't UTF-8 */
-    PWCHECK_REFUSED_ZERO = -7       /* a zero byte, at which crypt(3), whose scheme it is, takes a password to end */
+    PWCHECK_REFUSED_ZERO = -7,      /* a zero byte, at which crypt(3), whose scheme it is, takes a password to end */
+
+    PWCHECK_NO_RANDOM = -8          /* from version 1.1 on: the system gave no random bytes; nothing was written */
 };
 
 /* Alphabets of Base64. */
@@ -202,9 +203,11 @@ PWCHECK_MUST_USE PWCHECK_NONNULL
 int32_t pwcheck_check_limited(const uint8_t *password, size_t password_len, const uint8_t *stored, size_t stored_len,
                               uint32_t max_rounds, uint64_t max_bytes);
 
-/* The most that a valid stored text may ask for, scheme by scheme (from version 1.1 on). A number that no text reaches
- * bounds nothing: begin with PWCHECK_LIMITS_NONE. */
+/* The most that a valid stored text may ask for, scheme by scheme (from version 1.1 on). Begin with one of the two macros
+ * below, which set the size, and change single numbers. A number that no text reaches bounds nothing. A later version may
+ * add numbers at the end: the library bounds nothing by a number that a shorter struct hasn't. */
 struct pwcheck_limits {
+    uint32_t size;                  /* sizeof(struct pwcheck_limits) */
     uint32_t sha_rounds;            /* rounds of SHA-crypt, 1,000 to 999,999,999 */
     uint32_t bcrypt_cost;           /* cost of bcrypt, 4 to 31: 2^cost turns */
     uint32_t yescrypt_ln;           /* yescrypt: the binary logarithm of N, 2 to 23; the table takes 128 r N bytes */
@@ -219,16 +222,31 @@ struct pwcheck_limits {
     uint32_t argon2_lanes;          /* p */
 };
 #define PWCHECK_LIMITS_NONE                                                                                       \
-    {UINT32_MAX, UINT32_MAX, UINT32_MAX, UINT32_MAX, UINT32_MAX, UINT32_MAX, UINT32_MAX, UINT32_MAX, UINT32_MAX, \
-     UINT32_MAX, UINT32_MAX, UINT32_MAX}
+    {sizeof(struct pwcheck_limits), UINT32_MAX, UINT32_MAX, UINT32_MAX, UINT32_MAX, UINT32_MAX, UINT32_MAX,       \
+     UINT32_MAX, UINT32_MAX, UINT32_MAX, UINT32_MAX, UINT32_MAX, UINT32_MAX}
+
+/* Limits for a login, which a text of every maker below reaches and a text that would take minutes doesn't.
+ *     sha_rounds     8 times 656,000, the rounds of passlib 1.7.4
+ *     bcrypt_cost    three doublings more than 12, the cost of passlib 1.7.4 and PHP 8.4
+ *     yescrypt_..    three doublings of N more than libxcrypt 4.4 makes by default (ln 12, r 32, t 0): 128 MiB
+ *     pbkdf2_rounds  8 times 600,000, the rounds of OWASP's Password Storage Cheat Sheet
+ *     scrypt_..      the largest ln and p of OWASP's settings (17 and 10); r of libxcrypt's texts $7$ (32)
+ *     argon2_..      256 MiB, libsodium's MODERATE; 8 passes, libsodium's SENSITIVE of Argon2i; 8 lanes, argon2-cffi 18.2 */
+#define PWCHECK_LIMITS_LOGIN                                                                                      \
+    {sizeof(struct pwcheck_limits), 5248000, 15, 15, 32, 0, 4800000, 17, 32, 10, 262144, 8, 8}
 
 /* Checks a password against a stored text of every scheme: SHA-crypt ($5$, $6$), md5-crypt ($1$, $apr1$), bcrypt ($2a$,
  * $2b$, $2y$), yescrypt ($y$), scrypt ($7$), or a PHC record of scrypt, PBKDF2 (with SHA-256 or SHA-512) or Argon2. A valid
  * text that asks for more than a limit is answered by PWCHECK_OVER_COST, and nothing is hashed for it. Compare the answer
- * with PWCHECK_MATCH, and with nothing less. From version 1.1 on. */
+ * with PWCHECK_MATCH, and with nothing less. Limits whose size is no multiple of 4 from 4 to 1,024, or that bound a number
+ * which this version doesn't know, are PWCHECK_OUT_OF_RANGE, and nothing is read of the text. From version 1.1 on. */
 PWCHECK_MUST_USE PWCHECK_NONNULL
 int32_t pwcheck_check_any(const uint8_t *password, size_t password_len, const uint8_t *stored, size_t stored_len,
                           const struct pwcheck_limits *limits);
+
+/* The same within PWCHECK_LIMITS_LOGIN: what a login service asks. From version 1.1 on. */
+PWCHECK_MUST_USE PWCHECK_NONNULL
+int32_t pwcheck_check_login(const uint8_t *password, size_t password_len, const uint8_t *stored, size_t stored_len);
 
 /* Checks a password against a text of the one family alone. It takes an empty salt, and in a salt any characters but
  * '$', which pwcheck_check answers by 7 and 8. Of the answers 0 to 2, 4 and 9 to 17. */
@@ -290,6 +308,12 @@ int32_t pwcheck_sha256_crypt_text(const uint8_t *password, size_t password_len, 
 PWCHECK_MUST_USE PWCHECK_NONNULL
 int32_t pwcheck_sha512_crypt_text(const uint8_t *password, size_t password_len, const uint8_t *salt, size_t salt_len,
                                   uint32_t rounds, uint8_t *out, size_t out_len, size_t *len);
+
+/* The text of a new password, by the scheme and the cost that are recommended, with a salt that the call draws by
+ * getrandom(2): Argon2id with the PWCHECK_RECOMMENDED_ARGON2ID numbers, as pwcheck_argon2id_text makes it. A later
+ * version may recommend more. PWCHECK_NO_RANDOM where the system gives no random bytes. From version 1.1 on. */
+PWCHECK_MUST_USE PWCHECK_NONNULL
+int32_t pwcheck_make(const uint8_t *password, size_t password_len, uint8_t *out, size_t out_len, size_t *len);
 
 /* The whole text of bcrypt, yescrypt, Argon2id and PBKDF2 with SHA-256, without a zero behind it; `*len` is its length,
  * and is written only with PWCHECK_DONE. The salt is 16 bytes, which the caller draws at random; a key has 32 bytes.
