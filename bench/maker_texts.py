@@ -35,6 +35,10 @@ BOUNDS = ["--max-pbkdf2-rounds", "2000", "--max-scrypt-ln", "10", "--max-scrypt-
           "--max-yescrypt-ln", "8"]
 
 
+# Identifiers that are read. passlib keeps others too, `$P$` and `$scram$`: such a text is kept as it is, and has no scheme here.
+READ = {"1", "5", "6", "7", "2a", "2b", "2y", "y", "scrypt", "argon2i", "argon2d", "argon2id", "pbkdf2-sha256", "pbkdf2-sha512"}
+
+
 def ask(words, lines):
     run = subprocess.run([PROGRAM, *words], input=b"".join(line + b"\n" for line in lines), stdout=subprocess.PIPE, stderr=subprocess.PIPE, check=False)
     if run.returncode not in (0, 1):
@@ -57,9 +61,12 @@ def vectors(count, faults):
             if name != maker or b"\t" in password or b"\n" in password:
                 continue
             kind, answer = makers.converted(maker, text)
-            wanted += ["match", "mismatch"] if kind == "text" else [answer]
-            lines += [password + b"\t" + text.encode(), b"~" + password + b"\t" + text.encode()] if kind == "text" else [password + b"\t" + text.encode()]
-            told.append((password, text, answer.split("$")[1] if kind == "text" else None, answer))
+            scheme = answer.split("$")[1] if kind == "text" else None
+            if kind == "text" and scheme not in READ:
+                answer = "no-scheme"
+            wanted += ["match", "mismatch"] if scheme in READ else [answer]
+            lines += [password + b"\t" + text.encode(), b"~" + password + b"\t" + text.encode()] if scheme in READ else [password + b"\t" + text.encode()]
+            told.append((password, text, scheme, answer))
         compare(maker, "check", lines, wanted, ask(["check", "--quiet", "--from", maker], lines), count, faults)
         users = [f"user{at}" for at in range(len(told))]
         with tempfile.TemporaryDirectory() as folder:
@@ -67,7 +74,8 @@ def vectors(count, faults):
             with open(passwords, "wb") as file:
                 file.write(b"".join(user.encode() + b":" + password + b"\n" for user, (password, *_) in zip(users, told)))
             texts = [f"{user}:{text}".encode() for user, (_, text, *_) in zip(users, told)]
-            wanted = [f"{user}\t{'match' if scheme else answer}" for user, (_, _, scheme, answer) in zip(users, told)]
+            wanted = [f"{user}\t{'locked' if text[:1] in '!*' else 'match' if scheme in READ else answer}"
+                      for user, (_, text, scheme, answer) in zip(users, told)]
             compare(maker, "join", texts, wanted, ask(["join", "--quiet", "--from", maker, "-", passwords], texts), count, faults)
         got = [row[1] for row in csv.reader(ask(["survey", "--quiet", "--csv", "--from", maker], texts))]
         names = {"1": "md5-crypt", "5": "sha256-crypt", "6": "sha512-crypt", "2a": "bcrypt", "2b": "bcrypt", "2y": "bcrypt", "y": "yescrypt", None: "-"}

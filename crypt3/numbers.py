@@ -31,7 +31,7 @@ def number(text):
 
 def defined():
     """The statuses and the numbers of crypt_checksalt, by their names in C."""
-    text = re.sub(r"--.*", "", read("crates", "pwcrypt_c", "specs", "Statuses.antt"))
+    text = "\n".join(re.sub(r"--.*", "", read("crates", crate, "specs", "Statuses.antt")) for crate in ("c_buffers", "pwcrypt_c"))
     found = dict(re.findall(r"^(status_\w+) = (.*)$", text, re.M))
     if set(found) != set(NAMES):
         sys.exit(f"numbers.py: statuses {sorted(set(found) ^ set(NAMES))}")
