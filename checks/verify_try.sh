@@ -1,7 +1,7 @@
 #!/usr/bin/env bash
 # Tries packaging/verify.sh on a dist/ in which one byte is changed and the sums are made anew, with each variable set that makes
 # install.sh copy in place of building. verify.sh has to find the byte. Nothing is proved here: in a copy of the scripts install.sh and
-# crypt3/library.py are such as lay out the true files where they are to build, and those of dist/ where a variable is set.
+# both library.py are such as lay out the true files where they are to build, and those of dist/ where a variable is set.
 #
 #     checks/verify_try.sh
 set -eu
@@ -11,7 +11,7 @@ trap 'rm -rf "$work"' EXIT
 mkdir "$work/top"
 cp -r "$top"/{crates.txt,packaging,include,bindings,crypt3,dist} "$work/top"
 mkdir "$work/top/crates"
-[ -e "$work/top/dist/libpwcrypt_c.a" ] || echo none >"$work/top/dist/libpwcrypt_c.a"
+for archive in libpwcrypt_c.a libpwcheck_c.a; do [ -e "$work/top/dist/$archive" ] || echo none >"$work/top/dist/$archive"; done
 cp "$top/include/pwcheck.h" "$work/top/dist/pwcheck.h"
 cp -r "$work/top/dist" "$work/true"
 cat >"$work/top/install.sh" <<SH
@@ -31,12 +31,17 @@ copied = os.environ.get("PWCHECK_DIST") or os.environ.get("PWCHECK_AS_BUILT")
 os.makedirs(sys.argv[1] + "/lib")
 shutil.copy(("$work/top/dist" if copied else "$work/true") + "/libpwcrypt_c.a", sys.argv[1] + "/lib")
 PY
+cat >"$work/top/bindings/library.py" <<PY
+import os, shutil, sys
+copied = os.environ.get("PWCHECK_DIST") or os.environ.get("PWCHECK_AS_BUILT")
+shutil.copy(("$work/top/dist" if copied else "$work/true") + "/libpwcheck_c.a", sys.argv[2])
+PY
 python3 "$work/top/packaging/sources.py" >"$work/top/dist/SOURCES"
 { gcc --version; ld --version; } | grep -E "^(gcc|GNU ld)" >"$work/top/dist/COMPILER"
 sums() { (cd "$work/top/dist" && find . -type f ! -name SHA256SUMS -printf '%f\0' | LC_ALL=C sort -z | xargs -0 sha256sum -- >SHA256SUMS); }
 sums
 "$work/top/packaging/verify.sh" "$work/top/dist" >/dev/null || { echo "verify_try.sh: verify.sh doesn't take a true dist/"; exit 1; }
-for file in libpwcheck.a libpwcrypt_c.a pwtool; do
+for file in libpwcheck.a libpwcrypt_c.a libpwcheck_c.a pwtool; do
   cp "$work/true/$file" "$work/top/dist/$file"
   printf 'x' | dd of="$work/top/dist/$file" bs=1 seek=1 conv=notrunc status=none
   sums
