@@ -63,7 +63,7 @@ def vectors(count, faults):
             kind, answer = makers.converted(maker, text)
             scheme = answer.split("$")[1] if kind == "text" else None
             if kind == "text" and scheme not in READ:
-                answer = "no-scheme"
+                scheme, answer = None, "no-scheme"
             wanted += ["match", "mismatch"] if scheme in READ else [answer]
             lines += [password + b"\t" + text.encode(), b"~" + password + b"\t" + text.encode()] if scheme in READ else [password + b"\t" + text.encode()]
             told.append((password, text, scheme, answer))
