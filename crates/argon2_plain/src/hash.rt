@@ -82,6 +82,7 @@ fn add_field(state: &mut Blake2b, field: &[u8])
 }
 
 /// H_0, for a tag of `n` bytes.
+#[inline(never)]
 pub(crate) fn initial_hash(
     params: Params,
     password: &[u8],

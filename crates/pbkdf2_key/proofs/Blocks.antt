@@ -1,5 +1,5 @@
 -- Rounds and blocks, under any pseudorandom function whose outputs have h bytes.
-use Rattle.std.proofs.Common.{◌≡◌, ◌⊎◌, ℕ, zero, suc, ◌+◌, ◌-◌, ◌*◌, ◌/◌, ◌%◌, ◌≤◌, ◌<◌, min, List, [], ◌∷◌, ◌++◌, length, take, drop}
+use Rattle.std.proofs.Common.{◌≡◌, ◌⊎◌, ℕ, zero, suc, ◌+◌, ◌-◌, ◌*◌, ◌≤◌, ◌<◌, List, [], ◌∷◌, ◌++◌, length, take}
 use Rattle.std.proofs.Common.{refl, sym, ap, ap₂, ◌∙◌, arith, add-one, inl, inr}
 use Rattle.std.specs.Prelude.{replicate}
 use Rattle.std.specs.Int.{w32, div_ceil, to_be_bytes}
@@ -7,9 +7,9 @@ use Rattle.std.specs.Int.Bits.{xor_zero_l}
 use Rattle.std.proofs.Math.Nat.{mul-le-mul_left, mul-le-mul_right}
 use Rattle.std.proofs.lemmas.Bool.{cases_lt}
 use Rattle.std.proofs.lemmas.Grind.{div_ceil_times}
-use Rattle.std.proofs.lemmas.List.{take-append-le, take-take, take_all, length-append}
+use Rattle.std.proofs.lemmas.List.{take-append-le, take-take, take_all}
 use Rattle.word_lists.specs.Lists.{xor_bytes}
-use Rattle.pbkdf2_key.specs.Pbkdf2.{Prf, u, output_block, output_blocks, pbkdf2, pbkdf2_sha256}
+use Rattle.pbkdf2_key.specs.Pbkdf2.{Prf, u, output_block, output_blocks, pbkdf2}
 use Rattle.pbkdf2_key.specs.Lengths.{HasLength, enough, length-u, length-output_blocks}
 
 xor_zeros : (n : ℕ) (ys : List ℕ) → length ys ≡ n → xor_bytes (replicate n 0) ys ≡ ys

@@ -17,6 +17,7 @@ pub use profile::{Pbkdf2Hash, Pbkdf2Plain};
 ///
 /// PBKDF2 of RFC 8018, section 5.2, with HMAC-SHA-256. A round costs two compressions of SHA-256 for each 32 bytes of
 /// the key. Passwords and salts below 2^30 bytes keep each message that is hashed below 2^61 bytes.
+#[inline(never)]
 pub fn pbkdf2_sha256(password: &[u8], salt: &[u8], rounds: u32, out: &mut [u8])
     requires rounds_least { 1 ≤ rounds }
     requires rounds_most { rounds ≤ 10000000 }
@@ -30,6 +31,7 @@ pub fn pbkdf2_sha256(password: &[u8], salt: &[u8], rounds: u32, out: &mut [u8])
 }
 
 /// The same with HMAC-SHA-512. A round costs two compressions of SHA-512, whatever the length of the key.
+#[inline(never)]
 pub fn pbkdf2_sha512(password: &[u8], salt: &[u8], rounds: u32, out: &mut [u8])
     requires rounds_least { 1 ≤ rounds }
     requires rounds_most { rounds ≤ 10000000 }
