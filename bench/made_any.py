@@ -1,7 +1,7 @@
 #!/usr/bin/env python3
 """Has texts that `pwtool make` writes taken by others, and by `pwtool check`.
 
-Of each of the seven schemes 100 texts of random passwords and costs are made, and each is asked about with its password and with
+Of each of the eight schemes 100 texts of random passwords and costs are made, and each is asked about with its password and with
 a wrong one: by `pwtool check`; for SHA-crypt, bcrypt and yescrypt by libxcrypt's crypt (libcrypt.so.1, through ctypes); for scrypt
 by passlib; for Argon2id by libargon2's argon2id_verify (libargon2.so.1); for PBKDF2 by Python's hashlib, since no program here
 reads its records. No two texts may have one salt. Then one text of each scheme is made of no option, and its cost compared with
@@ -53,7 +53,7 @@ def run(words, given):
 
 
 def made(words, password):
-    done = run(["make"] + words, password.encode() + b"\n")
+    done = run(["make", "--empty"] + words, password.encode() + b"\n")
     if done.returncode != 0 or done.stderr or done.stdout.count(b"\n") != 1:
         fault(f"make {words}: {done}")
         return None
@@ -70,6 +70,7 @@ def costs(scheme, rng):
         "scrypt": lambda: [("ln", rng.randint(1, 9)), ("r", rng.randint(1, 12)), ("p", rng.randint(1, 4))],
         "argon2id": lambda: [("memory", rng.randint(32, 600)), ("passes", rng.randint(1, 4)), ("lanes", rng.randint(1, 4))],
         "pbkdf2-sha256": lambda: [("rounds", rng.randint(1, 5000))],
+        "pbkdf2-sha512": lambda: [("rounds", rng.randint(1, 5000))],
     }[scheme]()
     return [word for name, number in numbers for word in ("--" + name, str(number))]
 
@@ -97,8 +98,8 @@ def unpadded(field):
 def by_hashlib(password, text):
     nothing, name, numbers, salt, key = text.split("$")
     rounds, length = (int(pair.split("=")[1]) for pair in numbers.split(","))
-    right = nothing == "" and name == "pbkdf2-sha256" and numbers == f"i={rounds},l={length}" and length == 32
-    return right and hashlib.pbkdf2_hmac("sha256", password.encode(), unpadded(salt), rounds, length) == unpadded(key)
+    right = nothing == "" and name in ("pbkdf2-sha256", "pbkdf2-sha512") and numbers == f"i={rounds},l={length}" and length == 32
+    return right and hashlib.pbkdf2_hmac(name.removeprefix("pbkdf2-"), password.encode(), unpadded(salt), rounds, length) == unpadded(key)
 
 
 SCHEMES = {
@@ -109,6 +110,7 @@ SCHEMES = {
     "scrypt": ("$scrypt$", by_passlib),
     "argon2id": ("$argon2id$v=19$", by_argon2),
     "pbkdf2-sha256": ("$pbkdf2-sha256$", by_hashlib),
+    "pbkdf2-sha512": ("$pbkdf2-sha512$", by_hashlib),
 }
 
 
@@ -168,6 +170,7 @@ def try_defaults():
         ("scrypt", "$scrypt$ln=17,r=8,p=1$"),
         ("argon2id", "$argon2id$v=19$m=65536,t=3,p=4$"),
         ("pbkdf2-sha256", "$pbkdf2-sha256$i=600000,l=32$"),
+        ("pbkdf2-sha512", "$pbkdf2-sha512$i=210000,l=32$"),
     ]:
         text = made([scheme], "correct horse")
         if text is None or not text.startswith(front) or not SCHEMES[scheme][1]("correct horse", text):
@@ -180,7 +183,7 @@ REFUSED = [
     (["bcrypt", "--cost", "x"], b"x\n", 64), (["sha512-crypt", "--rounds", "999"], b"x\n", 64),
     (["scrypt", "--ln", "25"], b"x\n", 64), (["argon2id", "--memory", "31"], b"x\n", 64), (["yescrypt", "--p", "1"], b"x\n", 64),
     (["pbkdf2-sha256", "--rounds", "0"], b"x\n", 64), (["bcrypt", "--cost", "4", "x"], b"x\n", 64),
-    (["bcrypt", "--cost", "4"], b"", 1), (["bcrypt", "--cost", "4"], b"a" * 73 + b"\n", 1), (["bcrypt", "--cost", "4"], b"\xff\n", 1),
+    (["bcrypt", "--cost", "4"], b"", 1), (["bcrypt", "--cost", "4"], b"\n", 1), (["bcrypt", "--cost", "4", "--empty"], b"", 1), (["bcrypt", "--cost", "4"], b"a" * 73 + b"\n", 1), (["bcrypt", "--cost", "4"], b"\xff\n", 1),
     (["bcrypt", "--cost", "4"], b"a\0b\n", 1), (["sha256-crypt"], b"a\0b\n", 1), (["yescrypt"], b"\0\n", 1),
     (["scrypt", "--ln", "4"], b"a" * 4097 + b"\n", 1), (["scrypt", "--ln", "4"], b"a" * 8193, 1), (["argon2id"], b"\xc3\n", 1),
 ]

@@ -1,6 +1,6 @@
 -- The texts of bcrypt are judged.
-use Rattle.std.proofs.Common.{◌≡◌, ℕ, ◌≤◌, Bool, true, false, List, ◌++◌}
-use Rattle.std.proofs.Common.{length, refl, ap, ◌∙◌, arith, Some, Ok, Err, inl, inr}
+use Rattle.std.proofs.Common.{◌≡◌, ℕ, ◌≤◌, Bool, true, false, List}
+use Rattle.std.proofs.Common.{length, refl, ap, ◌∙◌, Some, Ok, Err, inl, inr}
 use Rattle.std.specs.Prelude.{codes, nat_eq, if◌then◌else◌}
 use Rattle.std.specs.Cmp.Lexicographic.{pointwise}
 use Rattle.std.proofs.lemmas.Bool.{false≢true}

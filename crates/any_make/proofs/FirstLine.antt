@@ -1,5 +1,5 @@
 -- The first line of a source, and what is written for it.
-use Rattle.std.proofs.Common.{◌≡◌, ℕ, ◌+◌, ◌-◌, ◌^◌, ◌<◌, ◌≤◌, min, List, [], ◌∷◌, ◌++◌, length, take, drop, refl, sym, ap, ◌∙◌, arith}
+use Rattle.std.proofs.Common.{◌≡◌, ℕ, Bool, ◌+◌, ◌-◌, ◌^◌, ◌<◌, ◌≤◌, List, [], ◌∷◌, ◌++◌, length, take, drop, refl, sym, ap, ◌∙◌, arith}
 use Rattle.std.proofs.Common.{append-nil, append_assoc, take-append-drop, subst, inl, inr, Some, None, Option}
 use Rattle.std.specs.Io.KnownBytes.{Appends}
 use Rattle.std.proofs.lemmas.Bool.{false≢true}
@@ -14,7 +14,7 @@ use Rattle.any_make.specs.Line.{HasLongLine, IsFirstLine, MakeOutcome, WritesTex
 use Rattle.any_make.specs.Made.{IsMakeFault, made}
 use Rattle.any_make.specs.declared.error.MakeFault.{MakeFault}
 use Rattle.any_make.specs.declared.line.MakeEnd.{MakeEnd}
-use Rattle.any_make.specs.declared.line.MakeEnd.TheVariants.{LongLine, Made, NoLine, ReadFault, Refused, WriteFault}
+use Rattle.any_make.specs.declared.line.MakeEnd.TheVariants.{EmptyLine, LongLine, Made, NoLine, ReadFault, Refused, WriteFault}
 use Rattle.any_make.specs.declared.scheme.MakeCost.{MakeCost}
 
 -- ---- what was taken
@@ -114,43 +114,46 @@ module _ (held left : List ℕ) (before now : LineBuffer) (new : IsNew (2 ^ 40) 
 
 -- ---- outcomes
 
-module _ (c : MakeCost) (salt held taken : List ℕ) where
+module _ (c : MakeCost) (salt : List ℕ) (takes_empty : Bool) (held taken : List ℕ) where
   abbrev Ends : MakeEnd → List ℕ → Type 0
-  Ends end added = MakeOutcome c salt end held taken added
+  Ends end added = MakeOutcome c salt takes_empty end held taken added
 
   of_text : (end : MakeEnd) (l : List ℕ) (written written_now : Option (List ℕ)) → IsFirstLine held taken l
-      → WritesText c l salt written written_now end → (added : List ℕ) × Appends written written_now added × Ends end added
+      → WritesText c takes_empty l salt written written_now end → (added : List ℕ) × Appends written written_now added × Ends end added
   of_text Made l written written_now first h = (
     h.0 ++ 10 ∷ [],
-    h.2,
+    h.3,
     record {
-      done = λ e. (l, h.0, first, h.1, refl);
+      done = λ e. (l, h.0, first, h.1, h.2, refl);
       refused = λ f e. absurd cc;
       no_line = λ e. absurd cc;
+      empty_line = λ e. absurd cc;
       long_line = λ e. absurd cc;
       write_fault = λ e. absurd cc;
       nothing = inl refl;
     },
   )
   of_text WriteFault l written written_now first h = (
-    h.2.0,
-    h.2.3,
+    h.3.0,
+    h.3.3,
     record {
       done = λ e. absurd cc;
       refused = λ f e. absurd cc;
       no_line = λ e. absurd cc;
+      empty_line = λ e. absurd cc;
       long_line = λ e. absurd cc;
-      write_fault = λ e. (l, h.0, first, h.1, (h.2.1, h.2.2));
+      write_fault = λ e. (l, h.0, first, h.1, h.2, (h.3.1, h.3.2));
       nothing = inr (inl refl);
     },
   )
   of_text (Refused f) l written written_now first h = (
     [],
-    h.1,
+    h.2,
     record {
       done = λ e. absurd cc;
-      refused = λ g e. (l, first, subst (λ (x : MakeFault). IsMakeFault c (made c l salt) x) (fault_once f g e) h.0);
+      refused = λ g e. (l, first, h.0, subst (λ (x : MakeFault). IsMakeFault c (made c l salt) x) (fault_once f g e) h.1);
       no_line = λ e. absurd cc;
+      empty_line = λ e. absurd cc;
       long_line = λ e. absurd cc;
       write_fault = λ e. absurd cc;
       nothing = inr (inr refl);
@@ -159,6 +162,19 @@ module _ (c : MakeCost) (salt held taken : List ℕ) where
     where
       fault_once : (a b : MakeFault) → ◌≡◌ {A = MakeEnd} (Refused a) (Refused b) → a ≡ b
       fault_once a b e = cc
+  of_text EmptyLine l written written_now first h = (
+    [],
+    h.1,
+    record {
+      done = λ e. absurd cc;
+      refused = λ g e. absurd cc;
+      no_line = λ e. absurd cc;
+      empty_line = λ e. (l, first, h.0);
+      long_line = λ e. absurd cc;
+      write_fault = λ e. absurd cc;
+      nothing = inr (inr refl);
+    },
+  )
   of_text NoLine l written written_now first h = absurd h
   of_text LongLine l written written_now first h = absurd h
   of_text ReadFault l written written_now first h = absurd h
@@ -168,6 +184,7 @@ module _ (c : MakeCost) (salt held taken : List ℕ) where
     done = λ e. absurd cc;
     refused = λ f e. absurd cc;
     no_line = λ e. absurd cc;
+    empty_line = λ e. absurd cc;
     long_line = λ e. absurd cc;
     write_fault = λ e. absurd cc;
     nothing = inr (inr refl);
@@ -178,6 +195,7 @@ module _ (c : MakeCost) (salt held taken : List ℕ) where
     done = λ e. absurd cc;
     refused = λ f e. absurd cc;
     no_line = λ e. is;
+    empty_line = λ e. absurd cc;
     long_line = λ e. absurd cc;
     write_fault = λ e. absurd cc;
     nothing = inr (inr refl);
@@ -188,6 +206,7 @@ module _ (c : MakeCost) (salt held taken : List ℕ) where
     done = λ e. absurd cc;
     refused = λ f e. absurd cc;
     no_line = λ e. absurd cc;
+    empty_line = λ e. absurd cc;
     long_line = λ e. is;
     write_fault = λ e. absurd cc;
     nothing = inr (inr refl);
@@ -198,15 +217,15 @@ module _ (c : MakeCost) (salt held taken : List ℕ) where
 appends_none : (written : List ℕ) → written ≡ written ++ []
 appends_none written = sym (append-nil written)
 
-module _ (c : MakeCost) (salt : List ℕ) (before now : LineBuffer) (new : IsNew (2 ^ 40) before) where
+module _ (c : MakeCost) (salt : List ℕ) (takes_empty : Bool) (before now : LineBuffer) (new : IsNew (2 ^ 40) before) where
   abbrev Told : Option (List ℕ) → Option (List ℕ) → Option (List ℕ) → Option (List ℕ) → MakeEnd → Type 0
   Told left left_now written written_now end =
-      WhereTold left left_now written written_now (λ held taken added. MakeOutcome c salt end held taken added)
+      WhereTold left left_now written written_now (λ held taken added. MakeOutcome c salt takes_empty end held taken added)
 
   -- a call that gives no line: nothing is written
   nothing_written : (left left_now written : Option (List ℕ)) (answer : Line) (end : MakeEnd)
       → ((held rest : List ℕ) (call : IsCall answer (Some held) (Some rest) before now)
-      → MakeOutcome c salt end held call.takes.bytes [])
+      → MakeOutcome c salt takes_empty end held call.takes.bytes [])
       → IsCall answer left left_now before now → Told left left_now written written end
   nothing_written None left_now written answer end ends call = tt
   nothing_written (Some held) left_now None answer end ends call = tt
@@ -217,33 +236,33 @@ module _ (c : MakeCost) (salt : List ℕ) (before now : LineBuffer) (new : IsNew
   pub told_read : (left left_now written : Option (List ℕ)) → IsCall line.Failed left left_now before now
       → Told left left_now written written ReadFault
   told_read left left_now written call =
-      nothing_written left left_now written line.Failed ReadFault (λ held rest is. none_read c salt held is.takes.bytes) call
+      nothing_written left left_now written line.Failed ReadFault (λ held rest is. none_read c salt takes_empty held is.takes.bytes) call
 
   pub told_none : (left left_now written : Option (List ℕ)) → IsCall line.End left left_now before now
       → Told left left_now written written NoLine
   told_none left left_now written call =
       nothing_written left left_now written line.End NoLine
-      (λ held rest is. none_there c salt held is.takes.bytes (no_line held rest before now new is)) call
+      (λ held rest is. none_there c salt takes_empty held is.takes.bytes (no_line held rest before now new is)) call
 
   pub told_long : (left left_now written : Option (List ℕ)) → IsCall line.TooLong left left_now before now
       → Told left left_now written written LongLine
   told_long left left_now written call =
       nothing_written left left_now written line.TooLong LongLine
-      (λ held rest is. too_long c salt held is.takes.bytes (long_line held rest before now new is)) call
+      (λ held rest is. too_long c salt takes_empty held is.takes.bytes (long_line held rest before now new is)) call
 
   pub told_budget : (left left_now written : Option (List ℕ)) → IsCall line.Budget left left_now before now
       → Told left left_now written written LongLine
   told_budget left left_now written call =
       nothing_written left left_now written line.Budget LongLine
-      (λ held rest is. too_long c salt held is.takes.bytes (budget_line held rest before now new is)) call
+      (λ held rest is. too_long c salt takes_empty held is.takes.bytes (budget_line held rest before now new is)) call
 
   pub told_text : (n : ℕ) (left left_now written written_now : Option (List ℕ)) (end : MakeEnd)
       → IsCall (line.Whole n) left left_now before now
-      → WritesText c (buffer.line now) salt written written_now end → Told left left_now written written_now end
+      → WritesText c takes_empty (buffer.line now) salt written written_now end → Told left left_now written written_now end
   told_text n None left_now written written_now end call h = tt
   told_text n (Some held) left_now None written_now end call h = tt
   told_text n (Some held) None (Some old) written_now end call h = absurd call.takes.consumed
   told_text n (Some held) (Some rest) (Some old) written_now end call h =
       let first = first_line held rest before now new n call in
-      let text = of_text c salt held call.takes.bytes end (buffer.line now) (Some old) written_now first h in
+      let text = of_text c salt takes_empty held call.takes.bytes end (buffer.line now) (Some old) written_now first h in
       (call.takes.bytes, text.0, call.takes.consumed, text.1, text.2)

@@ -1,11 +1,13 @@
 -- What is pushed, one after another, is the text of a record.
-use Rattle.std.proofs.Common.{◌≡◌, ◌⊎◌, ℕ, ◌<◌, ◌≤◌, List, ◌++◌, length, refl, ap, ◌∙◌, arith, append_assoc, inl, inr}
+use Rattle.std.proofs.Common.{◌≡◌, ℕ, List, ◌++◌, refl, ap, ◌∙◌, append_assoc}
 use Rattle.std.specs.Prelude.{codes}
 use Rattle.std.specs.Fmt.{decimal, digits}
 use Rattle.phc.specs.Encoded.{encoding}
 use Rattle.phc.specs.Record.{record_text}
+use Rattle.pbkdf2_key.specs.declared.profile.Pbkdf2Hash.{Pbkdf2Hash}
+use Rattle.pbkdf2_key.specs.declared.profile.Pbkdf2Hash.TheVariants.{Sha256, Sha512}
 use Rattle.yescrypt_plain.specs.declared.params.ScryptParams.{ScryptParams}
-use Rattle.any_make.specs.Records.{argon2_key, argon2_record, pbkdf2_key, pbkdf2_record, scrypt_key, scrypt_record}
+use Rattle.any_make.specs.Records.{argon2_key, argon2_record, pbkdf2_key, pbkdf2_record, pbkdf2_start, scrypt_key, scrypt_record}
 use Rattle.any_make.specs.declared.scheme.Argon2Cost.{Argon2Cost}
 
 -- ---- the pieces in one group, and as a record groups them
@@ -61,16 +63,19 @@ argon2_is c password salt key front text key_is front_is is =
 
 -- ---- PBKDF2
 
-pbkdf2_joined : (rounds : ℕ) (salt key : List ℕ)
-    → with_fields (codes "$pbkdf2-sha256$i=" ++ decimal rounds ++ codes ",l=32") salt key
-    ≡ record_text (pbkdf2_record rounds salt key)
+pbkdf2_joined : (hash : Pbkdf2Hash) (rounds : ℕ) (salt key : List ℕ)
+    → with_fields (pbkdf2_start hash ++ decimal rounds ++ codes ",l=32") salt key
+    ≡ record_text (pbkdf2_record hash rounds salt key)
 unfolding record_text
-pbkdf2_joined rounds salt key =
+pbkdf2_joined Sha256 rounds salt key =
     one_number (codes "$pbkdf2-sha256$i=") (decimal rounds) (codes ",l=32") (codes "$") (encoding salt) (encoding key)
+pbkdf2_joined Sha512 rounds salt key =
+    one_number (codes "$pbkdf2-sha512$i=") (decimal rounds) (codes ",l=32") (codes "$") (encoding salt) (encoding key)
 
-pub pbkdf2_is : (rounds : ℕ) (password salt key front text : List ℕ) → key ≡ pbkdf2_key rounds password salt
-    → front ≡ codes "$pbkdf2-sha256$i=" ++ decimal rounds ++ codes ",l=32"
-    → text ≡ with_fields front salt key → text ≡ record_text (pbkdf2_record rounds salt (pbkdf2_key rounds password salt))
-pbkdf2_is rounds password salt key front text key_is front_is is =
-    is ∙ ap (λ (f : List ℕ). with_fields f salt key) front_is ∙ pbkdf2_joined rounds salt key
-    ∙ ap (λ (k : List ℕ). record_text (pbkdf2_record rounds salt k)) key_is
+pub pbkdf2_is : (hash : Pbkdf2Hash) (rounds : ℕ) (password salt key front text : List ℕ)
+    → key ≡ pbkdf2_key hash rounds password salt → front ≡ pbkdf2_start hash ++ decimal rounds ++ codes ",l=32"
+    → text ≡ with_fields front salt key
+    → text ≡ record_text (pbkdf2_record hash rounds salt (pbkdf2_key hash rounds password salt))
+pbkdf2_is hash rounds password salt key front text key_is front_is is =
+    is ∙ ap (λ (f : List ℕ). with_fields f salt key) front_is ∙ pbkdf2_joined hash rounds salt key
+    ∙ ap (λ (k : List ℕ). record_text (pbkdf2_record hash rounds salt k)) key_is

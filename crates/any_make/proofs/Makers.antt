@@ -1,5 +1,5 @@
 -- What the makers of the schemes' crates answer where no fault is found here.
-use Rattle.std.proofs.Common.{◌≡◌, ◌≤◌, ℕ, true, false, List, length, refl, sym, ap, ◌∙◌, arith, Some, None, Ok, Err, inl, inr}
+use Rattle.std.proofs.Common.{◌≡◌, ◌≤◌, ℕ, true, false, List, length, refl, sym, ap, ◌∙◌, arith, Some, None, Ok, Err}
 use Rattle.std.specs.Prelude.{◌==◌, ◌||◌, not, nat_le, nat_lt}
 use Rattle.std.specs.Str.{is_utf8}
 use Rattle.std.proofs.lemmas.Bool.Decides.{nat_tests}

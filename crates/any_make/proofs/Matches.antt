@@ -12,7 +12,8 @@ use Rattle.pieces.proofs.FaultLaws.{first_none, unless_none, value_found}
 use Rattle.sha_crypt.specs.declared.errors.Family.TheVariants.{Sha256, Sha512}
 use Rattle.any_check.specs.Records.{accepted, tag}
 use Rattle.any_check.specs.Table.{any_verdict}
-use Rattle.any_make.specs.Costs.{is_taken, password_length, recommended, salt_length, scheme_of, takes_zero}
+use Rattle.pbkdf2_key.specs.declared.profile.Pbkdf2Hash.TheVariants as hash
+use Rattle.any_make.specs.Costs.{is_taken, password_length, salt_length, scheme_of, takes_zero}
 use Rattle.any_make.specs.Laws.{MadeMatches, NamedBack, OthersJudged, RecommendedTaken}
 use Rattle.any_make.specs.Made.{hash_text, made, make_fault}
 use Rattle.any_make.specs.declared.error.MakeFault.{MakeFault}
@@ -77,7 +78,7 @@ short_enough (cost.Scrypt c) n h = h
 short_enough (cost.Bcrypt cost) n h = omega (arith, h)
 short_enough (cost.Yescrypt c) n h = h
 short_enough (cost.Argon2id c) n h = h
-short_enough (cost.Pbkdf2Sha256 rounds) n h = h
+short_enough (cost.Pbkdf2 hash rounds) n h = h
 
 -- ---- each scheme
 
@@ -92,9 +93,9 @@ is_judged (cost.Bcrypt n) password salt taken size below =
     bcrypt_judged n password salt (grind (arith, nat_tests, parts.0)) (grind (arith, nat_tests, parts.1)) size below
 is_judged (cost.Yescrypt c) password salt taken size below = yescrypt_judged c password salt taken size below
 is_judged (cost.Argon2id c) password salt taken size below = argon2_judged c taken password salt size below
-is_judged (cost.Pbkdf2Sha256 n) password salt taken size below =
+is_judged (cost.Pbkdf2 hash n) password salt taken size below =
     let parts = and_parts (nat_le 1 n) (nat_le n 10000000) taken in
-    pbkdf2_judged n (grind (arith, nat_tests, parts.0)) (grind (arith, nat_tests, parts.1)) password salt size below
+    pbkdf2_judged hash n (grind (arith, nat_tests, parts.0)) (grind (arith, nat_tests, parts.1)) password salt size below
 
 own_text : (c : MakeCost) (password salt : List ℕ) → IsJudged c password salt → length password ≤ 4096
     → TakesBytes c password → any_verdict accepted tag password (hash_text c password salt) ≡ judged true
@@ -142,12 +143,14 @@ recommended_taken scheme.Bcrypt = (refl, taken_by scheme.Bcrypt (cost.Bcrypt 12)
 recommended_taken scheme.Yescrypt =
     (refl, taken_by scheme.Yescrypt (cost.Yescrypt (record { ln = 12; r = 32; t = 0 })) (refl, refl))
 recommended_taken scheme.Scrypt = (refl, taken_by scheme.Scrypt (cost.Scrypt (record { ln = 17; r = 8; p = 1 })) (refl, refl))
-recommended_taken scheme.Pbkdf2Sha256 = (refl, taken_by scheme.Pbkdf2Sha256 (cost.Pbkdf2Sha256 600000) (refl, refl))
+recommended_taken scheme.Pbkdf2Sha256 =
+    (refl, taken_by scheme.Pbkdf2Sha256 (cost.Pbkdf2 hash.Sha256 600000) (refl, refl))
+recommended_taken scheme.Pbkdf2Sha512 =
+    (refl, taken_by scheme.Pbkdf2Sha512 (cost.Pbkdf2 hash.Sha512 210000) (refl, refl))
 recommended_taken scheme.Argon2id =
     (refl, taken_by scheme.Argon2id (cost.Argon2id (record { memory = 65536; passes = 3; lanes = 4 })) (refl, refl))
 recommended_taken scheme.Md5Crypt = (refl, λ c h. absurd cc)
 recommended_taken scheme.ScryptCrypt = (refl, λ c h. absurd cc)
-recommended_taken scheme.Pbkdf2Sha512 = (refl, λ c h. absurd cc)
 recommended_taken scheme.Argon2d = (refl, λ c h. absurd cc)
 recommended_taken scheme.Argon2i = (refl, λ c h. absurd cc)
 
@@ -158,9 +161,9 @@ named_back scheme.Bcrypt h = refl
 named_back scheme.Yescrypt h = refl
 named_back scheme.Scrypt h = refl
 named_back scheme.Pbkdf2Sha256 h = refl
+named_back scheme.Pbkdf2Sha512 h = refl
 named_back scheme.Argon2id h = refl
 named_back scheme.Md5Crypt h = absurd (false≢true h)
 named_back scheme.ScryptCrypt h = absurd (false≢true h)
-named_back scheme.Pbkdf2Sha512 h = absurd (false≢true h)
 named_back scheme.Argon2d h = absurd (false≢true h)
 named_back scheme.Argon2i h = absurd (false≢true h)

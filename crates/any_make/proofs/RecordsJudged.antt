@@ -1,23 +1,27 @@
 -- The texts of scrypt, Argon2id and PBKDF2 are judged.
-use Rattle.std.proofs.Common.{◌≡◌, ℕ, ◌*◌, ◌^◌, ◌<◌, ◌≤◌, true, List, [], ◌∷◌, length, refl, ap, arith, Some}
-use Rattle.std.specs.Prelude.{◌&&◌, codes, nat_le, nat_lt}
+use Rattle.std.proofs.Common.{◌≡◌, ℕ, ◌*◌, ◌^◌, ◌<◌, ◌≤◌, true, List, [], ◌∷◌, length, refl, ap, ◌∙◌, arith, Some, None}
+use Rattle.std.specs.Prelude.{◌&&◌, codes, nat_eq, nat_le, nat_lt}
+use Rattle.std.specs.Cmp.Lexicographic.{pointwise}
 use Rattle.std.specs.Fmt.{decimal, digits}
 use Rattle.std.proofs.lemmas.Bool.{and_parts}
 use Rattle.std.proofs.lemmas.Bool.Decides.{nat_tests}
 use Rattle.std.proofs.Math.Nat.{le-mul_of_pos_right}
 use Rattle.base64ct.specs.Encoding.{EachBelow}
 use Rattle.base64ct.proofs.DecodingLaws.{true_same}
-use Rattle.mcf.specs.Grammar.{Parts, parts_text}
+use Rattle.mcf.specs.Grammar.{Parts, is_identifier, parts_text}
 use Rattle.argon2_plain.specs.Bounds as argon2_bounds
 use Rattle.argon2_plain.specs.Profile as argon2
 use Rattle.phc.specs.Encoded.{encoding}
+use Rattle.phc.specs.Grammar.{is_name}
 use Rattle.phc.specs.Params.{Pairs, pairs_text}
 use Rattle.phc.specs.Record.{record_text}
 use Rattle.pbkdf2_key.specs.Profile as pbkdf2
+use Rattle.pbkdf2_key.specs.declared.profile.Pbkdf2Hash.{Pbkdf2Hash}
+use Rattle.pbkdf2_key.specs.declared.profile.Pbkdf2Hash.TheVariants.{Sha256, Sha512}
 use Rattle.pieces.specs.Pieces.{pieces_at}
 use Rattle.scrypt_plain.specs.Bounds as scrypt_bounds
 use Rattle.scrypt_plain.specs.Profile as scrypt
-use Rattle.stored_check.specs.Verdict.{same_text}
+use Rattle.stored_check.specs.Verdict.{same_text, scheme_of}
 use Rattle.yescrypt_plain.specs.declared.params.ScryptParams.{ScryptParams}
 use Rattle.any_check.specs.Records.{accepted, tag}
 use Rattle.any_check.specs.Table.{is_record, text_scheme}
@@ -249,38 +253,69 @@ module _ (c : Argon2Cost) (bounds : argon2_bounds.in_bounds c.passes c.memory c.
 
 -- ---- PBKDF2
 
-module _ (rounds : ℕ) (least : 1 ≤ rounds) (most : rounds ≤ 10000000) where
+-- what holds of the identifier of each hash function's records
+record IsRecordName (name : List ℕ) : Type 0 where
+  pub of_record : is_name name ≡ true
+  pub of_text : is_identifier name ≡ true
+  pub other : scheme_of name ≡ None
+  pub itself : pointwise nat_eq name name ≡ true
+
+pbkdf2_name : (hash : Pbkdf2Hash) → IsRecordName (pbkdf2.identifier hash)
+pbkdf2_name Sha256 = record { of_record = refl; of_text = refl; other = refl; itself = refl }
+pbkdf2_name Sha512 = record { of_record = refl; of_text = refl; other = refl; itself = refl }
+
+pbkdf2_scheme : (hash : Pbkdf2Hash) (rounds : ℕ) (salt key : List ℕ)
+    → is_record (text_scheme (record_text (pbkdf2_record hash rounds salt key))) ≡ true
+unfolding text_scheme pieces_at record_text
+pbkdf2_scheme Sha256 rounds salt key = refl
+pbkdf2_scheme Sha512 rounds salt key = refl
+
+abbrev pbkdf2_pairs : ℕ → Pairs
+pbkdf2_pairs rounds = (codes "i", decimal rounds) ∷ (codes "l", codes "32") ∷ []
+
+abbrev pbkdf2_parts : Pbkdf2Hash → ℕ → List ℕ → List ℕ → Parts
+pbkdf2_parts hash rounds salt key = record {
+  id = pbkdf2.identifier hash;
+  fields = pairs_text (pbkdf2_pairs rounds) ∷ encoding salt ∷ encoding key ∷ [];
+}
+
+pbkdf2_joined : (hash : Pbkdf2Hash) (rounds : ℕ) (salt key : List ℕ)
+    → parts_text (pbkdf2_parts hash rounds salt key) ≡ record_text (pbkdf2_record hash rounds salt key)
+unfolding record_text
+pbkdf2_joined Sha256 rounds salt key =
+    regrouped (codes "$pbkdf2-sha256") (36 ∷ pairs_text (pbkdf2_pairs rounds)) (36 ∷ encoding salt) (36 ∷ encoding key)
+pbkdf2_joined Sha512 rounds salt key =
+    regrouped (codes "$pbkdf2-sha512") (36 ∷ pairs_text (pbkdf2_pairs rounds)) (36 ∷ encoding salt) (36 ∷ encoding key)
+
+-- a record with this identifier that its own hash function takes
+record_taken : (hash : Pbkdf2Hash) (rounds : ℕ) (salt key : List ℕ)
+    → pbkdf2.pbkdf2_accepts hash (pbkdf2_record hash rounds salt key) 32 ≡ true
+    → accepted (pbkdf2_record hash rounds salt key) salt 32 ≡ true
+unfolding pbkdf2.pbkdf2_accepts
+record_taken Sha256 rounds salt key is = is
+record_taken Sha512 rounds salt key is = is
+
+record_tag : (hash : Pbkdf2Hash) (rounds : ℕ) (asked salt key : List ℕ)
+    → tag asked (pbkdf2_record hash rounds salt key) salt 32
+    ≡ pbkdf2.pbkdf2_key hash asked (pbkdf2_record hash rounds salt key) salt 32
+record_tag Sha256 rounds asked salt key = refl
+record_tag Sha512 rounds asked salt key = refl
+
+module _ (hash : Pbkdf2Hash) (rounds : ℕ) (least : 1 ≤ rounds) (most : rounds ≤ 10000000) where
   few_rounds : rounds < 2 ^ 32
   few_rounds = omega (arith, most)
 
-  abbrev pbkdf2_pairs : Pairs
-  pbkdf2_pairs = (codes "i", decimal rounds) ∷ (codes "l", codes "32") ∷ []
-
-  abbrev pbkdf2_parts : List ℕ → List ℕ → Parts
-  pbkdf2_parts salt key = record {
-    id = codes "pbkdf2-sha256";
-    fields = pairs_text pbkdf2_pairs ∷ encoding salt ∷ encoding key ∷ [];
-  }
-
-  pbkdf2_joined : (salt key : List ℕ) → parts_text (pbkdf2_parts salt key) ≡ record_text (pbkdf2_record rounds salt key)
-  unfolding record_text
-  pbkdf2_joined salt key =
-      regrouped (codes "$pbkdf2-sha256") (36 ∷ pairs_text pbkdf2_pairs) (36 ∷ encoding salt) (36 ∷ encoding key)
-
-  pbkdf2_scheme : (salt key : List ℕ) → is_record (text_scheme (record_text (pbkdf2_record rounds salt key))) ≡ true
-  unfolding text_scheme pieces_at record_text
-  pbkdf2_scheme salt key = refl
-
   pbkdf2_printed : (salt key : List ℕ) → AreFields salt key
-      → IsPrinted (pbkdf2_record rounds salt key) (pbkdf2_parts salt key)
+      → IsPrinted (pbkdf2_record hash rounds salt key) (pbkdf2_parts hash rounds salt key)
   pbkdf2_printed salt key are =
       let salt_size = are.salt_size in
       let key_size = are.key_size in
       let has = has_fields salt key are in
       let params = rounds_params rounds few_rounds in
+      let names = pbkdf2_name hash in
       record {
         valid = record {
-          algorithm = refl;
+          algorithm = names.of_record;
           version = tt;
           pairs = params.pairs;
           params = params.short;
@@ -288,47 +323,49 @@ module _ (rounds : ℕ) (least : 1 ≤ rounds) (most : rounds ≤ 10000000) wher
           hash = (are.key_below, omega (arith, key_size), omega (arith, key_size));
         };
         printable = refl;
-        printed = pbkdf2_joined salt key;
-        name = refl;
-        other = refl;
+        printed = pbkdf2_joined hash rounds salt key;
+        name = names.of_text;
+        other = names.other;
         fields = rw (params.field, has.of_salt, has.of_key) refl;
-        scheme = pbkdf2_scheme salt key;
+        scheme = pbkdf2_scheme hash rounds salt key;
       }
 
-  pbkdf2_rounds : (salt key : List ℕ) → pbkdf2.rounds_of (pbkdf2_record rounds salt key) ≡ Some rounds
+  pbkdf2_rounds : (salt key : List ℕ) → pbkdf2.rounds_of (pbkdf2_record hash rounds salt key) ≡ Some rounds
   pbkdf2_rounds salt key = number_read rounds few_rounds
 
-  pbkdf2_taken : (salt key : List ℕ) → accepted (pbkdf2_record rounds salt key) salt 32 ≡ true
+  pbkdf2_taken : (salt key : List ℕ) → accepted (pbkdf2_record hash rounds salt key) salt 32 ≡ true
   unfolding pbkdf2.pbkdf2_accepts
   pbkdf2_taken salt key =
       let one : nat_le 1 rounds ≡ true = grind (arith, nat_tests, least) in
       let few : nat_le rounds 10000000 ≡ true = grind (arith, nat_tests, most) in
-      rw (pbkdf2_rounds salt key, one, few) refl
+      let itself = (pbkdf2_name hash).itself in
+      record_taken hash rounds salt key (rw (itself, pbkdf2_rounds salt key, one, few) refl)
 
-  pbkdf2_tag : (asked salt key : List ℕ) → tag asked (pbkdf2_record rounds salt key) salt 32 ≡ pbkdf2_key rounds asked salt
+  pbkdf2_tag : (asked salt key : List ℕ)
+      → tag asked (pbkdf2_record hash rounds salt key) salt 32 ≡ pbkdf2_key hash rounds asked salt
   unfolding pbkdf2.pbkdf2_key
-  pbkdf2_tag asked salt key = rw (pbkdf2_rounds salt key) refl
+  pbkdf2_tag asked salt key = record_tag hash rounds asked salt key ∙ rw (pbkdf2_rounds salt key) refl
 
   pub pbkdf2_judged : (password salt : List ℕ) → length salt ≡ 16 → EachBelow 256 salt
-      → IsJudged (cost.Pbkdf2Sha256 rounds) password salt
+      → IsJudged (cost.Pbkdf2 hash rounds) password salt
   unfolding hash_text
   pbkdf2_judged password salt size below =
-      let key : List ℕ = pbkdf2_key rounds password salt in
+      let key : List ℕ = pbkdf2_key hash rounds password salt in
       let are : AreFields salt key = record {
         salt_size = size;
         salt_below = below;
-        key_size = pbkdf2_long rounds password salt;
-        key_below = pbkdf2_below rounds password salt;
+        key_size = pbkdf2_long hash rounds password salt;
+        key_below = pbkdf2_below hash rounds password salt;
       } in
       record {
-        matches = λ asked. same_text (encoding key) (encoding (pbkdf2_key rounds asked salt));
+        matches = λ asked. same_text (encoding key) (encoding (pbkdf2_key hash rounds asked salt));
         verdict = λ asked short takes.
-            on_record (pbkdf2_record rounds salt key) (pbkdf2_parts salt key) (pbkdf2_printed salt key are) asked salt key
-            (pbkdf2_key rounds asked salt) short refl refl (pbkdf2_long rounds password salt) (pbkdf2_taken salt key)
-            (pbkdf2_tag asked salt key);
+            on_record (pbkdf2_record hash rounds salt key) (pbkdf2_parts hash rounds salt key) (pbkdf2_printed salt key are) asked salt
+            key (pbkdf2_key hash rounds asked salt) short refl refl (pbkdf2_long hash rounds password salt)
+            (pbkdf2_taken salt key) (pbkdf2_tag asked salt key);
         own = true_same (encoding key);
         same = λ asked matches.
-            ap (λ (k : List ℕ). record_text (pbkdf2_record rounds salt k))
-            (key_once key (pbkdf2_key rounds asked salt) (pbkdf2_below rounds password salt)
-            (pbkdf2_below rounds asked salt) matches);
+            ap (λ (k : List ℕ). record_text (pbkdf2_record hash rounds salt k))
+            (key_once key (pbkdf2_key hash rounds asked salt) (pbkdf2_below hash rounds password salt)
+            (pbkdf2_below hash rounds asked salt) matches);
       }

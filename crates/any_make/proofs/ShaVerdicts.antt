@@ -4,7 +4,7 @@ use Rattle.std.specs.Prelude.{not, ◌==◌, Some, None}
 use Rattle.std.specs.List.{list_all}
 use Rattle.base64ct.specs.Encoding.{EachBelow}
 use Rattle.base64ct.proofs.DecodingLaws.{same_true, true_same}
-use Rattle.mcf.specs.Grammar.{Parts, field_fault, first_field_fault, is_field_byte, is_identifier, mcf}
+use Rattle.mcf.specs.Grammar.{Parts, field_fault, first_field_fault, is_field_byte, mcf}
 use Rattle.mcf.proofs.Built.{mcf-parts_text}
 use Rattle.mcf.proofs.Pushed.{good_field}
 use Rattle.pieces.specs.Pieces.{pieces_at}

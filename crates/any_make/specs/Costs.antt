@@ -5,13 +5,14 @@ use Rattle.bcrypt_plain.specs.Text.{is_cost}
 use Rattle.scrypt_plain.specs.Bounds as scrypt
 use Rattle.sha_crypt.specs.Limits.{rounds_max, rounds_min}
 use Rattle.sha_crypt.specs.declared.errors.Family.TheVariants.{Sha256, Sha512}
+use Rattle.pbkdf2_key.specs.declared.profile.Pbkdf2Hash.TheVariants as of
 use Rattle.phc_kdf.specs.Limits.{password_max}
 use Rattle.yescrypt_plain.specs.Params as yescrypt
 use Rattle.any_make.specs.declared.scheme.MakeCost.{MakeCost}
 use Rattle.any_make.specs.declared.scheme.MakeCost.TheVariants as cost
 use Rattle.any_check.specs.Table.{sha_scheme}
 use Rattle.scheme_list.specs.declared.schemes.Scheme.{Scheme}
-use Rattle.scheme_list.specs.declared.schemes.Scheme.TheVariants.{Argon2id, Bcrypt, Pbkdf2Sha256, Scrypt, Sha256Crypt, Sha512Crypt, Yescrypt}
+use Rattle.scheme_list.specs.declared.schemes.Scheme.TheVariants.{Argon2id, Bcrypt, Pbkdf2Sha256, Pbkdf2Sha512, Scrypt, Sha256Crypt, Sha512Crypt, Yescrypt}
 
 -- the scheme whose text a cost is for
 abbrev pub scheme_of : MakeCost → Scheme
@@ -20,7 +21,8 @@ scheme_of (cost.Scrypt c) = Scrypt
 scheme_of (cost.Bcrypt n) = Bcrypt
 scheme_of (cost.Yescrypt c) = Yescrypt
 scheme_of (cost.Argon2id c) = Argon2id
-scheme_of (cost.Pbkdf2Sha256 rounds) = Pbkdf2Sha256
+scheme_of (cost.Pbkdf2 of.Sha256 rounds) = Pbkdf2Sha256
+scheme_of (cost.Pbkdf2 of.Sha512 rounds) = Pbkdf2Sha512
 
 -- The costs of which texts are made: those of the texts that have a verdict.
 abbrev pub is_taken : MakeCost → Bool
@@ -29,7 +31,7 @@ is_taken (cost.Scrypt c) = scrypt.in_bounds c.ln c.r c.p
 is_taken (cost.Bcrypt n) = is_cost n
 is_taken (cost.Yescrypt c) = yescrypt.in_bounds c
 is_taken (cost.Argon2id c) = argon2.in_bounds c.passes c.memory c.lanes
-is_taken (cost.Pbkdf2Sha256 rounds) = nat_le 1 rounds && nat_le rounds 10000000
+is_taken (cost.Pbkdf2 hash rounds) = nat_le 1 rounds && nat_le rounds 10000000
 
 -- Today's recommendations.
 -- SHA-crypt: the rounds of passlib 1.7.4 (sha256_crypt.default_rounds, sha512_crypt.default_rounds).
@@ -37,7 +39,7 @@ is_taken (cost.Pbkdf2Sha256 rounds) = nat_le 1 rounds && nat_le rounds 10000000
 -- bcrypt: a cost of 12, the default of PHP 8.4 and of passlib 1.7.4 (OWASP asks for 10 and more).
 -- yescrypt: N = 2^12, r = 32, t = 0, which libxcrypt 4.4 sets by default (`$y$j9T$`).
 -- Argon2id: 64 MiB, three passes, four lanes (RFC 9106, section 4, second recommended option).
--- PBKDF2: 600,000 rounds (OWASP, the same sheet, "PBKDF2", with HMAC-SHA-256).
+-- PBKDF2: 600,000 rounds with HMAC-SHA-256, 210,000 with HMAC-SHA-512 (OWASP, the same sheet, "PBKDF2").
 -- None for a scheme of which no texts are made.
 abbrev pub recommended : Scheme → Option MakeCost
 recommended Sha256Crypt = Some (cost.ShaCrypt Sha256 535000)
@@ -46,7 +48,8 @@ recommended Scrypt = Some (cost.Scrypt (record { ln = 17; r = 8; p = 1 }))
 recommended Bcrypt = Some (cost.Bcrypt 12)
 recommended Yescrypt = Some (cost.Yescrypt (record { ln = 12; r = 32; t = 0 }))
 recommended Argon2id = Some (cost.Argon2id (record { memory = 65536; passes = 3; lanes = 4 }))
-recommended Pbkdf2Sha256 = Some (cost.Pbkdf2Sha256 600000)
+recommended Pbkdf2Sha256 = Some (cost.Pbkdf2 of.Sha256 600000)
+recommended Pbkdf2Sha512 = Some (cost.Pbkdf2 of.Sha512 210000)
 recommended scheme = None
 
 -- The bytes of a salt: 128 bits (NIST SP 800-132, section 5.1; RFC 9106, section 4), but for SHA-crypt, whose 16 characters

@@ -28,8 +28,8 @@ hash_text (cost.Scrypt c) password salt = record_text (scrypt_record c salt (scr
 hash_text (cost.Bcrypt n) password salt = bcrypt_text password salt n
 hash_text (cost.Yescrypt c) password salt = yescrypt_hash_text password salt c
 hash_text (cost.Argon2id c) password salt = record_text (argon2_record c salt (argon2_key c password salt))
-hash_text (cost.Pbkdf2Sha256 rounds) password salt =
-    record_text (pbkdf2_record rounds salt (pbkdf2_key rounds password salt))
+hash_text (cost.Pbkdf2 hash rounds) password salt =
+    record_text (pbkdf2_record hash rounds salt (pbkdf2_key hash rounds password salt))
 
 -- the first cause that no text is made of a password, a cost and a salt
 abbrev pub make_fault : MakeCost → List ℕ → List ℕ → Option MakeFault

@@ -1,11 +1,12 @@
 -- The PHC records that texts of scrypt, Argon2id and PBKDF2 are: a key of 32 bytes (256 bits: RFC 9106, section 4).
-use Rattle.std.specs.Prelude.{ℕ, ◌^◌, List, [], ◌∷◌, codes, Some, None}
+use Rattle.std.specs.Prelude.{ℕ, ◌^◌, List, [], ◌∷◌, ◌++◌, codes, Some, None}
 use Rattle.std.specs.Fmt.{decimal}
 use Rattle.argon2_plain.specs.Argon2.{argon2}
 use Rattle.argon2_plain.specs.declared.params.Params.{Params}
 use Rattle.argon2_plain.specs.declared.variant.Variant.TheVariants.{Id}
 use Rattle.phc.specs.declared.password_hash.PasswordHash.{PasswordHash}
-use Rattle.pbkdf2_key.specs.Pbkdf2.{pbkdf2_sha256}
+use Rattle.pbkdf2_key.specs.Profile.{identifier, pbkdf2_with}
+use Rattle.pbkdf2_key.specs.declared.profile.Pbkdf2Hash.{Pbkdf2Hash}
 use Rattle.scrypt_plain.specs.Scrypt.{scrypt}
 use Rattle.yescrypt_plain.specs.declared.params.ScryptParams.{ScryptParams}
 use Rattle.any_make.specs.declared.scheme.Argon2Cost.{Argon2Cost}
@@ -46,18 +47,22 @@ argon2_record c salt key = record {
   hash = Some key;
 }
 
--- ---- PBKDF2: `$pbkdf2-sha256$i=N,l=32$salt$key`, as RustCrypto's pbkdf2 writes it
+-- ---- PBKDF2: `$pbkdf2-sha256$i=N,l=32$salt$key`, or with SHA-512, as RustCrypto's pbkdf2 writes it
 
 -- the key
-abbrev pub pbkdf2_key : ℕ → List ℕ → List ℕ → List ℕ
-pbkdf2_key rounds password salt = pbkdf2_sha256 password salt rounds 32
+abbrev pub pbkdf2_key : Pbkdf2Hash → ℕ → List ℕ → List ℕ → List ℕ
+pbkdf2_key hash rounds password salt = pbkdf2_with hash password salt rounds 32
 
 -- the record of a salt and a key
-abbrev pub pbkdf2_record : ℕ → List ℕ → List ℕ → PasswordHash
-pbkdf2_record rounds salt key = record {
-  algorithm = codes "pbkdf2-sha256";
+abbrev pub pbkdf2_record : Pbkdf2Hash → ℕ → List ℕ → List ℕ → PasswordHash
+pbkdf2_record hash rounds salt key = record {
+  algorithm = identifier hash;
   version = None;
   params = (codes "i", decimal rounds) ∷ (codes "l", codes "32") ∷ [];
   salt = Some salt;
   hash = Some key;
 }
+
+-- what is before the rounds
+abbrev pub pbkdf2_start : Pbkdf2Hash → List ℕ
+pbkdf2_start hash = codes "$" ++ identifier hash ++ codes "$i="

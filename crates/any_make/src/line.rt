@@ -3,7 +3,7 @@
 ghost use Rattle.std.specs.Prelude.{◌≡◌, ◌++◌, ◌∷◌, []};
 ghost use Rattle.line_io.specs.Devices.{WhereTold};
 ghost use Rattle.pieces.specs.FaultCounts.{HasRisen};
-ghost use Rattle.any_make.specs.Line.{MakeOutcome, WritesText};
+ghost use Rattle.any_make.specs.Line.{MakeOutcome, WritesText, is_password};
 
 use crate::{MakeCost, MakeFault, TEXT_MAX, made_text};
 use line_io::{Failed, INPUT_MAX, Line, LineBuffer, Sink, Source, write_all};
@@ -19,6 +19,8 @@ pub enum MakeEnd {
     Refused(MakeFault),
     /// The source is empty.
     NoLine,
+    /// The first line is empty, and an empty password isn't taken.
+    EmptyLine,
     /// The first line has more than 8,192 bytes.
     LongLine,
     /// A read failed.
@@ -39,18 +41,29 @@ fn with_feed(text: &ShortBytes<TEXT_MAX>) -> ShortBytes<LINE_ROOM>
     line
 }
 
-// Writes the text of a password and a line feed.
+// Whether a line is a password.
+fn is_password(takes_empty: bool, line: &[u8]) -> bool
+    ensures { result ≡ is_password takes_empty line.now }
+{
+    takes_empty || 0 < line.len()
+}
+
+// Writes the text of a line that is a password, and a line feed.
 fn write_text<K: Sink>(
     alloc: Global,
     cost: MakeCost,
-    password: &[u8],
+    takes_empty: bool,
+    line: &[u8],
     salt: &[u8],
     sink: &mut K,
 ) -> MakeEnd
     ensures write_fault { result ≡ MakeEnd.WriteFault → HasRisen (K.faults sink.old) (K.faults sink.new) }
-    ensures written { WritesText cost password.now salt.now (K.written sink.old) (K.written sink.new) result }
+    ensures written { WritesText cost takes_empty line.now salt.now (K.written sink.old) (K.written sink.new) result }
 {
-    match made_text(alloc, cost, password, salt) {
+    if !is_password(takes_empty, line) {
+        return MakeEnd::EmptyLine;
+    }
+    match made_text(alloc, cost, line, salt) {
         Ok(text) => match write_all(sink, with_feed(&text).as_slice()) {
             Ok(()) => MakeEnd::Made,
             Err(Failed) => MakeEnd::WriteFault,
@@ -63,22 +76,24 @@ fn write_text<K: Sink>(
 ///
 /// The line ends with a line feed, which is no part of it, or with the source; no other line is read, though at most 16,384
 /// bytes behind the first may be taken from the source. The salt has
-/// [`MakeCost::salt_length`] bytes. Nothing is written before the text is made.
+/// [`MakeCost::salt_length`] bytes. A line without a byte is a password where `takes_empty` says so. Nothing is written before
+/// the text is made.
 pub fn run_make<S: Source, K: Sink>(
     alloc: Global,
     cost: MakeCost,
     salt: &[u8],
+    takes_empty: bool,
     source: &mut S,
     sink: &mut K,
 ) -> MakeEnd
     ensures read_fault { result ≡ MakeEnd.ReadFault → HasRisen (S.faults source.old) (S.faults source.new) }
     ensures write_fault { result ≡ MakeEnd.WriteFault → HasRisen (K.faults sink.old) (K.faults sink.new) }
     ensures outcome { WhereTold (S.left source.old) (S.left source.new) (K.written sink.old) (K.written sink.new)
-        (λ held taken added. MakeOutcome cost salt.now result held taken added) }
+        (λ held taken added. MakeOutcome cost salt.now takes_empty result held taken added) }
 {
     let mut lines = LineBuffer::new(INPUT_MAX);
     match lines.next_line(source) {
-        Line::Whole(_) => write_text(alloc, cost, lines.line(), salt, sink),
+        Line::Whole(_) => write_text(alloc, cost, takes_empty, lines.line(), salt, sink),
         Line::TooLong => MakeEnd::LongLine,
         // More bytes than may be read, and no line feed among them.
         Line::Budget => MakeEnd::LongLine,

@@ -7,13 +7,13 @@ ghost use Rattle.phc.specs.Encoded.{encoding};
 ghost use Rattle.phc.specs.Record.{record_text};
 ghost use Rattle.scrypt_plain.specs.Bounds as scrypt_bounds;
 ghost use Rattle.phc_kdf.specs.Limits.{password_max};
-ghost use Rattle.any_make.specs.Records.{argon2_key, argon2_record, pbkdf2_key, pbkdf2_record, scrypt_key, scrypt_record};
+ghost use Rattle.any_make.specs.Records.{argon2_key, argon2_record, pbkdf2_key, pbkdf2_record, pbkdf2_start, scrypt_key, scrypt_record};
 
 use crate::Argon2Cost;
 use crate::texts::TEXT_MAX;
 use argon2_plain::argon2;
 use base64ct::{Base64Unpadded, Encoding};
-use pbkdf2_key::pbkdf2_sha256;
+use pbkdf2_key::{Pbkdf2Hash, pbkdf2_sha256, pbkdf2_sha512};
 use pieces::short_bytes::ShortBytes;
 use scrypt_plain::scrypt;
 use std::alloc::{AllocError, Global};
@@ -120,26 +120,57 @@ pub(crate) fn argon2_text(
     Ok(with_fields(&argon2_front(cost), salt, &key))
 }
 
-// `$pbkdf2-sha256$i=N,l=32`
-fn pbkdf2_front(rounds: u32) -> ShortBytes<TEXT_MAX>
-    ensures text { result ≡ codes "$pbkdf2-sha256$i=" ++ decimal rounds ++ codes ",l=32" }
+// What is before the rounds.
+fn pbkdf2_start(hash: Pbkdf2Hash) -> &'static [u8]
+    ensures text { result.now ≡ pbkdf2_start hash }
+    ensures len { length result.now ≡ 17 }
+{
+    match hash {
+        Pbkdf2Hash::Sha256 => b"$pbkdf2-sha256$i=",
+        Pbkdf2Hash::Sha512 => b"$pbkdf2-sha512$i=",
+    }
+}
+
+// `$pbkdf2-sha256$i=N,l=32` or `$pbkdf2-sha512$i=N,l=32`
+fn pbkdf2_front(hash: Pbkdf2Hash, rounds: u32) -> ShortBytes<TEXT_MAX>
+    ensures text { result ≡ pbkdf2_start hash ++ decimal rounds ++ codes ",l=32" }
     ensures len { length result ≤ 66 }
 {
     let mut text = ShortBytes::new();
-    push_number(&mut text, b"$pbkdf2-sha256$i=", rounds);
+    push_number(&mut text, pbkdf2_start(hash), rounds);
     text.push_all(b",l=32");
     text
 }
 
-/// The text of PBKDF2.
-pub(crate) fn pbkdf2_text(rounds: u32, password: &[u8], salt: &[u8]) -> ShortBytes<TEXT_MAX>
+// The key of 32 bytes.
+fn pbkdf2_key(hash: Pbkdf2Hash, rounds: u32, password: &[u8], salt: &[u8]) -> [u8; 32]
     requires least { 1 ≤ rounds }
     requires most { rounds ≤ 10000000 }
     requires password { length password.now ≤ password_max }
     requires salt { length salt.now ≡ 16 }
-    ensures { result ≡ record_text (pbkdf2_record rounds salt.now (pbkdf2_key rounds password.now salt.now)) }
+    ensures { result ≡ pbkdf2_key hash rounds password.now salt.now }
 {
     let mut key = [0; 32];
-    pbkdf2_sha256(password, salt, rounds, &mut key);
-    with_fields(&pbkdf2_front(rounds), salt, &key)
+    match hash {
+        Pbkdf2Hash::Sha256 => pbkdf2_sha256(password, salt, rounds, &mut key),
+        Pbkdf2Hash::Sha512 => pbkdf2_sha512(password, salt, rounds, &mut key),
+    }
+    key
+}
+
+/// The text of PBKDF2 with a hash function.
+pub(crate) fn pbkdf2_text(
+    hash: Pbkdf2Hash,
+    rounds: u32,
+    password: &[u8],
+    salt: &[u8],
+) -> ShortBytes<TEXT_MAX>
+    requires least { 1 ≤ rounds }
+    requires most { rounds ≤ 10000000 }
+    requires password { length password.now ≤ password_max }
+    requires salt { length salt.now ≡ 16 }
+    ensures { result ≡ record_text (pbkdf2_record hash rounds salt.now (pbkdf2_key hash rounds password.now salt.now)) }
+{
+    let key = pbkdf2_key(hash, rounds, password, salt);
+    with_fields(&pbkdf2_front(hash, rounds), salt, &key)
 }

@@ -6,6 +6,7 @@ ghost use Rattle.any_make.specs.Records.{argon2_params};
 
 use any_check::sha_scheme;
 use argon2_plain::{Params, Variant};
+use pbkdf2_key::Pbkdf2Hash;
 use scheme_list::Scheme;
 use sha_crypt::{Family, ROUNDS_MAX, ROUNDS_MIN};
 use stored_check::PASSWORD_MAX;
@@ -35,8 +36,8 @@ pub enum MakeCost {
     Yescrypt(YescryptParams),
     /// The numbers of Argon2id, of which [`Params::are_in_bounds`] holds.
     Argon2id(Argon2Cost),
-    /// The rounds of PBKDF2, 1 to 10,000,000.
-    Pbkdf2Sha256(u32),
+    /// The hash function under PBKDF2, and its rounds, 1 to 10,000,000.
+    Pbkdf2(Pbkdf2Hash, u32),
 }
 
 /// What a text costs where nothing else is said: today's recommendation, with its source in `specs/Costs.antt`. None for a
@@ -59,7 +60,8 @@ pub fn recommended(scheme: Scheme) -> Option<MakeCost>
             passes: 3,
             lanes: 4,
         })),
-        Scheme::Pbkdf2Sha256 => Some(MakeCost::Pbkdf2Sha256(600_000)),
+        Scheme::Pbkdf2Sha256 => Some(MakeCost::Pbkdf2(Pbkdf2Hash::Sha256, 600_000)),
+        Scheme::Pbkdf2Sha512 => Some(MakeCost::Pbkdf2(Pbkdf2Hash::Sha512, 210_000)),
         _ => None,
     }
 }
@@ -89,7 +91,8 @@ impl MakeCost {
             MakeCost::Bcrypt(_) => Scheme::Bcrypt,
             MakeCost::Yescrypt(_) => Scheme::Yescrypt,
             MakeCost::Argon2id(_) => Scheme::Argon2id,
-            MakeCost::Pbkdf2Sha256(_) => Scheme::Pbkdf2Sha256,
+            MakeCost::Pbkdf2(Pbkdf2Hash::Sha256, _) => Scheme::Pbkdf2Sha256,
+            MakeCost::Pbkdf2(Pbkdf2Hash::Sha512, _) => Scheme::Pbkdf2Sha512,
         }
     }
 
@@ -105,7 +108,7 @@ impl MakeCost {
             MakeCost::Bcrypt(cost) => 4 <= cost && cost <= 31,
             MakeCost::Yescrypt(cost) => yescrypt_plain::in_bounds(cost),
             MakeCost::Argon2id(cost) => cost.params().are_in_bounds(),
-            MakeCost::Pbkdf2Sha256(rounds) => 1 <= rounds && rounds <= 10_000_000,
+            MakeCost::Pbkdf2(_, rounds) => 1 <= rounds && rounds <= 10_000_000,
         }
     }
 

@@ -71,6 +71,6 @@ pub(crate) fn hash_text(
         MakeCost::Bcrypt(cost) => Ok(bcrypt_made(password, salt, cost)),
         MakeCost::Yescrypt(cost) => yescrypt_made(alloc, password, salt, cost),
         MakeCost::Argon2id(cost) => argon2_text(alloc, cost, password, salt),
-        MakeCost::Pbkdf2Sha256(rounds) => Ok(pbkdf2_text(rounds, password, salt)),
+        MakeCost::Pbkdf2(hash, rounds) => Ok(pbkdf2_text(hash, rounds, password, salt)),
     }
 }

@@ -3,10 +3,11 @@
 
 use any_check::{check_any, record_kdf};
 use any_make::{
-    Argon2Cost, MakeCost, MakeEnd, MakeFault, NameFault, Scheme, TEXT_MAX, made_text, make_text,
-    recommended, run_make, scheme_named,
+    Argon2Cost, MakeCost, MakeEnd, MakeFault, NameFault, Pbkdf2Hash, Scheme, TEXT_MAX, made_text,
+    make_text, recommended, run_make, scheme_named,
 };
 use line_io::{MemorySink, MemorySource};
+use scheme_list::SCHEMES;
 use sha_crypt::Family;
 use std::alloc::Global;
 use std::process::Abort;
@@ -20,7 +21,7 @@ pub(crate) struct Row {
     pub text: &'static str,
 }
 
-pub(crate) const ROWS: [Row; 25] = [
+pub(crate) const ROWS: [Row; 28] = [
     Row {
         cost: MakeCost::ShaCrypt(Family::Sha256, 5_000),
         password: "secret",
@@ -164,28 +165,46 @@ pub(crate) const ROWS: [Row; 25] = [
         text: "$argon2id$v=19$m=8,t=2,p=1$c29tZXNvbWVzb21lc29tZQ$van/hKLGpbh7MC3+PDuKZVgLD5Mf3RYr7swIkCjiV3w",
     },
     Row {
-        cost: MakeCost::Pbkdf2Sha256(1_000),
+        cost: MakeCost::Pbkdf2(Pbkdf2Hash::Sha256, 1_000),
         password: "secret",
         salt: b"\x00\x01\x02\x03\x04\x05\x06\x07\x08\x09\x0a\x0b\x0c\x0d\x0e\x0f",
         text: "$pbkdf2-sha256$i=1000,l=32$AAECAwQFBgcICQoLDA0ODw$Tvsru20utY6o3q7VRBeuL9h/1QqKhWhwk2PaYNRWBgY",
     },
     Row {
-        cost: MakeCost::Pbkdf2Sha256(1),
+        cost: MakeCost::Pbkdf2(Pbkdf2Hash::Sha256, 1),
         password: "",
         salt: b"\xff\xff\xff\xff\xff\xff\xff\xff\xff\xff\xff\xff\xff\xff\xff\xff",
         text: "$pbkdf2-sha256$i=1,l=32$/////////////////////w$MDW6MSX6t0yh/d+0W5a7IV1ny+EUvBK8yKKtXigFg1k",
     },
     Row {
-        cost: MakeCost::Pbkdf2Sha256(4_096),
+        cost: MakeCost::Pbkdf2(Pbkdf2Hash::Sha256, 4_096),
         password: "pässwörd",
         salt: b"\x9c?\xe5\x01z\xb2\xd4Hn\x0d\xc1\xf7S+\x8a\x90",
         text: "$pbkdf2-sha256$i=4096,l=32$nD/lAXqy1EhuDcH3UyuKkA$kXCjRpGeeSvWtyCZYftGYe8WxwNJfDrGsQmMPm7kf5U",
     },
     Row {
-        cost: MakeCost::Pbkdf2Sha256(2),
+        cost: MakeCost::Pbkdf2(Pbkdf2Hash::Sha256, 2),
         password: "🔑 key",
         salt: b"\x00\x00\x00\x00\x00\x00\x00\x00\x00\x00\x00\x00\x00\x00\x00\x00",
         text: "$pbkdf2-sha256$i=2,l=32$AAAAAAAAAAAAAAAAAAAAAA$7GmXh3EhCUq2+oCV5Vf0BoDV/n72zZymLv1+0bedCnk",
+    },
+    Row {
+        cost: MakeCost::Pbkdf2(Pbkdf2Hash::Sha512, 1_000),
+        password: "secret",
+        salt: b"\x20\x21\x22\x23\x24\x25\x26\x27\x28\x29\x2a\x2b\x2c\x2d\x2e\x2f",
+        text: "$pbkdf2-sha512$i=1000,l=32$ICEiIyQlJicoKSorLC0uLw$N3aYu27fBdJRaQ29pe1CMPDtSb8rqJgSuOy5AfJSavM",
+    },
+    Row {
+        cost: MakeCost::Pbkdf2(Pbkdf2Hash::Sha512, 3),
+        password: "",
+        salt: b"\xfe\xfe\xfe\xfe\xfe\xfe\xfe\xfe\xfe\xfe\xfe\xfe\xfe\xfe\xfe\xfe",
+        text: "$pbkdf2-sha512$i=3,l=32$/v7+/v7+/v7+/v7+/v7+/g$j1JvGrwpCV5Rg4PFNVQk0ya61uVVQxpAmk/pVIq+zoE",
+    },
+    Row {
+        cost: MakeCost::Pbkdf2(Pbkdf2Hash::Sha512, 4_097),
+        password: "pässwörd",
+        salt: b"\x9c\x3f\xe5\x01\x7a\xb2\xd4\x48\x6e\x0d\xc1\xf7\x53\x2b\x8a\x91",
+        text: "$pbkdf2-sha512$i=4097,l=32$nD/lAXqy1EhuDcH3UyuKkQ$XTG/CxnoVrklwt0ffpLc3nZ1FuYc7w0UTg3+7AYLcds",
     },
 ];
 
@@ -333,9 +352,14 @@ fn faults(rt: HostRuntime) {
         no_text(argon2(7, 1, 1), b"x", SALT, MakeFault::Cost),
         no_text(argon2(64, 0, 1), b"x", SALT, MakeFault::Cost),
         no_text(argon2(64, 1, 9), b"x", SALT, MakeFault::Cost),
-        no_text(MakeCost::Pbkdf2Sha256(0), b"x", SALT, MakeFault::Cost),
         no_text(
-            MakeCost::Pbkdf2Sha256(10_000_001),
+            MakeCost::Pbkdf2(Pbkdf2Hash::Sha256, 0),
+            b"x",
+            SALT,
+            MakeFault::Cost,
+        ),
+        no_text(
+            MakeCost::Pbkdf2(Pbkdf2Hash::Sha256, 10_000_001),
             b"x",
             SALT,
             MakeFault::Cost,
@@ -373,7 +397,7 @@ fn long_passwords(rt: HostRuntime) {
         sha256(1_000),
         scrypt(1, 1, 1),
         argon2(8, 1, 1),
-        MakeCost::Pbkdf2Sha256(1),
+        MakeCost::Pbkdf2(Pbkdf2Hash::Sha256, 1),
     ] {
         let salt = &SALT[..cost.salt_length()];
         let made = make_text(rt.alloc(), cost, &long, salt, &mut out);
@@ -409,7 +433,11 @@ fn counts_all_bytes<R: Abort>(rt: &R, alloc: Global, text: &[u8]) {
 // A record's scheme takes a zero byte.
 #[test]
 fn zero_bytes(rt: HostRuntime) {
-    for cost in [scrypt(1, 1, 1), argon2(8, 1, 1), MakeCost::Pbkdf2Sha256(1)] {
+    for cost in [
+        scrypt(1, 1, 1),
+        argon2(8, 1, 1),
+        MakeCost::Pbkdf2(Pbkdf2Hash::Sha256, 1),
+    ] {
         match made_text(rt.alloc(), cost, b"a\0b", SALT) {
             Ok(text) => counts_all_bytes(&rt, rt.alloc(), text.as_slice()),
             Err(fault) => panic!(rt; "{cost:?}: {fault:?}"),
@@ -434,7 +462,13 @@ fn schemes(rt: HostRuntime) {
         (Scheme::Argon2id, argon2(65_536, 3, 4), 16, true),
         (
             Scheme::Pbkdf2Sha256,
-            MakeCost::Pbkdf2Sha256(600_000),
+            MakeCost::Pbkdf2(Pbkdf2Hash::Sha256, 600_000),
+            16,
+            false,
+        ),
+        (
+            Scheme::Pbkdf2Sha512,
+            MakeCost::Pbkdf2(Pbkdf2Hash::Sha512, 210_000),
             16,
             false,
         ),
@@ -452,14 +486,11 @@ fn schemes(rt: HostRuntime) {
 
 #[test]
 fn schemes_without_texts(rt: HostRuntime) {
-    for scheme in [
-        Scheme::Md5Crypt,
-        Scheme::ScryptCrypt,
-        Scheme::Pbkdf2Sha512,
-        Scheme::Argon2d,
-        Scheme::Argon2i,
-    ] {
-        assert!(rt; recommended(scheme) == None, "{scheme:?}");
+    for scheme in SCHEMES {
+        assert!(rt;
+            recommended(scheme).is_some() == scheme.is_made(),
+            "{scheme:?}"
+        );
     }
 }
 
@@ -473,6 +504,7 @@ fn names(rt: HostRuntime) {
         ("yescrypt", Scheme::Yescrypt),
         ("argon2id", Scheme::Argon2id),
         ("pbkdf2-sha256", Scheme::Pbkdf2Sha256),
+        ("pbkdf2-sha512", Scheme::Pbkdf2Sha512),
     ] {
         assert!(rt; scheme_named(name) == Ok(scheme), "{name}");
     }
@@ -490,7 +522,7 @@ fn no_names(rt: HostRuntime) {
         "scrypt ",
         "sha256",
         "scrypt-crypt",
-        "pbkdf2-sha512",
+        "pbkdf2-sha1",
         "argon2d",
     ] {
         assert!(rt; scheme_named(name) == Err(NameFault::Unknown), "{name}");
@@ -506,38 +538,44 @@ const FIRST_SALT: &[u8] = b"\x00\x01\x02\x03\x04\x05\x06\x07\x08\x09\x0a\x0b\x0c
 
 #[test]
 fn first_lines(rt: HostRuntime) {
-    let rows: [(&[u8], &[u8], MakeEnd, &[u8]); 8] = [
-        (b"secret\nother\n", FIRST_SALT, MakeEnd::Made, SECRET),
-        (b"secret", FIRST_SALT, MakeEnd::Made, SECRET),
-        (b"\n", &[0; 16], MakeEnd::Made, NONE),
-        (b"", FIRST_SALT, MakeEnd::NoLine, b""),
+    let rows: [(&[u8], &[u8], bool, MakeEnd, &[u8]); 11] = [
+        (b"secret\nother\n", FIRST_SALT, false, MakeEnd::Made, SECRET),
+        (b"secret\nother\n", FIRST_SALT, true, MakeEnd::Made, SECRET),
+        (b"secret", FIRST_SALT, false, MakeEnd::Made, SECRET),
+        (b"\n", &[0; 16], true, MakeEnd::Made, NONE),
+        (b"\n", &[0; 16], false, MakeEnd::EmptyLine, b""),
+        (b"\nsecret\n", FIRST_SALT, false, MakeEnd::EmptyLine, b""),
+        (b"", FIRST_SALT, true, MakeEnd::NoLine, b""),
         (
             b"\xff\n",
             FIRST_SALT,
+            false,
             MakeEnd::Refused(MakeFault::NotUtf8),
             b"",
         ),
         (
             b"a\0\nb\n",
             FIRST_SALT,
+            false,
             MakeEnd::Refused(MakeFault::ZeroByte),
             b"",
         ),
         (
             b"secret\n",
             SHA_SALT,
+            true,
             MakeEnd::Refused(MakeFault::Salt),
             b"",
         ),
-        (&[b'a'; 8_193], FIRST_SALT, MakeEnd::LongLine, b""),
+        (&[b'a'; 8_193], FIRST_SALT, false, MakeEnd::LongLine, b""),
     ];
-    for (input, salt, end, output) in rows {
+    for (input, salt, takes_empty, end, output) in rows {
         for chunk in [1, 5, 10_000] {
             let mut room = [0; 100];
             let mut source = MemorySource::new(input, chunk, &[]);
             let mut sink = MemorySink::new(&mut room, chunk, &[]);
             let cost = MakeCost::Bcrypt(4);
-            let got = run_make(rt.alloc(), cost, salt, &mut source, &mut sink);
+            let got = run_make(rt.alloc(), cost, salt, takes_empty, &mut source, &mut sink);
             assert!(rt; got == end, "{chunk}: {got:?}, and not {end:?}");
             assert!(rt; sink.bytes() == output, "{chunk}: {end:?}");
         }
@@ -558,7 +596,7 @@ fn failing_devices(rt: HostRuntime) {
         let mut source = MemorySource::new(b"secret\n", 3, bad_reads);
         let mut sink = MemorySink::new(&mut room, 7, bad_writes);
         let cost = MakeCost::Bcrypt(4);
-        let got = run_make(rt.alloc(), cost, FIRST_SALT, &mut source, &mut sink);
+        let got = run_make(rt.alloc(), cost, FIRST_SALT, false, &mut source, &mut sink);
         assert!(rt; got == end, "{bad_reads:?} {bad_writes:?}: {got:?}");
         assert!(rt; sink.bytes() == output, "{bad_reads:?} {bad_writes:?}");
     }

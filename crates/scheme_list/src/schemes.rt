@@ -141,12 +141,9 @@ impl Scheme {
             | Scheme::Yescrypt
             | Scheme::Scrypt
             | Scheme::Pbkdf2Sha256
-            | Scheme::Argon2id => true,
-            Scheme::Md5Crypt
-            | Scheme::ScryptCrypt
             | Scheme::Pbkdf2Sha512
-            | Scheme::Argon2d
-            | Scheme::Argon2i => false,
+            | Scheme::Argon2id => true,
+            Scheme::Md5Crypt | Scheme::ScryptCrypt | Scheme::Argon2d | Scheme::Argon2i => false,
         }
     }
 }

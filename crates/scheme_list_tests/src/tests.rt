@@ -75,7 +75,7 @@ const ROWS: [Row; 12] = [
         scheme: Scheme::Pbkdf2Sha512,
         name: "pbkdf2-sha512",
         family: CostFamily::Pbkdf2Sha512,
-        is_made: false,
+        is_made: true,
     },
     Row {
         id: "argon2d",

@@ -13,10 +13,10 @@ returns-in-Whole-clause-outcome g c =
       unended = c.new-lines.ensures.ended;
       unclosed = c.new-lines.ensures.closed;
     } in
-    told_text c.args.cost c.args.salt.now c.new-lines.result c.next_line.new.self is_new c.in-Whole.field-0
+    told_text c.args.cost c.args.salt.now c.args.takes_empty c.new-lines.result c.next_line.new.self is_new c.in-Whole.field-0
     (g.S.Source.left c.args.source.now) (g.S.Source.left c.next_line.new.source) (g.K.Sink.written c.args.sink.now)
     (g.K.Sink.written c.write_text.new.sink) c.write_text.result c.in-Whole.ensures.call
-    (subst (λ (l : List ℕ). WritesText c.args.cost l c.args.salt.now (g.K.Sink.written c.args.sink.now)
+    (subst (λ (l : List ℕ). WritesText c.args.cost c.args.takes_empty l c.args.salt.now (g.K.Sink.written c.args.sink.now)
     (g.K.Sink.written c.write_text.new.sink) c.write_text.result) c.line.ensures c.write_text.ensures.written)
 
 pub returns-in-TooLong-clause-outcome : goal.returns-in-TooLong-clause-outcome
@@ -28,7 +28,7 @@ returns-in-TooLong-clause-outcome g c =
       unended = c.new-lines.ensures.ended;
       unclosed = c.new-lines.ensures.closed;
     } in
-    told_long c.args.cost c.args.salt.now c.new-lines.result c.next_line.new.self is_new
+    told_long c.args.cost c.args.salt.now c.args.takes_empty c.new-lines.result c.next_line.new.self is_new
     (g.S.Source.left c.args.source.now) (g.S.Source.left c.next_line.new.source) (g.K.Sink.written c.args.sink.now)
     c.in-TooLong.ensures.call
 
@@ -41,7 +41,7 @@ returns-in-Budget-clause-outcome g c =
       unended = c.new-lines.ensures.ended;
       unclosed = c.new-lines.ensures.closed;
     } in
-    told_budget c.args.cost c.args.salt.now c.new-lines.result c.next_line.new.self is_new
+    told_budget c.args.cost c.args.salt.now c.args.takes_empty c.new-lines.result c.next_line.new.self is_new
     (g.S.Source.left c.args.source.now) (g.S.Source.left c.next_line.new.source) (g.K.Sink.written c.args.sink.now)
     c.in-Budget.ensures.call
 
@@ -54,7 +54,7 @@ returns-in-End-clause-outcome g c =
       unended = c.new-lines.ensures.ended;
       unclosed = c.new-lines.ensures.closed;
     } in
-    told_none c.args.cost c.args.salt.now c.new-lines.result c.next_line.new.self is_new
+    told_none c.args.cost c.args.salt.now c.args.takes_empty c.new-lines.result c.next_line.new.self is_new
     (g.S.Source.left c.args.source.now) (g.S.Source.left c.next_line.new.source) (g.K.Sink.written c.args.sink.now)
     c.in-End.ensures.call
 
@@ -67,6 +67,6 @@ returns-in-Failed-clause-outcome g c =
       unended = c.new-lines.ensures.ended;
       unclosed = c.new-lines.ensures.closed;
     } in
-    told_read c.args.cost c.args.salt.now c.new-lines.result c.next_line.new.self is_new
+    told_read c.args.cost c.args.salt.now c.args.takes_empty c.new-lines.result c.next_line.new.self is_new
     (g.S.Source.left c.args.source.now) (g.S.Source.left c.next_line.new.source) (g.K.Sink.written c.args.sink.now)
     c.in-Failed.ensures.call
