@@ -1,0 +1,5 @@
+mod Kept
+mod Shown
+mod Noticing
+mod Sources
+mod Lines

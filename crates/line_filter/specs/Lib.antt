@@ -1,0 +1,6 @@
+pub mod Forms
+pub mod Rests
+pub mod Steps
+pub mod Met
+pub mod Views
+pub mod Laws

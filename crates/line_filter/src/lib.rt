@@ -1,0 +1,19 @@
+//! What stands between the bytes of a file and its lines: a byte order mark, carriage returns before line feeds, comments and
+//! empty lines.
+//!
+//! [`Filtered`] is a source in front of another, which leaves out what a [`LineForms`] asks it to: whatever reads lines reads
+//! those that are meant. [`Noticed`] gives the bytes of another source as they are, and counts the lines that end with a carriage
+//! return. Neither takes memory.
+#![tactic(auto)]
+
+mod filtered;
+mod forms;
+pub mod laws;
+mod met;
+mod noticed;
+mod sieve;
+
+pub use filtered::Filtered;
+pub use forms::LineForms;
+pub use met::{MESSAGE_MAX, Met};
+pub use noticed::Noticed;
