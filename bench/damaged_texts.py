@@ -6,7 +6,7 @@ three characters of a text are changed, left out, doubled, put in or exchanged, 
 out or doubled. Of each damaged text
     pwtool survey           tells a judgement, and
     pwtool check --max-..   answers it with a password, under bounds so low that no dear text is hashed.
-A text with a verdict (`match`, `mismatch` or `too-costly`) must be `ok` or `weak: ..`, one of `no-scheme` must be `no scheme`,
+A text with a verdict (`match`, `mismatch` or `too-costly`) must be `ok` or `weak: ..`, one of `no-scheme` `unsupported: ..`,
 and each other must be `invalid`. It prints how many of each scheme there were, and ends with 1 where one differs.
 
 It needs the program, which
@@ -119,7 +119,7 @@ def told(words, lines):
 def agree(word, judgement):
     if word in ("match", "mismatch", "too-costly"):
         return judgement == "ok" or judgement.startswith("weak: ")
-    return judgement == ("no scheme" if word == "no-scheme" else "invalid")
+    return judgement.startswith("unsupported: ") if word == "no-scheme" else judgement == "invalid"
 
 
 def main():
@@ -133,14 +133,14 @@ def main():
     counts, bad = collections.defaultdict(collections.Counter), 0
     for i, ((name, text), word, cells) in enumerate(zip(rows, words, survey)):
         need(cells[0] == f"u{i}" and len(cells) == 4, f"a row is {cells}")
-        kind = "a verdict" if word in ("match", "mismatch", "too-costly") else "no scheme" if word == "no-scheme" else "invalid"
+        kind = "a verdict" if word in ("match", "mismatch", "too-costly") else "unsupported" if word == "no-scheme" else "invalid"
         counts[name][kind] += 1
         if not agree(word, cells[3]):
             bad += 1
             print(f"{text}: check says {word}, survey {cells[3]}")
     for name, kinds in counts.items():
-        print(f"{name:15}" + "".join(f"{kinds[kind]:6} {kind}" for kind in ("a verdict", "invalid", "no scheme")))
-        need(all(kinds[kind] for kind in ("a verdict", "invalid", "no scheme")) or count < 2400, f"{name} lacks a kind")
+        print(f"{name:15}" + "".join(f"{kinds[kind]:6} {kind}" for kind in ("a verdict", "invalid", "unsupported")))
+        need(all(kinds[kind] for kind in ("a verdict", "invalid", "unsupported")) or count < 2400, f"{name} lacks a kind")
     print(f"damaged_texts.py: seed {seed}: {len(rows)} damaged texts, survey and check differ on {bad}")
     sys.exit(bool(bad))
 

@@ -233,12 +233,13 @@ def run_join(spelling, rows, folder):
 
 def run_survey(spelling, rows):
     lines = "".join(f"u{k}:{row[3]}:19000\n" for k, row in enumerate(rows))
-    answers = told(["survey", "--csv", "--quiet", "--from", spelling], lines, 1)
+    columns, *answers = told(["survey", "--csv", "--quiet", "--from", spelling], lines, 1)
+    need(columns == "user,scheme,cost,judgement", f"{spelling}, survey: the columns are {columns}")
     need(len(answers) == len(rows), f"{spelling}, survey: {len(answers)} rows for {len(rows)} lines")
     for (name, scheme, _, text, _), answer in zip(rows, answers):
         cells = answer.split(",")
         if scheme.startswith("unsupported-"):
-            need(cells[1] == "-" and cells[-1] == "no scheme", f"{spelling}, survey: {answer} for {name}, {text}")
+            need(cells[1] == "" and cells[-1].startswith("unsupported: "), f"{spelling}, survey: {answer} for {name}, {text}")
         else:
             need(cells[1].startswith(scheme), f"{spelling}, survey: {answer} for {name}, {text}")
 

@@ -77,8 +77,8 @@ def vectors(count, faults):
             wanted = [f"{user}\t{'locked' if text[:1] in '!*' else 'match' if scheme in READ else answer}"
                       for user, (_, text, scheme, answer) in zip(users, told)]
             compare(maker, "join", texts, wanted, ask(["join", "--quiet", "--from", maker, "-", passwords], texts), count, faults)
-        got = [row[1] for row in csv.reader(ask(["survey", "--quiet", "--csv", "--from", maker], texts))]
-        names = {"1": "md5-crypt", "5": "sha256-crypt", "6": "sha512-crypt", "2a": "bcrypt", "2b": "bcrypt", "2y": "bcrypt", "y": "yescrypt", None: "-"}
+        got = [row[1] for row in csv.reader(ask(["survey", "--quiet", "--csv", "--from", maker], texts))][1:]
+        names = {"1": "md5-crypt", "5": "sha256-crypt", "6": "sha512-crypt", "2a": "bcrypt", "2b": "bcrypt", "2y": "bcrypt", "y": "yescrypt", None: ""}
         compare(maker, "survey", texts, [names.get(scheme, scheme) for _, _, scheme, _ in told], got, count, faults)
 
 

@@ -19,7 +19,7 @@ abbrev pub word_line : ForeignFault → List ℕ
 word_line fault = fault_word fault ++ 10 ∷ []
 
 -- Where a text isn't converted, its cause's word is written, behind the user where there is one. A survey gets the word in
--- the text's place, which has no scheme.
+-- the text's place, which is of an unsupported form.
 abbrev pub refused : LineForm → Parts → ForeignFault → Handed
 refused Password p fault = Err (word_line fault)
 refused UserPassword p fault = Err (p.user ++ 9 ∷ word_line fault)

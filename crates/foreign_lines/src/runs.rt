@@ -2,8 +2,7 @@
 
 ghost use Rattle.std.specs.Prelude.{◌≡◌, ◌≢◌, ◌≤◌, ◌^◌};
 ghost use Rattle.line_program.specs.Outcome.{EndedOutcome, Outcome, RunTold};
-ghost use Rattle.shadow_survey.specs.Rows.{ending_text};
-ghost use Rattle.shadow_survey.specs.Rules.{survey_rules};
+ghost use Rattle.shadow_survey.specs.Rules.{survey_ending, survey_rules};
 ghost use Rattle.foreign_lines.specs.Rules.{foreign_state};
 ghost use Rattle.foreign_lines.specs.Runs.{foreign_rules, foreign_user_rules};
 
@@ -67,8 +66,8 @@ pub fn run_foreign_users<S: Source, K: Sink>(
 }
 
 /// Writes the row of `shadow_survey::run_survey` for each line of a source of at most `max` bytes, with its stored text
-/// converted, and what that writes behind the rows. A text that isn't converted has the judgement `no scheme`. Statuses are
-/// those of `run_survey`; no memory is taken.
+/// converted, and what that writes before the rows and after them. A text that isn't converted is unsupported, by the form
+/// that its cause's word has. Statuses are those of `run_survey`; no memory is taken.
 pub fn run_foreign_survey<S: Source, K: Sink>(
     lines: &mut ForeignLines<SurveyLines>,
     source: &mut S,
@@ -79,7 +78,7 @@ pub fn run_foreign_survey<S: Source, K: Sink>(
     ensures told { RunTold S.left S.faults source.old source.new K.written K.faults sink.old sink.new result
         (λ held taken added. EndedOutcome
         (foreign_state (λ s. s.foreign) (λ s. s.form) (λ s. s.inner) (λ s i. record s { inner = i }) survey_rules)
-        (λ s. ending_text s.inner.format s.inner.counts) lines.old result max held taken added) }
+        (λ s. survey_ending s.inner) lines.old result max held taken added) }
 {
     run_ended(lines, source, sink, max)
 }

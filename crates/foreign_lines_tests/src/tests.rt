@@ -7,7 +7,7 @@ use foreign_lines::{
 use foreign_text::Foreign;
 use line_io::{MemorySink, MemorySource};
 use shadow_check::{JoinEnd, run_join, run_join_fewer};
-use shadow_survey::{Format, SurveyLines};
+use shadow_survey::{Format, LeastCosts, RECOMMENDED_LEAST, SurveyLines};
 use std::hash::RandomState;
 use std::test::Fail;
 
@@ -250,29 +250,10 @@ fn texts_with_colons(rt: HostRuntime) -> Result<(), Fail> {
     Ok(())
 }
 
-const LEAST: SchemeCosts = SchemeCosts {
-    sha_crypt: Costs {
-        rounds: 1_000,
-        ..NO_COSTS
-    },
-    bcrypt: Costs {
-        cost: 10,
-        ..NO_COSTS
-    },
-    yescrypt: Costs { ln: 12, ..NO_COSTS },
-    scrypt: Costs { ln: 14, ..NO_COSTS },
-    pbkdf2_sha256: Costs {
-        rounds: 600_000,
-        ..NO_COSTS
-    },
-    pbkdf2_sha512: Costs {
-        rounds: 210_000,
-        ..NO_COSTS
-    },
-    argon2: Costs {
-        m: 19_456,
-        ..NO_COSTS
-    },
+// The recommended least, but for SHA-crypt with SHA-256.
+const LEAST: LeastCosts = LeastCosts {
+    sha256_rounds: 1_000,
+    ..RECOMMENDED_LEAST
 };
 
 #[test]
@@ -290,17 +271,18 @@ fn rows_of_a_survey(rt: HostRuntime) {
     let rows = b"ann\tsha256-crypt\trounds=1000\tok\n\
         bob\tmd5-crypt\t-\tweak: md5-crypt\n\
         carl\tmd5-crypt\t-\tweak: md5-crypt\n\
-        eve\t-\t-\tno scheme\n\
+        eve\t-\t-\tunsupported: pbkdf2-sha1\n\
         fay\t-\t-\tempty\n\
         locked\t-\t-\tlocked\n\
-        nobody\t-\t-\tno scheme\n\
+        nobody\t-\t-\tunsupported: md5\n\
         \t-\t-\tbadline\n\
         \n\
         2\tmd5-crypt weak\n\
         1\tsha256-crypt ok\n\
+        1\tunsupported: pbkdf2-sha1\n\
+        1\tunsupported: md5\n\
         1\tempty\n\
         1\tlocked\n\
-        2\tno scheme\n\
         1\tbadline\n";
     assert!(rt; sink.bytes() == rows.as_slice());
 }

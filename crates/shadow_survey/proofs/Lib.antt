@@ -1,3 +1,5 @@
+mod Forms
 mod Judging
+mod Plainness
 mod Putting
 mod Surveying

@@ -7,10 +7,10 @@ use Rattle.shadow_survey.specs.Judgements.{judged}
 use Rattle.shadow_survey.specs.Rows.{line_row, row_text, surveyed, surveyed_line}
 use Rattle.shadow_survey.specs.declared.judgement.Judgement.{Judgement}
 use Rattle.shadow_survey.specs.declared.judgement.Judgement.TheVariants.{BadLine, TooLong}
-use Rattle.any_check.specs.declared.numbers.SchemeCosts.{SchemeCosts}
-use Rattle.shadow_survey.specs.declared.rows.Format.{Format}
+use Rattle.shadow_survey.specs.declared.least.LeastCosts.{LeastCosts}
+use Rattle.shadow_survey.specs.declared.cells.Format.{Format}
 
-module _ (least : SchemeCosts) (line : List ℕ) where
+module _ (least : LeastCosts) (line : List ℕ) where
   pub of_user : has_user line ≡ true → is_utf8 (user_of line) ≡ true
       → surveyed least line ≡ (user_of line, judged least (text_of_line line))
   of_user user utf8 = rw (user, utf8) refl

@@ -4,22 +4,24 @@ ghost use Rattle.std.specs.Prelude.{◌≡◌, ◌≤◌, ◌++◌, ◌∷◌, [
 ghost use Rattle.std.specs.List.{flat_map};
 ghost use Rattle.line_io.specs.Output.{Puts};
 ghost use Rattle.scheme_list.specs.Schemes.{schemes};
-ghost use Rattle.shadow_survey.specs.Counting.{count_of, counted, kind_name, kind_of, no_counts, other_rows, scheme_rows, total_row, totals};
+ghost use Rattle.shadow_survey.specs.Counting.{count_of, counted, form_row, kind_name, kind_of, no_counts, other_rows, scheme_rows, total_row, totals};
+ghost use Rattle.shadow_survey.specs.Unsupported.{forms};
 
 use crate::judgement::Judgement;
+use crate::unsupported::{FORM_COUNT, UnsupportedForm};
 use any_check::Scheme;
 use line_io::{OutputBuffer, Sink};
 use pieces::short_bytes::ShortBytes;
 use scheme_list::SCHEME_COUNT;
 
-/// What a text is counted as: the judgement without its costs.
+/// What a text is counted as: the judgement without its costs and without what is weak.
 #[derive(Clone, Copy, Debug, PartialEq, Eq)]
 pub enum Kind {
     Strong(Scheme),
     Weak(Scheme),
     Empty,
     Locked,
-    NoScheme,
+    Unsupported(UnsupportedForm),
     Invalid,
     BadLine,
     TooLong,
@@ -33,7 +35,8 @@ pub struct Counts {
     pub weak: [u64; SCHEME_COUNT],
     pub empty: u64,
     pub locked: u64,
-    pub no_scheme: u64,
+    /// By the places of the forms.
+    pub unsupported: [u64; FORM_COUNT],
     pub invalid: u64,
     pub bad_line: u64,
     pub too_long: u64,
@@ -45,11 +48,11 @@ impl Judgement {
         ensures kind { result ≡ kind_of self.now }
     {
         match self {
-            Judgement::Strong(costs) => Kind::Strong(costs.scheme),
-            Judgement::Weak(costs) => Kind::Weak(costs.scheme),
+            Judgement::Strong(text) => Kind::Strong(text.scheme),
+            Judgement::Weak(text, _) => Kind::Weak(text.scheme),
             Judgement::Empty => Kind::Empty,
             Judgement::Locked => Kind::Locked,
-            Judgement::NoScheme => Kind::NoScheme,
+            Judgement::Unsupported(form) => Kind::Unsupported(*form),
             Judgement::Invalid => Kind::Invalid,
             Judgement::BadLine => Kind::BadLine,
             Judgement::TooLong => Kind::TooLong,
@@ -67,7 +70,7 @@ impl Kind {
             Kind::Weak(scheme) => (scheme.name(), " weak"),
             Kind::Empty => ("empty", ""),
             Kind::Locked => ("locked", ""),
-            Kind::NoScheme => ("no scheme", ""),
+            Kind::Unsupported(form) => ("unsupported: ", form.name()),
             Kind::Invalid => ("invalid", ""),
             Kind::BadLine => ("badline", ""),
             Kind::TooLong => ("toolong", ""),
@@ -85,7 +88,7 @@ impl Counts {
             weak: [0; SCHEME_COUNT],
             empty: 0,
             locked: 0,
-            no_scheme: 0,
+            unsupported: [0; FORM_COUNT],
             invalid: 0,
             bad_line: 0,
             too_long: 0,
@@ -101,7 +104,7 @@ impl Counts {
             Kind::Weak(scheme) => self.weak[scheme.place()],
             Kind::Empty => self.empty,
             Kind::Locked => self.locked,
-            Kind::NoScheme => self.no_scheme,
+            Kind::Unsupported(form) => self.unsupported[form.place()],
             Kind::Invalid => self.invalid,
             Kind::BadLine => self.bad_line,
             Kind::TooLong => self.too_long,
@@ -123,7 +126,10 @@ impl Counts {
             }
             Kind::Empty => self.empty = self.empty.saturating_add(1),
             Kind::Locked => self.locked = self.locked.saturating_add(1),
-            Kind::NoScheme => self.no_scheme = self.no_scheme.saturating_add(1),
+            Kind::Unsupported(form) => {
+                let place = form.place();
+                self.unsupported[place] = self.unsupported[place].saturating_add(1);
+            }
             Kind::Invalid => self.invalid = self.invalid.saturating_add(1),
             Kind::BadLine => self.bad_line = self.bad_line.saturating_add(1),
             Kind::TooLong => self.too_long = self.too_long.saturating_add(1),
@@ -182,14 +188,28 @@ fn put_schemes<K: Sink>(counts: &Counts, out: &mut OutputBuffer, sink: &mut K)
     }
 }
 
-// Puts the counts of texts that have no costs.
+// Puts the counts of all unsupported forms.
+fn put_forms<K: Sink>(counts: &Counts, out: &mut OutputBuffer, sink: &mut K)
+    ensures puts { Puts (K.written sink.old) (K.written sink.new) (K.faults sink.old) (K.faults sink.new) out.old out.new
+        (flat_map (form_row counts.now) forms) }
+{
+    for place in 0..FORM_COUNT {
+        put_total(
+            counts,
+            Kind::Unsupported(UnsupportedForm::at(place)),
+            out,
+            sink,
+        );
+    }
+}
+
+// Puts the counts of texts and lines that have no scheme.
 fn put_others<K: Sink>(counts: &Counts, out: &mut OutputBuffer, sink: &mut K)
     ensures puts { Puts (K.written sink.old) (K.written sink.new) (K.faults sink.old) (K.faults sink.new) out.old out.new
         (other_rows counts.now) }
 {
     put_total(counts, Kind::Empty, out, sink);
     put_total(counts, Kind::Locked, out, sink);
-    put_total(counts, Kind::NoScheme, out, sink);
     put_total(counts, Kind::Invalid, out, sink);
     put_total(counts, Kind::BadLine, out, sink);
     put_total(counts, Kind::TooLong, out, sink);
@@ -201,5 +221,6 @@ pub(crate) fn put_totals<K: Sink>(counts: &Counts, out: &mut OutputBuffer, sink:
         (totals counts.now) }
 {
     put_schemes(counts, out, sink);
+    put_forms(counts, out, sink);
     put_others(counts, out, sink);
 }

@@ -2,13 +2,18 @@
 //! asked for, and nothing is hashed.
 #![tactic(auto)]
 
+mod cells;
 mod counts;
 mod judgement;
+mod least;
 mod lines;
 mod rows;
+mod unsupported;
 
-pub use any_check::{Costs, NO_COSTS, Scheme, SchemeCosts, TextCosts, TextKind};
+pub use any_check::{Costs, NO_COSTS, Scheme, TextCosts};
+pub use cells::Format;
 pub use counts::{Counts, Kind};
 pub use judgement::{Judgement, judged};
+pub use least::{LeastCosts, RECOMMENDED_LEAST, Weakness};
 pub use lines::{SurveyLines, run_survey};
-pub use rows::Format;
+pub use unsupported::UnsupportedForm;

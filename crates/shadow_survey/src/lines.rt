@@ -5,13 +5,14 @@ ghost use Rattle.std.specs.Str.{is_utf8};
 ghost use Rattle.line_io.specs.Output.{Puts};
 ghost use Rattle.line_program.specs.Outcome.{EndedOutcome, RunTold};
 ghost use Rattle.shadow_survey.specs.Counting.{counted, kind_of, no_counts};
-ghost use Rattle.shadow_survey.specs.Rows.{ending_text, is_good, row_text, surveyed};
-ghost use Rattle.shadow_survey.specs.Rules.{survey_rules};
+ghost use Rattle.shadow_survey.specs.Rows.{front_text, is_good, row_text, surveyed};
+ghost use Rattle.shadow_survey.specs.Rules.{survey_ending, survey_rules};
 
-use crate::counts::{Counts, put_totals};
+use crate::cells::Format;
+use crate::counts::Counts;
 use crate::judgement::{Judgement, judged};
-use crate::rows::{Format, is_good, put_row};
-use any_check::SchemeCosts;
+use crate::least::LeastCosts;
+use crate::rows::{is_good, put_counts, put_front, put_row};
 use line_io::{OutputBuffer, Sink, Source};
 use line_program::{Ending, Responder, run_ended};
 use pieces::text::text_of;
@@ -21,27 +22,30 @@ use std::alloc::AllocError;
 /// What answers the lines of a shadow or htpasswd file by what their texts are, and counts the judgements.
 #[derive(Drop)]
 pub struct SurveyLines {
-    /// The least numbers that aren't weak.
-    pub least: SchemeCosts,
+    pub least: LeastCosts,
     pub format: Format,
     pub counts: Counts,
+    /// Whether a line was read, so that what is before the first row is written.
+    pub has_begun: bool,
 }
 
 impl SurveyLines {
-    /// Nothing is counted yet.
-    pub fn new(least: SchemeCosts, format: Format) -> SurveyLines
+    /// No line was read yet.
+    pub fn new(least: LeastCosts, format: Format) -> SurveyLines
         ensures least { result.least ≡ least }
         ensures format { result.format ≡ format }
         ensures counts { result.counts ≡ no_counts }
+        ensures none { result.has_begun ≡ false }
     {
         SurveyLines {
             least,
             format,
             counts: Counts::new(),
+            has_begun: false,
         }
     }
 
-    // Puts the row of a user, counts it, and tells whether it is good.
+    // Puts the row of a user and what is before the first row, counts it, and tells whether it is good.
     fn put_counted<K: Sink>(
         &mut self,
         user: &[u8],
@@ -50,11 +54,13 @@ impl SurveyLines {
         sink: &mut K,
     ) -> bool
         ensures row { Puts (K.written sink.old) (K.written sink.new) (K.faults sink.old) (K.faults sink.new) out.old out.new
-            (row_text self.old.format user.now judgement) }
-        ensures count { self.new ≡ record self.old { counts = counted self.old.counts (kind_of judgement) } }
+            (front_text self.old.has_begun self.old.format ++ row_text self.old.format user.now judgement) }
+        ensures count { self.new ≡ record self.old { has_begun = true; counts = counted self.old.counts (kind_of judgement) } }
         ensures good { result ≡ is_good judgement }
     {
+        put_front(self.has_begun, self.format, out, sink);
         put_row(self.format, user, &judgement, out, sink);
+        self.has_begun = true;
         self.counts.count(judgement.kind());
         is_good(&judgement)
     }
@@ -95,23 +101,18 @@ impl Responder for SurveyLines {
 }
 
 impl Ending for SurveyLines {
-    ghost use Rattle.shadow_survey.specs.Rows.{ending_text};
+    ghost use Rattle.shadow_survey.specs.Rules.{survey_ending};
 
-    ghost ending = { λ s. ending_text s.format s.counts };
+    ghost ending = { survey_ending };
 
     fn put_ending<K: Sink>(&self, out: &mut OutputBuffer, sink: &mut K) {
-        match self.format {
-            Format::Tabs => {
-                out.put(sink, b"\n");
-                put_totals(&self.counts, out, sink);
-            }
-            Format::Csv | Format::Json => {}
-        }
+        put_front(self.has_begun, self.format, out, sink);
+        put_counts(self.format, &self.counts, out, sink);
     }
 }
 
-/// Writes a row for each line of a source of at most `max` bytes, in the form for people how many there are of each
-/// judgement behind them, and gives the status.
+/// Writes a row for each line of a source of at most `max` bytes, and gives the status: in CSV the names of the columns before
+/// the first row, and in the form for people how many there are of each judgement after the last.
 ///
 /// A line is a user, a colon and a stored text, which ends at the next colon or with the line. Statuses: 0 all accounts are
 /// locked or have costs that aren't weak, 1 some other; 3 a read failed, 4 a write failed, 6 the source holds more than
@@ -124,8 +125,7 @@ pub fn run_survey<S: Source, K: Sink>(
 ) -> u8
     requires bound { max ≤ 2 ^ 40 }
     ensures told { RunTold S.left S.faults source.old source.new K.written K.faults sink.old sink.new result
-        (λ held taken added. EndedOutcome survey_rules (λ s. ending_text s.format s.counts) lines.old result max held taken
-        added) }
+        (λ held taken added. EndedOutcome survey_rules survey_ending lines.old result max held taken added) }
 {
     run_ended(lines, source, sink, max)
 }

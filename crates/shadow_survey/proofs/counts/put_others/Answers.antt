@@ -6,6 +6,5 @@ returns g c = record {
   puts = puts_more _ _ _ _ _ _ _ _ _ _ _ c.put_total.ensures.puts
       (puts_more _ _ _ _ _ _ _ _ _ _ _ c.put_total-2.ensures.puts
       (puts_more _ _ _ _ _ _ _ _ _ _ _ c.put_total-3.ensures.puts
-      (puts_more _ _ _ _ _ _ _ _ _ _ _ c.put_total-4.ensures.puts
-      (puts_more _ _ _ _ _ _ _ _ _ _ _ c.put_total-5.ensures.puts c.put_total-6.ensures.puts))));
+      (puts_more _ _ _ _ _ _ _ _ _ _ _ c.put_total-4.ensures.puts c.put_total-5.ensures.puts)));
 }

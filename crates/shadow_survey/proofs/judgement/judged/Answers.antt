@@ -16,7 +16,7 @@ returns-in-Some c =
     let text = is_utf8-from_IsUtf8 c.args.text.now c.in-Some.ensures.text.1 in
     let same = c.in-Some.ensures.text.0 in
     record {
-      judgement = c.judged_kind.ensures ∙ ap (judged_kind c.args.least.now) (c.text_kind.ensures.kind ∙ ap (text_kind accepted) same)
+      judgement = c.judged_kind.ensures ∙ ap (judged_kind c.args.least.now c.args.text.now) (c.text_kind.ensures.kind ∙ ap (text_kind accepted) same)
           ∙ sym (of_text c.args.least.now c.args.text.now some unlocked text);
     }
 

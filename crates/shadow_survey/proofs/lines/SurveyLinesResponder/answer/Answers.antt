@@ -1,4 +1,4 @@
-use Rattle.std.proofs.Common.{rules, ◌≡◌, ◌∙◌, ap, false, length, sym, List, ℕ}
+use Rattle.std.proofs.Common.{rules, ◌≡◌, ◌∙◌, ap, false, true, length, sym, List, ℕ}
 use Rattle.std.specs.Prelude.{nat_lt}
 use Rattle.shadow_survey.specs.Counting.{counted, kind_of}
 use Rattle.shadow_survey.specs.Rows.{is_good, surveyed}
@@ -26,5 +26,5 @@ returns-clause-after g c =
     let s = c.args.self.now in
     let short : nat_lt 8192 (length c.args.line.now) ≡ false = search rules in
     c.put_counted.ensures.count
-    ∙ ap (λ (j : Judgement). record s { counts = counted s.counts (kind_of j) }) (c.surveyed-judgement.ensures.judgement
+    ∙ ap (λ (j : Judgement). record s { has_begun = true; counts = counted s.counts (kind_of j) }) (c.surveyed-judgement.ensures.judgement
     ∙ sym (ap (λ (x : List ℕ × Judgement). x.1) (of_short s.least c.args.line.now short)))

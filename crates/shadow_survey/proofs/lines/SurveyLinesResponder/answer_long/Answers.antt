@@ -24,4 +24,4 @@ returns-clause-after g c = λ line long_line.
     let s = c.args.self.now in
     let long : nat_lt 8192 (length line) ≡ true = search rules in
     c.put_counted.ensures.count
-    ∙ sym (ap (λ (x : List ℕ × Judgement). record s { counts = counted s.counts (kind_of x.1) }) (of_long s.least line long))
+    ∙ sym (ap (λ (x : List ℕ × Judgement). record s { has_begun = true; counts = counted s.counts (kind_of x.1) }) (of_long s.least line long))

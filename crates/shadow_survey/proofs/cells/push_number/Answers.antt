@@ -1,7 +1,7 @@
 use Rattle.std.proofs.Common.{arith, lit<, ◌≤◌, ◌^◌, ◌<◌, length}
 use Rattle.std.specs.Fmt.{decimal}
 use Rattle.std.proofs.lemmas.Fmt.{length-decimal-le}
-use Rattle.shadow_survey.proofs.judgement.push_number.Goals as goal
+use Rattle.shadow_survey.proofs.cells.push_number.Goals as goal
 
 pub push_decimal-requires : goal.push_decimal-requires
 push_decimal-requires c =
