@@ -52,6 +52,17 @@ PBKDF2_SHA512 = f"$pbkdf2-sha512$i=999${b64(b'saltsalt')}${b64(pbkdf2('sha512', 
 ARGON2ID = "$argon2id$v=19$m=8,t=1,p=1$c2FsdHNhbHQ$vk+JgWgZGbXHtEqPQPhzXbD+QxxkJR5Fq2AXLhDyYaY"
 TEXTS = [MD5, APR1, SHA256, SHA256_1500, SHA512, BCRYPT, YESCRYPT, SCRYPT_CRYPT, SCRYPT, PBKDF2_SHA256, PBKDF2_SHA512, ARGON2ID]
 
+
+def of_table():
+    """The texts of `secret` that match in the table of texts of every scheme, pwtool's stored run."""
+    with open(os.path.join(TOP, "crates/pwtool/data/lines.txt"), encoding="utf-8") as lines, \
+            open(os.path.join(TOP, "crates/pwtool/stdout"), encoding="utf-8") as words:
+        rows = list(zip(lines.read().splitlines(), words.read().splitlines(), strict=True))
+    return [line.removeprefix("secret\t") for line, word in rows if line.startswith("secret\t") and word == "match"]
+
+
+TEXTS += [text for text in of_table() if text not in TEXTS]
+
 DJANGO = f"pbkdf2_sha256$1000$saltsalt${base64.b64encode(pbkdf2('sha256', b'secret', 1000)).decode()}"
 LDAP = f"{{PBKDF2-SHA512}}1000${b64(b'saltsalt').replace('+', '.')}${b64(pbkdf2('sha512', b'secret', 1000)).replace('+', '.')}"
 PASSLIB = f"$pbkdf2-sha256$1000${b64(b'saltsalt').replace('+', '.')}${b64(pbkdf2('sha256', b'secret', 1000)).replace('+', '.')}"
@@ -130,19 +141,54 @@ BOUNDS = [
     ("--max-argon2-memory", 16, ARGON2ID_16), ("--max-argon2-passes", 2, ARGON2ID_16), ("--max-argon2-lanes", 2, ARGON2ID_16),
 ]
 
-# A text whose cost is just the least of docs/PROGRAMS.md, the same with one less, the scheme and the option; nothing is hashed for these.
+# A text whose number is just the least of docs/PROGRAMS.md, the same with less, the scheme, the option and both numbers; nothing is
+# hashed for these.
 FIELD_43, FIELD_86 = "A" * 42 + "A", "." * 86
+
+
+def record(costs):
+    return f"${costs}$c2FsdHNhbHQ$" + FIELD_43
+
+
 LEASTS = [
-    ("$5$rounds=5000$salt$" + "." * 43, "$5$rounds=4999$salt$" + "." * 43, "sha256-crypt", "--least-sha-rounds", 5000),
-    ("$6$rounds=5000$salt$" + FIELD_86, "$6$rounds=4999$salt$" + FIELD_86, "sha512-crypt", "--least-sha-rounds", 5000),
-    ("$2b$10$" + "." * 53, "$2b$09$" + "." * 53, "bcrypt", "--least-bcrypt-cost", 10),
-    ("$y$j9T$salt$" + "." * 43, "$y$j8T$salt$" + "." * 43, "yescrypt", "--least-yescrypt-ln", 12),
-    ("$7$C6..../....salt$" + "." * 43, "$7$B6..../....salt$" + "." * 43, "scrypt-crypt", "--least-scrypt-ln", 14),
-    ("$scrypt$ln=14,r=8,p=1$c2FsdHNhbHQ$" + FIELD_43, "$scrypt$ln=13,r=8,p=1$c2FsdHNhbHQ$" + FIELD_43, "scrypt", "--least-scrypt-ln", 14),
-    ("$pbkdf2-sha256$i=600000$c2FsdHNhbHQ$" + FIELD_43, "$pbkdf2-sha256$i=599999$c2FsdHNhbHQ$" + FIELD_43, "pbkdf2-sha256", "--least-pbkdf2-rounds", 600000),
-    ("$pbkdf2-sha512$i=210000$c2FsdHNhbHQ$" + FIELD_43, "$pbkdf2-sha512$i=209999$c2FsdHNhbHQ$" + FIELD_43, "pbkdf2-sha512", "--least-pbkdf2-sha512-rounds", 210000),
-    ("$argon2id$v=19$m=19456,t=2,p=1$c2FsdHNhbHQ$" + FIELD_43, "$argon2id$v=19$m=19455,t=2,p=1$c2FsdHNhbHQ$" + FIELD_43, "argon2id", "--least-argon2-memory", 19456),
+    ("$5$rounds=535000$salt$" + "." * 43, "$5$rounds=534999$salt$" + "." * 43, "sha256-crypt", "--least-sha256-rounds", 535000, 534999),
+    ("$6$rounds=656000$salt$" + FIELD_86, "$6$rounds=655999$salt$" + FIELD_86, "sha512-crypt", "--least-sha512-rounds", 656000, 655999),
+    ("$2b$10$" + "." * 53, "$2b$09$" + "." * 53, "bcrypt", "--least-bcrypt-cost", 10, 9),
+    ("$y$j9T$salt$" + "." * 43, "$y$j8T$salt$" + "." * 43, "yescrypt", "--least-yescrypt-memory", 16384, 8192),
+    ("$7$B6....8....salt$" + "." * 43, "$7$A6....I....salt$" + "." * 43, "scrypt-crypt", "--least-scrypt-memory", 8192, 4096),
+    ("$7$C6....3....salt$" + "." * 43, "$7$C6....2....salt$" + "." * 43, "scrypt-crypt", "--least-scrypt-work", 81920, 65536),
+    (record("scrypt$ln=13,r=8,p=10"), record("scrypt$ln=12,r=8,p=20"), "scrypt", "--least-scrypt-memory", 8192, 4096),
+    (record("scrypt$ln=14,r=8,p=5"), record("scrypt$ln=14,r=8,p=4"), "scrypt", "--least-scrypt-work", 81920, 65536),
+    (record("pbkdf2-sha256$i=600000"), record("pbkdf2-sha256$i=599999"), "pbkdf2-sha256", "--least-pbkdf2-rounds", 600000, 599999),
+    (record("pbkdf2-sha512$i=210000"), record("pbkdf2-sha512$i=209999"), "pbkdf2-sha512", "--least-pbkdf2-sha512-rounds", 210000, 209999),
+    (record("argon2id$v=19$m=7168,t=5,p=1"), record("argon2id$v=19$m=7167,t=6,p=1"), "argon2id", "--least-argon2-memory", 7168, 7167),
+    (record("argon2id$v=19$m=17920,t=2,p=1"), record("argon2id$v=19$m=17919,t=2,p=1"), "argon2id", "--least-argon2-work", 35840, 35838),
 ]
+
+# The settings that OWASP's Password Storage Cheat Sheet calls equal: log2 of N and p of scrypt with r = 8; m and t of Argon2id.
+EQUAL_SCRYPT = [(17, 1), (16, 2), (15, 3), (14, 5), (13, 10)]
+EQUAL_ARGON2 = [(47104, 1), (19456, 2), (12288, 3), (9216, 4), (7168, 5)]
+
+# Texts without a verdict, and the form that a survey names: of `secret` by libxcrypt 4.4.33 and by passlib 1.7.4; shapes of those that
+# neither makes.
+UNSUPPORTED = [
+    ("abNANd1rDfiNc", "descrypt"), ("q7R9hlXwfgnuE", "descrypt"), ("_J9..saltLXKE4peqNCg", "bsdicrypt"), ("_N...Fqh7PJqM0RZJtI6", "bsdicrypt"),
+    ("$3$$878d8014606cda29677a44efa1353fc7", "nt"), ("$md5,rounds=5000$salt$$lkvEZR4zhmpUWLWgqfd7a0", "sunmd5"),
+    ("$sha1$1000$salt$8jAzD0wdO9Nt9BiOxLRcu50VwbnD", "sha1crypt"),
+    ("$gy$j75$0123456789ab$mC3YjagUyvzAJ5CA/Fp0nFqQHGoO82aZKIXoVvjQaT9", "gost-yescrypt"),
+    ("$sm3$salt$x", "sm3crypt"), ("$sm3y$j9T$salt$x", "sm3-yescrypt"),
+    ("$P$6XoURWQxCkhkHhRVPCpro.6nTk2alE/", "phpass"), ("$H$6IWVjS43Lh/tjrTLy3sQt1i7cKhnE4/", "phpass"),
+    ("$bcrypt-sha256$v=2,t=2b,r=12$n79VH.0Q2TMWmt3Oqt9uku$Kq4Noyk3094Y2QlB8NdRT8SvGiI4ft2", "bcrypt-sha256"),
+    ("$pbkdf2$20$cq61lvJey1kLodTam7NWCg$x37x/kfK1wss1PY/3KUJIAzZXi8", "pbkdf2-sha1"), ("$scram$20$wphTqrV27j0n5Lz3$sha-1=x", "scram"),
+    ("$wp$2y$10$x", "wordpress"), ("{SHA}5en6G6MezRroT3XKqkdPOmY/BfQ=", "ldap {SHA}"),
+    ("{SSHA}DffeBf7vCTlc7hCF9FEi6uR9CVjxvpdS", "ldap {SSHA}"), ("{MD5}Xr4ilOzQ4PCOq3aQ0qbuaQ==", "ldap {MD5}"),
+    ("{SMD5}3SU+TmEkJfPDUHOlzzm3DYjR+p8=", "ldap {SMD5}"), ("{SSHA256}Md4WXrn6ko/L5T3NTH75ms2oEuxmxihl1pT424srjlyyVsq5N6bUOg==", "ldap"),
+    ("secret", "clear text or unknown"), ("$9$x", "clear text or unknown"),
+]
+
+# Users that a spreadsheet would run or a terminal obeys, as CSV, the rows for people and JSON have them.
+HARMLESS = [("=1+1", "'=1+1", "=1+1"), ("+1", "'+1", "+1"), ("-1", "'-1", "-1"), ("@a", "'@a", "@a"), ("a=1", "a=1", "a=1"),
+            ("\r=\x1b[2J", "?=?[2J", "?=?[2J"), ("\x7f\x9b\xa0", "??\xa0", "??\xa0"), ("a\"b", "a\"b", "a\"b")]
 
 # The words of `make`, what its text begins with, the bytes of its salt; the recommended numbers are docs/PROGRAMS.md's.
 MADE = [
@@ -153,6 +199,8 @@ MADE = [
     (["sha512-crypt", "--rounds", "5000"], r"\$6\$([./A-Za-z0-9]{16})\$[./A-Za-z0-9]{86}"),
     (["scrypt", "--ln", "5", "--r", "7", "--p", "3"], r"\$scrypt\$ln=5,r=7,p=3\$([+/A-Za-z0-9]{22})\$[+/A-Za-z0-9]{43}"),
     (["pbkdf2-sha256", "--rounds", "1001"], r"\$pbkdf2-sha256\$i=1001,l=32\$([+/A-Za-z0-9]{22})\$[+/A-Za-z0-9]{43}"),
+    (["pbkdf2-sha512", "--rounds", "1002"], r"\$pbkdf2-sha512\$i=1002,l=32\$([+/A-Za-z0-9]{22})\$[+/A-Za-z0-9]{43}"),
+    (["pbkdf2-sha512"], r"\$pbkdf2-sha512\$i=210000,l=32\$([+/A-Za-z0-9]{22})\$[+/A-Za-z0-9]{43}"),
     (["argon2id", "--memory", "48", "--passes", "2", "--lanes", "3"], r"\$argon2id\$v=19\$m=48,t=2,p=3\$([+/A-Za-z0-9]{22})\$[+/A-Za-z0-9]{43}"),
     (["argon2id"], r"\$argon2id\$v=19\$m=65536,t=3,p=4\$([+/A-Za-z0-9]{22})\$[+/A-Za-z0-9]{43}"),
     (["scrypt"], r"\$scrypt\$ln=17,r=8,p=1\$([+/A-Za-z0-9]{22})\$[+/A-Za-z0-9]{43}"),
@@ -245,28 +293,150 @@ def joins(tool):
         tool.case(["join", "--from", spelling, tool.file("one", f"ann:{text}\n"), many], "", "ann\tmatch\n", 0)
 
 
-def surveys(tool):
-    """`survey`: the least of each scheme and its option, CSV and JSON, the counts behind the rows."""
-    for enough, less, scheme, option, number in LEASTS:
-        rows = lambda judgement: lambda got: [line.split("\t")[0::3] for line in got.split("\n\n")[0].split("\n")] == judgement  # noqa: E731
+def survey_leasts(tool):
+    """`survey`: the least of each scheme and its option; each of OWASP's equal settings is `ok`, half of one isn't; what `make` makes is."""
+    rows = lambda judgement: lambda got: [line.split("\t")[0::3] for line in got.split("\n\n")[0].split("\n")] == judgement  # noqa: E731
+    for enough, less, scheme, option, number, lower in LEASTS:
         tool.case(["survey"], f"ann:{enough}\n", lambda got, scheme=scheme: got.split("\t")[1] == scheme and got.endswith(f"\tok\n\n1\t{scheme} ok\n"), 0)
         tool.case(["survey"], f"ann:{less}\n", lambda got, scheme=scheme: "\tweak: " in got and got.endswith(f"\n\n1\t{scheme} weak\n"), 1)
-        tool.case(["survey", option, str(number - 1)], f"ann:{less}\n", rows([["ann", "ok"]]), 0)
+        tool.case(["survey", option, str(lower)], f"ann:{less}\n", rows([["ann", "ok"]]), 0)
         tool.case(["survey", option, str(number + 1)], f"ann:{enough}\n", lambda got: "\tweak: " in got, 1)
-    file = tool.file("shadow", f"a,\"b:{MD5}\nbob:!x\ncec:\ndan:$9$x\neve:$2b$04$short\nno user\n")
-    wanted = [["a,\"b", "md5-crypt", "-", "weak: md5-crypt"], ["bob", "-", "-", "locked"], ["cec", "-", "-", "empty"], ["dan", "-", "-", "no scheme"],
-              ["eve", "-", "-", "invalid"], ["", "-", "-", "badline"]]
+    weak = lambda got: all("\tweak: " in line for line in got.split("\n\n")[0].split("\n"))  # noqa: E731
+    for ln, p in EQUAL_SCRYPT:
+        tool.case(["survey"], f"ann:{record(f'scrypt$ln={ln},r=8,p={p}')}\n", rows([["ann", "ok"]]), 0)
+        halves = [record(f"scrypt$ln={ln - 1},r=8,p={p}"), record(f"scrypt$ln={ln},r=4,p={p}"), *([record(f"scrypt$ln={ln},r=8,p={p // 2}")] if p > 1 else [])]
+        tool.case(["survey"], "".join(f"ann:{half}\n" for half in halves), weak, 1)
+    for m, t in EQUAL_ARGON2:
+        tool.case(["survey"], f"ann:{record(f'argon2id$v=19$m={m},t={t},p=1')}\n", rows([["ann", "ok"]]), 0)
+        halves = [record(f"argon2id$v=19$m={m // 2},t={t},p=1"), *([record(f"argon2id$v=19$m={m},t={t // 2},p=1")] if t > 1 else [])]
+        tool.case(["survey"], "".join(f"ann:{half}\n" for half in halves), weak, 1)
+    for scheme in ("yescrypt", "argon2id", "scrypt", "bcrypt", "pbkdf2-sha256", "sha512-crypt", "sha256-crypt"):
+        text = subprocess.run([tool.program, "make", scheme], input="secret\n", capture_output=True, text=True, check=True).stdout
+        tool.case(["survey"], f"ann:{text}", rows([["ann", "ok"]]), 0)
+
+
+def survey_columns(tool):
+    """`survey`: rows for people, CSV and JSON; users that are made harmless; the counts after the rows; unsupported forms."""
     names = ["user", "scheme", "cost", "judgement"]
-    tool.case(["survey", "--csv", file], "", lambda got: list(csv.reader(io.StringIO(got))) == wanted, 1)
-    tool.case(["survey", "--json", file], "", lambda got: [[json.loads(line)[name] for name in names] for line in got.splitlines()] == wanted, 1)
-    counts = "1\tmd5-crypt weak\n1\tempty\n1\tlocked\n1\tno scheme\n1\tinvalid\n1\tbadline\n"
+    file = tool.file("shadow", f"a,\"b:{MD5}\nbob:!x\ncec:\ndan:$9$x\neve:$2b$04$short\nno user\nfay:{SCRYPT}\n")
+    wanted = [["a,\"b", "md5-crypt", "-", "weak: md5-crypt"], ["bob", "-", "-", "locked"], ["cec", "-", "-", "empty"],
+              ["dan", "-", "-", "unsupported: clear text or unknown"], ["eve", "-", "-", "invalid"], ["", "-", "-", "badline"],
+              ["fay", "scrypt", "ln=4,r=8,p=2", "weak: 16 KiB"]]
+    cells = [names] + [[user] + ["" if cell == "-" else cell for cell in row] for user, *row in wanted]
+    tool.case(["survey", "--csv", file], "", lambda got: list(csv.reader(io.StringIO(got))) == cells, 1)
+    objects = [{"user": user, "scheme": None if scheme == "-" else scheme, "cost": {"ln": 4, "r": 8, "p": 2} if scheme == "scrypt" else None,
+                "judgement": judgement, "weak": judgement.startswith("weak: ")} for user, scheme, _, judgement in wanted]
+    tool.case(["survey", "--json", file], "", lambda got: [json.loads(line) for line in got.splitlines()] == objects, 1)
+    counts = "1\tmd5-crypt weak\n1\tscrypt weak\n1\tunsupported: clear text or unknown\n1\tempty\n1\tlocked\n1\tinvalid\n1\tbadline\n"
     tool.case(["survey", file], "", "".join("\t".join(row) + "\n" for row in wanted) + "\n" + counts, 1)
+    tool.case(["survey", "--csv"], "", "user,scheme,cost,judgement\n", 0)
+    tool.case(["survey", "--json"], "", "", 0)
+    for user, in_csv, shown in HARMLESS:
+        tool.case(["survey", "--csv"], f"{user}:!\n", lambda got, user=in_csv: list(csv.reader(io.StringIO(got)))[1][0] == user, 0)
+        tool.case(["survey"], f"{user}:!\n", f"{shown}\t-\t-\tlocked\n\n1\tlocked\n", 0)
+        tool.case(["survey", "--json"], f"{user}:!\n",
+                  lambda got, user=user: json.loads(got)["user"] == user and not re.search("[\x00-\x09\x0b-\x1f\x7f-\x9f]", got), 0)
+    for text, form in UNSUPPORTED:
+        tool.case(["survey"], f"ann:{text}\n", f"ann\t-\t-\tunsupported: {form}\n\n1\tunsupported: {form}\n", 1)
+        tool.case(["check", "--quiet"], f"secret\t{text}\n", "no-scheme\n", 1)
+
+
+def surveys(tool):
+    """`survey`: the leasts, the columns, and texts of other makers."""
+    survey_leasts(tool)
+    survey_columns(tool)
     for maker, text, scheme, cost in MAKERS:
         tool.case(["survey", "--from", maker, "--csv"], f"ann:{text}\n",
-                  lambda got, scheme=scheme, cost=cost: next(csv.reader(io.StringIO(got)))[1] == scheme and cost in got, lambda status: status in (0, 1))
+                  lambda got, scheme=scheme, cost=cost: list(csv.reader(io.StringIO(got)))[1][1] == scheme and cost in got, lambda status: status in (0, 1))
+    for maker, text, word in REFUSED:
+        form = word.removeprefix("unsupported-").replace("des-crypt", "descrypt").replace("cleartext", "clear text").replace("scheme", "another scheme")
+        form = "foreign text with a fault" if word.startswith("foreign-") else form
+        tool.case(["survey", "--from", maker], f"ann:{text}\n", f"ann\t-\t-\tunsupported: {form}\n\n1\tunsupported: {form}\n", 1)
     for spelling, text in (("django", DJANGO), ("ldap", LDAP), ("passlib", PASSLIB)):
         tool.case(["survey", "--from", spelling, "--least-pbkdf2-rounds", "1000", "--least-pbkdf2-sha512-rounds", "1000"], f"ann:{text}\n",
                   lambda got: got.split("\t")[2] == "rounds=1000" and got.split("\n")[0].endswith("\tok"), 0)
+
+
+def brought(tool):
+    """Files as people bring them: carriage returns, a byte order mark, comments and empty lines, kept as they are or left out."""
+    mark = b"\xef\xbb\xbf"
+    lines = mark + f"# of ann\r\n\r\nsecret\t{MD5}\r\nwrong\t{MD5}\r\nsecret\t{MD5}".encode()
+    both = "the first line begins with a byte order mark, 4 lines end with a carriage return: try --crlf\n"
+    tool.case(["check"], lines, "badline\nbadline\nmcf-encoding\nmcf-encoding\nmatch\n", 1, "pwtool: standard input: " + both)
+    tool.case(["check", "--crlf"], lines, "badline\nbadline\nmatch\nmismatch\nmatch\n", 1)
+    tool.case(["check", "--htpasswd"], lines, "badline\nbadline\nmcf-encoding\nmcf-encoding\nmatch\n", 1, both)
+    tool.case(["check", "--crlf", "--htpasswd", tool.file("lines", lines)], "", "match\nmismatch\nmatch\n", 1)
+    tool.case(["check"], f"secret\t{MD5}\r\n", "mcf-encoding\n", 1, "standard input: 1 line ends with a carriage return: try --crlf")
+    tool.case(["check"], mark + f"secret\t{MD5}\n".encode(), "mismatch\n", 1, "the first line begins with a byte order mark: try --crlf")
+    for words, given in ((["check", "--quiet"], lines), (["check", "--crlf"], lines), (["check"], f"secret\t{MD5}\n"),
+                         (["check"], f"a\rb\t{MD5}\nsecret\t{MD5}\r"), (["survey", "--quiet"], "ann:!\r\n"), (["normalize", "--quiet"], "x\r\n")):
+        tool.count += 1
+        told = tool.run(words, given if isinstance(given, bytes) else given.encode())[2]
+        if "try --crlf" in told:
+            tool.faults.append(f"pwtool {' '.join(words)}: {told!r} though nothing is to be told")
+    texts = tool.file("windows.t", mark + f"# texts\r\n\r\nann:{MD5}\r\nbob:\r\n#zoe:{MD5}\r\n".encode())
+    few = tool.file("windows.p", mark + b"#ann:wrong\r\nann:secret\r\n")
+    many = tool.file("many.p", mark + b"#ann:wrong\r\nann:secret\r\n" + b"".join(b"user%d:x\r\n" % n for n in range(50)))
+    for passwords, count in ((few, 2), (many, 52)):
+        tool.case(["join", "--crlf", "--htpasswd", texts, passwords], "", "ann\tmatch\nbob\tempty\n", 1)
+        tool.case(["join", "--crlf", texts, passwords], "", "badline\nbadline\nann\tmatch\nbob\tempty\n#zoe\tno-password\n", 1)
+        for name, met in (("windows.t", 5), (passwords, count)):
+            tool.case(["join", texts, passwords], "", lambda got: "ann\tmcf-encoding\n" in got, 1,
+                      f"pwtool: {name}: the first line begins with a byte order mark, {met} lines end with a carriage return: try --crlf")
+    tool.case(["join", "--crlf", "--htpasswd", texts, "-"], "#c\nann:secret\r\n", "ann\tmatch\nbob\tempty\n", 1)
+    tool.case(["join", "--no-text", "--crlf", "--htpasswd", texts, few], "", "", 0)
+    tool.case(["join", "--no-text", "--crlf", texts, few], "", "#ann\tno-text\n", 1)
+    rows = f"ann\tmd5-crypt\t-\tweak: md5-crypt\nbob\t-\t-\tempty\n\n1\tmd5-crypt weak\n1\tempty\n"
+    tool.case(["survey", "--crlf", "--htpasswd", texts], "", rows, 1)
+    tool.case(["survey"], "ann:\r\n", lambda got: not got.startswith("ann\t-\t-\tempty"), 1, "1 line ends with a carriage return: try --crlf")
+    tool.case(["survey", "--from", "ldap", "--crlf"], f"ann:{{CRYPT}}{MD5}\r\n", "ann\tmd5-crypt\t-\tweak: md5-crypt\n\n1\tmd5-crypt weak\n", 1)
+    tool.case(["check", "--from", "ldap", "--users", "--crlf", "--htpasswd"], f"#\r\nann:secret\t{{CRYPT}}{MD5}\r\n", "ann\tmatch\n", 0)
+    tool.case(["normalize", "--crlf", "--htpasswd"], f"# old\r\n\r\n{MD5}\r\n", f"{MD5}\n", 0)
+    tool.case(["normalize"], f"{MD5}\r\n", lambda got: got == f"{MD5}\r\n", 0, "1 line ends with a carriage return: try --crlf")
+    # A comment of more bytes than a read or a line has, and a text that is cut at every place by a slow pipe.
+    tool.case(["check", "--htpasswd"], "#" + "x" * 100000 + f"\nsecret\t{MD5}\n", "match\n", 0)
+    tool.case(["check", "--crlf"], "x" * 8192 + "\r\n" + "x" * 8193 + "\r\n", "badline\ntoolong\n", 1)
+
+
+def statuses(tool):
+    """`--good`: which answers count as good; the options that `join --no-text` doesn't use."""
+    lines = f"secret\t{MD5}\nwrong\t{MD5}\nx\t*0\nno tab\n{'x' * 9000}\nsecret\t$1$a\n"
+    names = "match,mismatch,no-scheme,invalid,badline,toolong"
+    words = "match\nmismatch\nno-scheme\nbadline\ntoolong\nmd5-format\n"
+    tool.case(["check", "--good", names], lines, words, 0)
+    for name in names.split(","):
+        tool.case(["check", "--good", ",".join(other for other in names.split(",") if other != name)], lines, words, 1)
+    tool.case(["check", "--good", "mismatch"], f"secret\t{MD5}\n", "match\n", 1)
+    tool.case(["check", "--users", "--good", "mismatch"], f"match:x\t{MD5}\n", "match\tmismatch\n", 0)
+    tool.case(["check", "--max-bcrypt-cost", "4", "--good", "too-costly"], f"secret\t{BCRYPT_5}\n", "too-costly\n", 0)
+    tool.case(["check", "--from", "ldap", "--good", "unsupported"], "x\t{SHA}x\n", "unsupported-sha1\n", 0)
+    tool.case(["check", "--from", "ldap", "--good", "invalid"], "x\t{SHA}x\n", "unsupported-sha1\n", 1)
+    tool.case(["check", "--good", "match,locked"], "", "", 64, "pwtool: --good: 'locked' is not one of match, mismatch, no-scheme, ")
+    tool.case(["check", "--good", ""], "", "", 64, "pwtool: --good: '' is not one of match, ")
+    texts = tool.file("texts", f"ann:{MD5}\nbob:\nzoe:!\nmax:{MD5}\n")
+    few = tool.file("few", "ann:secret\n")
+    many = tool.file("many", "ann:secret\n" + "".join(f"user{n}:x\n" for n in range(50)))
+    answers = "ann\tmatch\nbob\tempty\nzoe\tlocked\nmax\tno-password\n"
+    for passwords in (few, many):
+        tool.case(["join", "--good", "match,locked,empty,no-password", texts, passwords], "", answers, 0)
+        for left in ("match,locked,empty", "match,locked,no-password", "match,empty,no-password", "locked,empty,no-password"):
+            tool.case(["join", "--good", left, texts, passwords], "", answers, 1)
+    tool.case(["join", "--good", "weak", texts, few], "", "", 64, "'weak' is not one of match, ")
+    tool.case(["join", "--good", "match", texts, "absent"], "", "", 66)
+    for option in (["--max-sha-rounds", "1000"], ["--max-argon2-lanes", "1"], ["--from", "ldap"], ["--good", "match"]):
+        tool.case(["join", "--no-text", *option, texts, few], "", "", 64, f"pwtool: {option[0]}: join --no-text checks no password")
+    rows = f"ann:{MD5}\nbob:\nzoe:!\neve:$2b$04$short\nmax:{record('argon2id$v=19$m=7168,t=5,p=1')}\ndan:$9$x\nno user\n{'x' * 9000}\n"
+    names = "ok,weak,empty,locked,unsupported,invalid,badline,toolong"
+    for form in ([], ["--csv"], ["--json"]):
+        tool.case(["survey", *form, "--good", names], rows, lambda got: True, 0)
+        for name in names.split(","):
+            tool.case(["survey", *form, "--good", ",".join(other for other in names.split(",") if other != name)], rows, lambda got: True, 1)
+    tool.case(["survey", "--from", "ldap", "--good", "weak"], f"ann:{{CRYPT}}{MD5}\n", lambda got: True, 0)
+    tool.case(["survey", "--good", "match"], "", "", 64, "'match' is not one of ok, weak, ")
+    # A run that ends early keeps its status.
+    folder = os.open(tool.folder, os.O_RDONLY)
+    tool.case(["check", "--good", "match"], "", "", 3, source=folder)
+    os.close(folder)
 
 
 def is_text_of(password, text):
@@ -276,9 +446,10 @@ def is_text_of(password, text):
         ln, r, p = (int(number.split("=")[1]) for number in numbers.split(","))
         made = hashlib.scrypt(password, salt=base64.b64decode(salt + "=="), n=2 ** ln, r=r, p=p, dklen=32, maxmem=2 ** 28)
         return b64(made) == key
-    if text.startswith("$pbkdf2-sha256$"):
-        _, _, numbers, salt, key = text.split("$")
-        made = hashlib.pbkdf2_hmac("sha256", password, base64.b64decode(salt + "=="), int(numbers.split(",")[0].split("=")[1]))
+    if text.startswith("$pbkdf2-"):
+        _, name, numbers, salt, key = text.split("$")
+        rounds = int(numbers.split(",")[0].split("=")[1])
+        made = hashlib.pbkdf2_hmac(name.removeprefix("pbkdf2-"), password, base64.b64decode(salt + "=="), rounds, 32)
         return b64(made) == key
     return text.startswith("$argon2id$") or libxcrypt.crypt_r()(password, text.encode()) == text.encode()
 
@@ -302,7 +473,10 @@ def makes(tool):
     tool.case(["make", "bcrypt"], "x" * 73 + "\n", "", 1)
     tool.case(["make", "bcrypt", "--cost", "4"], b"\xff\n", "", 1)
     tool.case(["make", "bcrypt", "--cost", "4"], b"a\0b\n", "", 1)
-    tool.case(["make", "bcrypt", "--cost", "4"], "", "", 1)
+    tool.case(["make", "bcrypt", "--cost", "4"], "", "", 1, "there is no line")
+    tool.case(["make", "bcrypt", "--cost", "4"], "\nx\n", "", 1, "the password is empty")
+    tool.case(["make", "bcrypt", "--cost", "4", "--empty"], "\nx\n", lambda got: got.startswith("$2b$04$") and len(got) == 61, 0)
+    tool.case(["make", "bcrypt", "--cost", "4", "--empty"], "", "", 1, "there is no line")
 
 
 def streams(tool):
@@ -356,7 +530,7 @@ def main():
     begin = time.time()
     with tempfile.TemporaryDirectory() as folder:
         tool = Tool(os.path.abspath(program), folder)
-        for part in (checks, joins, surveys, makes, streams, tables, faults):
+        for part in (checks, joins, surveys, brought, statuses, makes, streams, tables, faults):
             part(tool)
     print("\n".join(f"pwtool_cases.py: {fault}" for fault in tool.faults) or f"pwtool_cases.py: {tool.count} cases, {time.time() - begin:.0f} s")
     return 1 if tool.faults else 0

@@ -1,7 +1,9 @@
 //! The command line.
 
 use crate::make_cli::{make, normalize, unwrap, wrap};
-use crate::options::{file, flag, form, plus, wanted, with_from, with_telling};
+use crate::options::{
+    file, flag, form, plus, wanted, with_forms, with_from, with_good, with_telling,
+};
 use crate::tables::table;
 use clap::{Arg, Command, value_parser};
 use std::alloc::{AllocError, Global};
@@ -53,10 +55,11 @@ const TEXTS: &str = "\
 A line is a user, a colon and a stored text, which ends at the next colon: a line of a shadow or
 htpasswd file as it is. No password is asked for, and nothing is hashed. A row is the user, the
 scheme, its costs and a judgement, with tabs between them: ok, weak (with what is weak), locked
-(the text begins with * or !), empty, no scheme (none has the text), invalid (it has a fault),
-badline (no user) or toolong. After the rows comes how many there are of each. md5-crypt is weak
-in any case. Status 0 is for accounts that are ok or locked, 1 for some other; pwtool --help has
-the rest.";
+(the text begins with * or !), empty, unsupported (pwtool has no verdict on it; with the name of
+its form), invalid (it has a fault), badline (no user) or toolong. After the rows comes how many
+there are of each. md5-crypt is weak in any case. A control character of a user is shown as ?, in
+JSON as an escape. Status 0 is for accounts that are ok or locked, 1 for some other;
+pwtool --help has the rest.";
 
 // What an option bounds: its name, its help, its least and its most.
 #[derive(Drop)]
@@ -115,18 +118,30 @@ fn costs() -> [CostOption; 12] {
 }
 
 // The least costs that aren't weak.
-fn least_costs() -> [CostOption; 7] {
+fn least_costs() -> [CostOption; 10] {
     [
-        least("least-sha-rounds", "SHA-crypt: rounds (5000)"),
+        least("least-sha256-rounds", "sha256-crypt: rounds (535000)"),
+        least("least-sha512-rounds", "sha512-crypt: rounds (656000)"),
         least("least-bcrypt-cost", "bcrypt: cost (10)"),
-        least("least-yescrypt-ln", "yescrypt: log2 of N (12)"),
-        least("least-scrypt-ln", "scrypt: ln, and log2 of N of $7$ (14)"),
+        least(
+            "least-yescrypt-memory",
+            "yescrypt: 128 r 2^ln in KiB (16384)",
+        ),
+        least(
+            "least-scrypt-memory",
+            "scrypt, $7$: 128 r 2^ln in KiB (8192)",
+        ),
+        least(
+            "least-scrypt-work",
+            "scrypt, $7$: 128 r 2^ln p in KiB (81920)",
+        ),
         least("least-pbkdf2-rounds", "PBKDF2 with SHA-256: i (600000)"),
         least(
             "least-pbkdf2-sha512-rounds",
             "PBKDF2 with SHA-512: i (210000)",
         ),
-        least("least-argon2-memory", "Argon2: m in KiB (19456)"),
+        least("least-argon2-memory", "Argon2: m in KiB (7168)"),
+        least("least-argon2-work", "Argon2: m t in KiB (35840)"),
     ]
 }
 
@@ -164,6 +179,19 @@ const MOST: &str = "The most that a stored text may ask for (left out: what its 
 /// The heading of the least costs.
 const LEAST: &str = "The least that isn't weak (left out: the number in brackets)";
 
+/// The helps of the option that says which answers count as good, of `check`, `join` and `survey`.
+const GOOD_WORDS: &str = "\
+Status 0 is for these answers, with commas between them: match, mismatch, no-scheme, unsupported, \
+too-costly, invalid (any other word), badline, toolong (left out: match)";
+
+const GOOD_USERS: &str = "\
+Status 0 is for these answers, with commas between them: those of 'pwtool check', empty, locked, \
+no-password (left out: match)";
+
+const GOOD_TEXTS: &str = "\
+Status 0 is for these judgements, with commas between them: ok, weak, empty, locked, unsupported, \
+invalid, badline, toolong (left out: ok,locked)";
+
 // The form `check`.
 fn check<'a>(alloc: Global) -> Result<Command<'a>, AllocError> {
     let command = form(
@@ -177,7 +205,14 @@ fn check<'a>(alloc: Global) -> Result<Command<'a>, AllocError> {
     let command = plus(command, flag(alloc, "users", users));
     with_costs(
         alloc,
-        with_telling(alloc, with_from(alloc, command)),
+        with_telling(
+            alloc,
+            with_good(
+                alloc,
+                with_forms(alloc, with_from(alloc, command)),
+                GOOD_WORDS,
+            ),
+        ),
         &costs(),
         MOST,
     )
@@ -199,7 +234,14 @@ fn join<'a>(alloc: Global) -> Result<Command<'a>, AllocError> {
     let command = plus(command, flag(alloc, "no-text", no_text));
     with_costs(
         alloc,
-        with_telling(alloc, with_from(alloc, command)),
+        with_telling(
+            alloc,
+            with_good(
+                alloc,
+                with_forms(alloc, with_from(alloc, command)),
+                GOOD_USERS,
+            ),
+        ),
         &costs(),
         MOST,
     )
@@ -214,13 +256,20 @@ fn survey<'a>(alloc: Global) -> Result<Command<'a>, AllocError> {
         TEXTS,
     );
     let command = plus(Ok(command), file(alloc));
-    let csv = "Write four fields of CSV a line, and no counts";
+    let csv = "Write CSV: the names of four columns, then a line for each row, and no counts";
     let command = plus(command, flag(alloc, "csv", csv));
     let json = "Write an object of JSON a line, and no counts";
     let command = plus(command, flag(alloc, "json", json));
     with_costs(
         alloc,
-        with_telling(alloc, with_from(alloc, command)),
+        with_telling(
+            alloc,
+            with_good(
+                alloc,
+                with_forms(alloc, with_from(alloc, command)),
+                GOOD_TEXTS,
+            ),
+        ),
         &least_costs(),
         LEAST,
     )

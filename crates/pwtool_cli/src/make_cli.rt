@@ -1,6 +1,6 @@
 //! The command lines of the forms that make texts, and of those that the small programs have too.
 
-use crate::options::{file, flag, form, plus, wanted};
+use crate::options::{file, flag, form, plus, wanted, with_forms};
 use clap::{Arg, Command, value_parser};
 use std::alloc::{AllocError, Global};
 
@@ -14,9 +14,10 @@ it:
   scrypt         --ln 17 --r 8 --p 1                   OWASP
   bcrypt         --cost 12                             PHP 8.4; OWASP asks for 10 and more
   pbkdf2-sha256  --rounds 600000                       OWASP
+  pbkdf2-sha512  --rounds 210000                       OWASP
   sha512-crypt   --rounds 656000                       passlib 1.7.4
   sha256-crypt   --rounds 535000                       passlib 1.7.4
-No text of md5-crypt is made. The kit of this program can't keep a terminal from showing what is
+No text of md5-crypt is made, and none of an empty password without --empty. The kit of this program can't keep a terminal from showing what is
 typed, so it reads none, unless --echo is given. To type a password unseen:
   (trap 'stty echo' EXIT INT; stty -echo; head -n 1) | pwtool make yescrypt
 Status 0: the text is written; 1: no text is made of the line; pwtool --help has the rest.";
@@ -50,7 +51,7 @@ fn numbers() -> [CostNumber; 9] {
     [
         number(
             "rounds",
-            "sha256-crypt, sha512-crypt: 1000 to 999999999; pbkdf2-sha256: 1 to 10000000",
+            "sha256-crypt, sha512-crypt: 1000 to 999999999; PBKDF2: 1 to 10000000",
         ),
         number("cost", "bcrypt: 4 to 31"),
         number("ln", "scrypt: log2 of N, 1 to 20; yescrypt: 2 to 23"),
@@ -89,7 +90,9 @@ pub fn make<'a>(alloc: Global) -> Result<Command<'a>, AllocError> {
         wanted(alloc, "SCHEME", "The scheme, by its name"),
     );
     let echo = "Read the password from a terminal too, which shows what is typed";
-    let mut command = plus(command, flag(alloc, "echo", echo));
+    let command = plus(command, flag(alloc, "echo", echo));
+    let empty = "Make a text of an empty password too";
+    let mut command = plus(command, flag(alloc, "empty", empty));
     for number in &numbers() {
         command = plus(command, argument(alloc, number));
     }
@@ -99,7 +102,10 @@ pub fn make<'a>(alloc: Global) -> Result<Command<'a>, AllocError> {
 /// The form `normalize`.
 pub fn normalize<'a>(alloc: Global) -> Result<Command<'a>, AllocError> {
     let about = "Write each line, a stored text, in its one spelling";
-    plus(Ok(form(alloc, "normalize", about, NORMAL)), file(alloc))
+    let command = plus(Ok(form(alloc, "normalize", about, NORMAL)), file(alloc));
+    let command = with_forms(alloc, command);
+    let quiet = "Tell nothing but errors on standard error";
+    plus(command, flag(alloc, "quiet", quiet))
 }
 
 // A form over the bytes of a file, with the width of the lines.

@@ -72,6 +72,30 @@ pub fn with_from<'a>(
     plus(command, from)
 }
 
+/// A form with the options that say what of a file is left out before it is cut into lines.
+pub fn with_forms<'a>(
+    alloc: Global,
+    command: Result<Command<'a>, AllocError>,
+) -> Result<Command<'a>, AllocError> {
+    let crlf = "A carriage return before a line feed, and a byte order mark, are no part of a line";
+    let command = plus(command, flag(alloc, "crlf", crlf));
+    let htpasswd = "Pass over empty lines and lines that begin with #";
+    plus(command, flag(alloc, "htpasswd", htpasswd))
+}
+
+/// A form with the option that says which answers count as good.
+pub fn with_good<'a>(
+    alloc: Global,
+    command: Result<Command<'a>, AllocError>,
+    help: &'static str,
+) -> Result<Command<'a>, AllocError> {
+    let good = Arg::new(alloc, "good")
+        .long("good")
+        .value_name("LIST")
+        .help(help);
+    plus(command, good)
+}
+
 /// A form with the options that say what is told on standard error.
 pub fn with_telling<'a>(
     alloc: Global,

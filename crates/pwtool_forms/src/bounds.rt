@@ -2,6 +2,7 @@
 
 use any_check::{Costs, NO_COSTS, SchemeCosts};
 use clap::ArgMatches;
+use shadow_survey::{LeastCosts, RECOMMENDED_LEAST};
 
 /// The most that each scheme takes: no valid text is above it.
 const SCHEMES_OWN: SchemeCosts = SchemeCosts {
@@ -97,53 +98,23 @@ pub fn bound_of(matches: &ArgMatches<'_>) -> Option<SchemeCosts> {
     Some(limits)
 }
 
-/// The least costs that aren't weak, where the command line gives none.
-const LEAST: SchemeCosts = SchemeCosts {
-    sha_crypt: Costs {
-        rounds: 5_000,
-        ..NO_COSTS
-    },
-    bcrypt: Costs {
-        cost: 10,
-        ..NO_COSTS
-    },
-    yescrypt: Costs { ln: 12, ..NO_COSTS },
-    scrypt: Costs { ln: 14, ..NO_COSTS },
-    pbkdf2_sha256: Costs {
-        rounds: 600_000,
-        ..NO_COSTS
-    },
-    pbkdf2_sha512: Costs {
-        rounds: 210_000,
-        ..NO_COSTS
-    },
-    argon2: Costs {
-        m: 19_456,
-        ..NO_COSTS
-    },
-};
-
-// The least binary logarithm of N.
-fn least_ln(matches: &ArgMatches<'_>, option: &str, otherwise: &Costs) -> Costs {
-    Costs {
-        ln: number(matches, option, otherwise.ln),
-        ..NO_COSTS
-    }
-}
-
 /// The least costs that aren't weak, as the command line gives them.
-pub fn least_of(matches: &ArgMatches<'_>) -> SchemeCosts {
-    let least = &LEAST;
-    SchemeCosts {
-        sha_crypt: rounds(matches, "least-sha-rounds", &least.sha_crypt),
-        bcrypt: Costs::of_cost(number(matches, "least-bcrypt-cost", least.bcrypt.cost)),
-        yescrypt: least_ln(matches, "least-yescrypt-ln", &least.yescrypt),
-        scrypt: least_ln(matches, "least-scrypt-ln", &least.scrypt),
-        pbkdf2_sha256: rounds(matches, "least-pbkdf2-rounds", &least.pbkdf2_sha256),
-        pbkdf2_sha512: rounds(matches, "least-pbkdf2-sha512-rounds", &least.pbkdf2_sha512),
-        argon2: Costs {
-            m: number(matches, "least-argon2-memory", least.argon2.m),
-            ..NO_COSTS
-        },
+pub fn least_of(matches: &ArgMatches<'_>) -> LeastCosts {
+    let least = &RECOMMENDED_LEAST;
+    LeastCosts {
+        sha256_rounds: number(matches, "least-sha256-rounds", least.sha256_rounds),
+        sha512_rounds: number(matches, "least-sha512-rounds", least.sha512_rounds),
+        bcrypt_cost: number(matches, "least-bcrypt-cost", least.bcrypt_cost),
+        yescrypt_memory: number(matches, "least-yescrypt-memory", least.yescrypt_memory),
+        scrypt_memory: number(matches, "least-scrypt-memory", least.scrypt_memory),
+        scrypt_work: number(matches, "least-scrypt-work", least.scrypt_work),
+        pbkdf2_sha256_rounds: number(matches, "least-pbkdf2-rounds", least.pbkdf2_sha256_rounds),
+        pbkdf2_sha512_rounds: number(
+            matches,
+            "least-pbkdf2-sha512-rounds",
+            least.pbkdf2_sha512_rounds,
+        ),
+        argon2_memory: number(matches, "least-argon2-memory", least.argon2_memory),
+        argon2_work: number(matches, "least-argon2-work", least.argon2_work),
     }
 }

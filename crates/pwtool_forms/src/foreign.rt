@@ -4,8 +4,7 @@ ghost use Rattle.std.specs.Prelude.{◌≡◌, ◌≢◌, ◌≤◌, ◌^◌, If
 ghost use Rattle.line_io.specs.Devices.{WhereTold};
 ghost use Rattle.line_program.specs.Outcome.{EndedOutcome, Outcome, RunTold};
 ghost use Rattle.pieces.specs.FaultCounts.{HasRisen};
-ghost use Rattle.shadow_survey.specs.Rows.{ending_text};
-ghost use Rattle.shadow_survey.specs.Rules.{survey_rules};
+ghost use Rattle.shadow_survey.specs.Rules.{survey_ending, survey_rules};
 ghost use Rattle.shadow_check.specs.FewerOutcome.{FewerOutcome, fewer_status};
 ghost use Rattle.shadow_check.specs.JoinOutcome.{JoinOutcome, status_of};
 ghost use Rattle.foreign_lines.specs.Rules.{foreign_state};
@@ -54,7 +53,7 @@ pub fn check_foreign_users<S: Source, K: Sink>(
 }
 
 /// Writes a row for each line of a source of at most 2^40 bytes, whose stored text is in a foreign spelling, and what a survey
-/// writes behind them. Statuses are those of [`run_foreign_survey`]; no memory is taken.
+/// writes before them and after them. Statuses are those of [`run_foreign_survey`]; no memory is taken.
 pub fn survey_foreign<S: Source, K: Sink>(
     lines: &mut ForeignLines<SurveyLines>,
     source: &mut S,
@@ -63,7 +62,7 @@ pub fn survey_foreign<S: Source, K: Sink>(
     ensures told { RunTold S.left S.faults source.old source.new K.written K.faults sink.old sink.new result
         (λ held taken added. EndedOutcome
         (foreign_state (λ s. s.foreign) (λ s. s.form) (λ s. s.inner) (λ s i. record s { inner = i }) survey_rules)
-        (λ s. ending_text s.inner.format s.inner.counts) lines.old result (2 ^ 40) held taken added) }
+        (λ s. survey_ending s.inner) lines.old result (2 ^ 40) held taken added) }
 {
     run_foreign_survey(lines, source, sink, INPUT_MAX)
 }

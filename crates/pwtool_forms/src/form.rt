@@ -3,18 +3,20 @@
 ghost use Rattle.std.specs.Prelude.{◌≡◌, ◌≢◌, ◌≤◌};
 
 use crate::bounds::{bound_of, least_of};
+use crate::brought::{brought, tell_met};
 use crate::check::{check_lines, check_users};
 use crate::fault::say;
 use crate::foreign::{check_foreign, check_foreign_users, survey_foreign};
 use crate::from::foreign_of;
+use crate::good::{Good, Judging, good_of_check, good_of_survey, survey_status};
 use crate::reports::{opened, reporting_of, size_of, summarize, told, watched};
 use crate::status::{BAD_WORDS, NO_FILE};
 use crate::survey::survey_lines;
 use crate::tally::{Noted, Tally};
 use clap::ArgMatches;
 use foreign_lines::{ForeignLines, LineForm};
-use line_io::{Sink, Source, StdSink, StdSource};
-use shadow_survey::{Format, SurveyLines};
+use line_io::{Sink, Source, StdSink};
+use shadow_survey::{Counts, Format, SurveyLines};
 use std::alloc::Global;
 use std::io;
 use std::io::{Read, Write};
@@ -44,6 +46,7 @@ fn answer_given<S: Source, K: Sink>(
 pub fn answer<R: Read + Drop, W: Write + Drop>(
     rt: &HostRuntime,
     matches: &ArgMatches<'_>,
+    good: Option<Good>,
     name: &str,
     size: Option<u64>,
     reader: R,
@@ -52,27 +55,59 @@ pub fn answer<R: Read + Drop, W: Write + Drop>(
     ensures status { (result ≤ 6) × (result ≢ 2) }
 {
     let reporting = reporting_of(rt, matches);
-    let mut tally = Tally::new(writer);
-    let mut source = StdSource::new(watched(rt, reporting, name, size, reader));
+    let mut judging = Judging::new(writer, good);
+    let mut tally = Tally::new(&mut judging);
+    let mut source = brought(matches, watched(rt, reporting, name, size, reader));
     let mut sink = StdSink::new(&mut tally);
     let status = answer_given(rt.alloc(), matches, &mut source, &mut sink);
     let status = told(rt, name, KEY, tally.fault(), status);
+    tell_met(rt, matches, name, &source);
     summarize(rt, reporting, &tally.counts());
-    status
+    judging.status(status)
 }
 
 /// Answers the lines of the file that is named, or of standard input, and gives the status.
 pub fn check_form(rt: &HostRuntime, matches: &ArgMatches<'_>) -> u8 {
+    let Ok(good) = good_of_check(rt, matches) else {
+        return BAD_WORDS;
+    };
     let name = matches.get_str("FILE").unwrap_or("-");
     if name == "-" {
-        return answer(rt, matches, name, None, rt.reader(), io::writer(rt));
+        return answer(rt, matches, good, name, None, rt.reader(), io::writer(rt));
     }
     match opened(rt, name) {
         Some(file) => {
             let size = size_of(&file);
-            answer(rt, matches, name, size, file, io::writer(rt))
+            answer(rt, matches, good, name, size, file, io::writer(rt))
         }
         None => NO_FILE,
+    }
+}
+
+// Surveys all lines of a source, in whatever spelling the texts are; the status, and how many there are of each judgement.
+fn survey_given<S: Source, K: Sink>(
+    matches: &ArgMatches<'_>,
+    lines: SurveyLines,
+    source: &mut S,
+    sink: &mut K,
+) -> (u8, Counts)
+    ensures status { (result.0 ≤ 6) × (result.0 ≢ 2) }
+{
+    let mut lines = lines;
+    match foreign_of(matches) {
+        Some(foreign) => {
+            let mut lines = ForeignLines {
+                foreign,
+                form: LineForm::Surveyed,
+                inner: lines,
+            };
+            let status = survey_foreign(&mut lines, source, sink);
+            (status, lines.inner.counts)
+        }
+        None => {
+            let status = survey_lines(&mut lines, source, sink);
+            (status, lines.counts)
+        }
     }
 }
 
@@ -81,6 +116,7 @@ pub fn survey<R: Read + Drop, W: Write + Drop>(
     rt: &HostRuntime,
     matches: &ArgMatches<'_>,
     lines: SurveyLines,
+    good: Option<Good>,
     name: &str,
     size: Option<u64>,
     reader: R,
@@ -88,24 +124,14 @@ pub fn survey<R: Read + Drop, W: Write + Drop>(
 ) -> u8
     ensures status { (result ≤ 6) × (result ≢ 2) }
 {
-    let mut source = StdSource::new(watched(rt, reporting_of(rt, matches), name, size, reader));
+    let reporting = reporting_of(rt, matches);
+    let mut source = brought(matches, watched(rt, reporting, name, size, reader));
     let mut writer = Noted::new(writer);
     let mut sink = StdSink::new(&mut writer);
-    let status = match foreign_of(matches) {
-        Some(foreign) => {
-            let mut lines = ForeignLines {
-                foreign,
-                form: LineForm::Surveyed,
-                inner: lines,
-            };
-            survey_foreign(&mut lines, &mut source, &mut sink)
-        }
-        None => {
-            let mut lines = lines;
-            survey_lines(&mut lines, &mut source, &mut sink)
-        }
-    };
-    told(rt, name, KEY, writer.fault(), status)
+    let (status, counts) = survey_given(matches, lines, &mut source, &mut sink);
+    let status = told(rt, name, KEY, writer.fault(), status);
+    tell_met(rt, matches, name, &source);
+    survey_status(good, &counts, status)
 }
 
 /// What answers the lines of a survey, as the command line asks for it; none where it asks for two formats.
@@ -125,14 +151,26 @@ pub fn survey_form(rt: &HostRuntime, matches: &ArgMatches<'_>) -> u8 {
         say(rt, "--csv and --json exclude each other");
         return BAD_WORDS;
     };
+    let Ok(good) = good_of_survey(rt, matches) else {
+        return BAD_WORDS;
+    };
     let name = matches.get_str("FILE").unwrap_or("-");
     if name == "-" {
-        return survey(rt, matches, lines, name, None, rt.reader(), io::writer(rt));
+        return survey(
+            rt,
+            matches,
+            lines,
+            good,
+            name,
+            None,
+            rt.reader(),
+            io::writer(rt),
+        );
     }
     match opened(rt, name) {
         Some(file) => {
             let size = size_of(&file);
-            survey(rt, matches, lines, name, size, file, io::writer(rt))
+            survey(rt, matches, lines, good, name, size, file, io::writer(rt))
         }
         None => NO_FILE,
     }

@@ -7,11 +7,13 @@
 #![tactic(auto)]
 
 pub mod bounds;
+pub mod brought;
 mod check;
 pub mod fault;
 mod foreign;
 pub mod form;
 mod from;
+pub mod good;
 mod join;
 pub mod make;
 mod normalize;
@@ -23,6 +25,7 @@ pub mod small_forms;
 pub mod status;
 mod survey;
 pub mod tally;
+mod unused;
 
 pub use check::{check_lines, check_users};
 pub use foreign::{

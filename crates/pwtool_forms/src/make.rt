@@ -50,8 +50,8 @@ pub fn cost_of(matches: &ArgMatches<'_>, recommended: MakeCost) -> MakeCost
             passes: number(matches, "passes", cost.passes),
             lanes: number(matches, "lanes", cost.lanes),
         }),
-        MakeCost::Pbkdf2Sha256(rounds) => {
-            MakeCost::Pbkdf2Sha256(number(matches, "rounds", rounds))
+        MakeCost::Pbkdf2(hash, rounds) => {
+            MakeCost::Pbkdf2(hash, number(matches, "rounds", rounds))
         }
     }
 }
@@ -137,6 +137,13 @@ pub fn told(rt: &impl Eprint, fault: Option<ErrorKind>, end: MakeEnd) -> u8
             say(rt, "standard input: there is no line");
             SOME_OTHER
         }
+        MakeEnd::EmptyLine => {
+            say(
+                rt,
+                "standard input: the password is empty: give --empty if it is meant to be",
+            );
+            SOME_OTHER
+        }
         MakeEnd::LongLine => {
             say(
                 rt,
@@ -159,7 +166,7 @@ pub fn told(rt: &impl Eprint, fault: Option<ErrorKind>, end: MakeEnd) -> u8
 const SALT_MAX: usize = 16;
 
 // Makes the text of the first line of standard input, with a salt from the system's random source.
-fn make(rt: &HostRuntime, cost: MakeCost) -> u8 {
+fn make(rt: &HostRuntime, cost: MakeCost, takes_empty: bool) -> u8 {
     let mut bytes = [0; SALT_MAX];
     let salt = &mut bytes[..cost.salt_length()];
     if rt.fill_bytes(salt).is_err() {
@@ -169,7 +176,7 @@ fn make(rt: &HostRuntime, cost: MakeCost) -> u8 {
     let mut source = StdSource::new(rt.reader());
     let mut writer = Noted::new(io::writer(rt));
     let mut sink = StdSink::new(&mut writer);
-    let end = run_make(rt.alloc(), cost, salt, &mut source, &mut sink);
+    let end = run_make(rt.alloc(), cost, salt, takes_empty, &mut source, &mut sink);
     told(rt, writer.fault(), end)
 }
 
@@ -196,5 +203,5 @@ pub fn make_form(rt: &HostRuntime, matches: &ArgMatches<'_>) -> u8 {
         );
         return BAD_WORDS;
     }
-    make(rt, cost)
+    make(rt, cost, matches.get_flag("empty"))
 }

@@ -1,15 +1,18 @@
 //! The form `join` from its command line on: what of it reaches files and streams.
 
 use crate::bounds::bound_of;
+use crate::brought::{brought, tell_met};
 use crate::fault::say;
 use crate::foreign::{join_foreign, join_foreign_fewer};
 use crate::from::foreign_of;
+use crate::good::{Good, Judging, good_of_join};
 use crate::join::{join_fewer, join_files, tell_no_text};
 use crate::reports::{opened, reporting_of, size_of, summarize, told, watched};
 use crate::status::{BAD_WORDS, NO_FILE};
 use crate::tally::Tally;
+use crate::unused::unused_of_no_text;
 use clap::ArgMatches;
-use line_io::{Sink, Source, StdSink, StdSource};
+use line_io::{Sink, Source, StdSink};
 use line_program::status::READ_FAULT;
 use shadow_check::JoinEnd;
 use std::fs::File;
@@ -74,6 +77,7 @@ fn join_given<P: Source, T: Source, K: Sink>(
 fn join<P: Read + Drop, T: Read + Drop>(
     rt: &HostRuntime,
     matches: &ArgMatches<'_>,
+    good: Option<Good>,
     names: &Names<'_>,
     sizes: Sizes,
     passwords: P,
@@ -83,10 +87,12 @@ fn join<P: Read + Drop, T: Read + Drop>(
         return READ_FAULT;
     };
     let reporting = reporting_of(rt, matches);
-    let mut tally = Tally::new(io::writer(rt));
+    let mut judging = Judging::new(io::writer(rt), good);
+    let mut tally = Tally::new(&mut judging);
     let passwords = watched(rt, reporting, names.passwords, sizes.passwords, passwords);
-    let mut passwords = StdSource::new(passwords);
-    let mut texts = StdSource::new(watched(rt, reporting, names.texts, sizes.texts, texts));
+    let mut passwords = brought(matches, passwords);
+    let texts = watched(rt, reporting, names.texts, sizes.texts, texts);
+    let mut texts = brought(matches, texts);
     let mut sink = StdSink::new(&mut tally);
     let end = if matches.get_flag("no-text") {
         tell_no_text(rt.alloc(), keys, &mut texts, &mut passwords, &mut sink)
@@ -94,14 +100,17 @@ fn join<P: Read + Drop, T: Read + Drop>(
         join_given(rt, matches, keys, &mut passwords, &mut texts, &mut sink)
     };
     let status = names.told(rt, tally.fault(), end);
+    tell_met(rt, matches, names.texts, &texts);
+    tell_met(rt, matches, names.passwords, &passwords);
     summarize(rt, reporting, &tally.counts());
-    status
+    judging.status(status)
 }
 
 // The same for a file of texts that has fewer bytes than that of passwords, which is opened a second time.
 fn join_small(
     rt: &HostRuntime,
     matches: &ArgMatches<'_>,
+    good: Option<Good>,
     names: &Names<'_>,
     passwords: File,
     users: File,
@@ -113,12 +122,15 @@ fn join_small(
         return READ_FAULT;
     };
     let reporting = reporting_of(rt, matches);
-    let mut tally = Tally::new(io::writer(rt));
+    let mut judging = Judging::new(io::writer(rt), good);
+    let mut tally = Tally::new(&mut judging);
     let (of_users, of_passwords) = (size_of(&users), size_of(&passwords));
-    let mut users = StdSource::new(watched(rt, reporting, names.texts, of_users, users));
+    let users = watched(rt, reporting, names.texts, of_users, users);
+    let mut users = brought(matches, users);
     let passwords = watched(rt, reporting, names.passwords, of_passwords, passwords);
-    let mut passwords = StdSource::new(passwords);
-    let mut texts = StdSource::new(watched(rt, reporting, names.texts, of_users, texts));
+    let mut passwords = brought(matches, passwords);
+    let texts = watched(rt, reporting, names.texts, of_users, texts);
+    let mut texts = brought(matches, texts);
     let mut sink = StdSink::new(&mut tally);
     let end = match foreign_of(matches) {
         Some(foreign) => join_foreign_fewer(
@@ -145,8 +157,10 @@ fn join_small(
         Ok(end) => names.told(rt, tally.fault(), end),
         Err(status) => told(rt, names.texts, "the table of users", tally.fault(), status),
     };
+    tell_met(rt, matches, names.texts, &users);
+    tell_met(rt, matches, names.passwords, &passwords);
     summarize(rt, reporting, &tally.counts());
-    status
+    judging.status(status)
 }
 
 // Whether both are regular files, and that of the texts has fewer bytes.
@@ -161,22 +175,34 @@ fn has_fewer_texts(texts: &File, passwords: &File) -> bool {
 fn join_opened(
     rt: &HostRuntime,
     matches: &ArgMatches<'_>,
+    good: Option<Good>,
     names: &Names<'_>,
     passwords: File,
     texts: File,
 ) -> u8 {
     if !matches.get_flag("no-text") && has_fewer_texts(&texts, &passwords) {
-        return join_small(rt, matches, names, passwords, texts);
+        return join_small(rt, matches, good, names, passwords, texts);
     }
     let sizes = Sizes {
         texts: size_of(&texts),
         passwords: size_of(&passwords),
     };
-    join(rt, matches, names, sizes, passwords, texts)
+    join(rt, matches, good, names, sizes, passwords, texts)
 }
 
 /// Answers the users of the first file that is named by the passwords of the second, and gives the status.
 pub fn join_form(rt: &HostRuntime, matches: &ArgMatches<'_>) -> u8 {
+    if matches.get_flag("no-text") {
+        if let Some(option) = unused_of_no_text(matches) {
+            let _ = eprintln!(rt;
+                "pwtool: --{option}: join --no-text checks no password and doesn't use it"
+            );
+            return BAD_WORDS;
+        }
+    }
+    let Ok(good) = good_of_join(rt, matches) else {
+        return BAD_WORDS;
+    };
     let names = Names {
         texts: matches.get_str("TEXTS").unwrap_or("-"),
         passwords: matches.get_str("PASSWORDS").unwrap_or("-"),
@@ -192,7 +218,7 @@ pub fn join_form(rt: &HostRuntime, matches: &ArgMatches<'_>) -> u8 {
                     texts: None,
                     passwords: size_of(&passwords),
                 };
-                join(rt, matches, &names, sizes, passwords, rt.reader())
+                join(rt, matches, good, &names, sizes, passwords, rt.reader())
             }
             None => NO_FILE,
         };
@@ -205,10 +231,10 @@ pub fn join_form(rt: &HostRuntime, matches: &ArgMatches<'_>) -> u8 {
             texts: size_of(&texts),
             passwords: None,
         };
-        return join(rt, matches, &names, sizes, rt.reader(), texts);
+        return join(rt, matches, good, &names, sizes, rt.reader(), texts);
     }
     match opened(rt, names.passwords) {
-        Some(passwords) => join_opened(rt, matches, &names, passwords, texts),
+        Some(passwords) => join_opened(rt, matches, good, &names, passwords, texts),
         None => NO_FILE,
     }
 }

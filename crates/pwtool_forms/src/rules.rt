@@ -54,6 +54,6 @@ pub fn broken_rule(cost: MakeCost) -> &'static str {
         MakeCost::Bcrypt(_) => "--cost is from 4 to 31",
         MakeCost::Yescrypt(cost) => yescrypt_rule(cost),
         MakeCost::Argon2id(cost) => argon2_rule(cost),
-        MakeCost::Pbkdf2Sha256(_) => "--rounds is from 1 to 10000000",
+        MakeCost::Pbkdf2(_, _) => "--rounds is from 1 to 10000000",
     }
 }

@@ -1,7 +1,9 @@
 //! The forms `normalize`, `wrap` and `unwrap` from their command lines on.
 
+use crate::brought::{brought, tell_met};
 use crate::fault::{say, say_at};
 use crate::normalize::normalize_lines;
+use crate::progress::Watched;
 use crate::reports::{called, opened, told};
 use crate::status::{BAD_WORDS, NO_FILE};
 use crate::tally::Noted;
@@ -16,22 +18,29 @@ use wrap_stream::run_stream;
 const NO_TEXT: u8 = 7;
 
 // Writes the normal texts of the lines that a reader gives.
-fn normalize<R: Read + Drop>(rt: &HostRuntime, name: &str, reader: R) -> u8 {
-    let mut source = StdSource::new(reader);
+fn normalize<R: Read + Drop>(
+    rt: &HostRuntime,
+    matches: &ArgMatches<'_>,
+    name: &str,
+    reader: R,
+) -> u8 {
+    let mut source = brought(matches, Watched::new(reader, None));
     let mut writer = Noted::new(io::writer(rt));
     let mut sink = StdSink::new(&mut writer);
     let status = normalize_lines(&mut source, &mut sink);
-    told(rt, name, "a line", writer.fault(), status)
+    let status = told(rt, name, "a line", writer.fault(), status);
+    tell_met(rt, matches, name, &source);
+    status
 }
 
 /// Writes the normal texts of the lines of the file that is named, or of standard input, and gives the status.
 pub fn normalize_form(rt: &HostRuntime, matches: &ArgMatches<'_>) -> u8 {
     let name = matches.get_str("FILE").unwrap_or("-");
     if name == "-" {
-        return normalize(rt, name, rt.reader());
+        return normalize(rt, matches, name, rt.reader());
     }
     match opened(rt, name) {
-        Some(file) => normalize(rt, name, file),
+        Some(file) => normalize(rt, matches, name, file),
         None => NO_FILE,
     }
 }

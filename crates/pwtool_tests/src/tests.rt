@@ -5,7 +5,7 @@ use any_check::{Costs, NO_COSTS, SchemeCosts};
 use line_io::{MemorySink, MemorySource};
 use pwtool_forms::{check_lines, check_users, join_fewer, join_files, survey_lines, tell_no_text};
 use shadow_check::JoinEnd;
-use shadow_survey::{Format, SurveyLines};
+use shadow_survey::{Format, RECOMMENDED_LEAST, SurveyLines};
 use std::hash::RandomState;
 use std::test::Fail;
 
@@ -43,31 +43,6 @@ const LIMITS: SchemeCosts = SchemeCosts {
         m: 8,
         t: 1,
         p: 1,
-        ..NO_COSTS
-    },
-};
-
-const LEAST: SchemeCosts = SchemeCosts {
-    sha_crypt: Costs {
-        rounds: 5_000,
-        ..NO_COSTS
-    },
-    bcrypt: Costs {
-        cost: 10,
-        ..NO_COSTS
-    },
-    yescrypt: Costs { ln: 12, ..NO_COSTS },
-    scrypt: Costs { ln: 14, ..NO_COSTS },
-    pbkdf2_sha256: Costs {
-        rounds: 600_000,
-        ..NO_COSTS
-    },
-    pbkdf2_sha512: Costs {
-        rounds: 210_000,
-        ..NO_COSTS
-    },
-    argon2: Costs {
-        m: 19_456,
         ..NO_COSTS
     },
 };
@@ -116,15 +91,15 @@ fn lines_with_and_without_users(rt: HostRuntime) {
 
 const ROWS: &[u8] = b"root\t-\t-\tlocked\n\
     ann\tmd5-crypt\t-\tweak: md5-crypt\n\
-    eve\tsha256-crypt\trounds=5000\tok\n\n\
-    1\tmd5-crypt weak\n1\tsha256-crypt ok\n1\tlocked\n";
+    eve\tsha256-crypt\trounds=5000\tweak: 5000 rounds\n\n\
+    1\tmd5-crypt weak\n1\tsha256-crypt weak\n1\tlocked\n";
 
 #[test]
 fn rows_of_a_survey(rt: HostRuntime) {
     let mut room = [0; 256];
     let mut source = MemorySource::new(TEXTS, 30, &[]);
     let mut sink = MemorySink::new(&mut room, 9, &[]);
-    let mut lines = SurveyLines::new(LEAST, Format::Tabs);
+    let mut lines = SurveyLines::new(RECOMMENDED_LEAST, Format::Tabs);
     assert!(rt; survey_lines(&mut lines, &mut source, &mut sink) == 1);
     assert!(rt; sink.bytes() == ROWS);
 }
