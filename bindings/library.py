@@ -33,7 +33,7 @@ FLAGS = [f"-ffile-prefix-map={TOP}=.", "-std=c11", "-D_GNU_SOURCE", "-O2", "-Wal
 # The names of malloc's family in a proved archive, and those of face/memory.c.
 MEMORY = {name: "face_" + name for name in ("malloc", "realloc", "free")}
 # The exports that pass the face by: they take no password.
-PLAIN = ("word", "version", "base64_encoded_len", "base64_decoded_len", "base64_decode", "base64_encode", "same_bytes")
+PLAIN = ("word", "version", "base64_encoded_len", "base64_decoded_len", "base64_decode", "base64_encode", "same_bytes", "needs_remake")
 ARCHIVE = os.environ.get("LIBPWCHECK_C", os.path.join(CRATES, "pwcheck_c", "out", "libpwcheck_c.a"))
 
 

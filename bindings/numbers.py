@@ -5,7 +5,7 @@ version where it stands.
     bindings/numbers.py [HEADER]
     bindings/numbers.py swaps        swaps each two numbers of the header in turn, and finds each such header refused
 
-An enumerator's number is the place of its answer in the table `answers` of pwcheck_c/specs/Numbers, its status in
+An enumerator's number is the place of its answer in the table `answers` of pwcheck_c/specs/Answers, its status in
 specs/Statuses, or the place of its alphabet in specs/Coder; a #define is a length that the definitions give, or a cost that
 any_make recommends. Each name
 of the header has to be known here, and each answer, status and alphabet there has to have a name. It ends with 1 where
@@ -19,7 +19,7 @@ HERE = os.path.dirname(os.path.abspath(__file__))
 TOP = os.path.dirname(HERE)
 HEADER = os.path.join(TOP, "include", "pwcheck.h")
 
-# The names of the header for the answers, statuses and alphabets of the definitions.
+# The names of the header for the answers of the definitions that aren't named as there, and for the alphabets.
 ANSWERS = {
     "Checked (Ok true)": "MATCH",
     "Checked (Ok false)": "MISMATCH",
@@ -51,19 +51,6 @@ ANSWERS = {
     "Checked (Err (of_stored.Phc of_phc.TrailingData))": "PHC_TRAILING",
     "Checked (Err of_stored.NoHash)": "NO_HASH",
     "Checked (Err of_stored.Kdf)": "KDF",
-    "OverCost": "OVER_COST",
-    "NoScheme": "NO_SCHEME",
-    "Md5Format": "MD5_FORMAT",
-    "BcryptObsolete": "BCRYPT_OBSOLETE",
-    "BcryptCost": "BCRYPT_COST",
-    "BcryptB64": "BCRYPT_B64",
-    "BcryptFormat": "BCRYPT_FORMAT",
-    "YescryptFlavor": "YESCRYPT_FLAVOR",
-    "YescryptCost": "YESCRYPT_COST",
-    "YescryptFormat": "YESCRYPT_FORMAT",
-    "ScryptCost": "SCRYPT_COST",
-    "ScryptFormat": "SCRYPT_FORMAT",
-    "ZeroByte": "ZERO_BYTE",
 }
 # What the face in C answers of itself.
 FACE = {"NO_RANDOM": -8}
@@ -98,10 +85,21 @@ def number(text, name):
     return int(re.search(rf"^{name} = ([0-9]+)$", text, re.M).group(1))
 
 
+def upper(name):
+    """The header's name for what code names `OverCost`."""
+    return re.sub(r"(?<!^)(?=[A-Z])", "_", name).upper()
+
+
 def places(names, found):
     """The number of each name, by its place."""
     need(sorted(found) == sorted(names), f"the definitions have {sorted(set(found) ^ set(names))} otherwise")
     return {names[entry]: place for place, entry in enumerate(found)}
+
+
+def answers():
+    """The number of each answer: one that is a word alone has the header's form of that word as its name."""
+    found = entries(specs("pwcheck_c", "Answers"), "answers")
+    return places({**ANSWERS, **{entry: upper(entry) for entry in found if entry.isalnum() and entry not in ANSWERS}}, found)
 
 
 def statuses():
@@ -113,7 +111,7 @@ def statuses():
 
 def longest_word():
     """The bytes of the longest word of an answer, from the definitions that give the words."""
-    words = re.findall(r'codes "([^"]*)"', specs("pwcheck_c", "Words") + specs("stored_check", "Words"))
+    words = re.findall(r'codes "([^"]*)"', specs("pwcheck_c", "Answers") + specs("stored_check", "Words"))
     return max(len(word) for word in words)
 
 
@@ -137,14 +135,18 @@ def digits_in_bounds():
 # The names of the header for the costs that any_make recommends: the call that makes the text, and its number.
 RECOMMENDED = {"Sha256Crypt": "SHA256_CRYPT_ROUNDS", "Sha512Crypt": "SHA512_CRYPT_ROUNDS", "Bcrypt": "BCRYPT_COST",
                "Pbkdf2Sha256": "PBKDF2_SHA256_ROUNDS", "Scrypt": "SCRYPT_", "Yescrypt": "YESCRYPT_", "Argon2id": "ARGON2ID_"}
+# Those whose texts no call of C makes.
+WITHOUT_CALL = {"Pbkdf2Sha512"}
 
 
 def recommended():
     """What a new text should cost, number by number."""
     text, found = specs("any_make", "Costs"), {}
     rows = re.findall(r"^recommended (\w+) = Some \(cost\.(.*)\)$", text, re.M)
-    need(sorted(scheme for scheme, _ in rows) == sorted(RECOMMENDED), "other schemes have a recommended cost")
+    need(sorted(scheme for scheme, _ in rows) == sorted({*RECOMMENDED, *WITHOUT_CALL}), "other schemes have a recommended cost")
     for scheme, cost in rows:
+        if scheme in WITHOUT_CALL:
+            continue
         name = "RECOMMENDED_" + RECOMMENDED[scheme]
         if name.endswith("_"):
             found.update((name + number.upper(), int(n)) for number, n in re.findall(r"(\w+) = ([0-9]+)", cost))
@@ -242,7 +244,7 @@ def login_limits_agree(header, wanted):
 
 
 def wanted_numbers():
-    return {**places(ANSWERS, entries(specs("pwcheck_c", "Numbers"), "answers")), **statuses(), **FACE, **lengths(), **recommended(),
+    return {**answers(), **statuses(), **FACE, **lengths(), **recommended(),
             **places(ALPHABETS, entries(specs("pwcheck_c", "Coder"), "alphabets")), **versions()}
 
 
@@ -260,11 +262,6 @@ def rust_numbers():
     text = read("bindings", "rust", "src", "lib.rs") + read("bindings", "rust", "src", "texts.rs")
     table = re.search(r"^pub const ANSWERS: .* = \[\n(.*?)^\];$", text, re.M | re.S).group(1)
 
-    def upper(name):
-        return {"NotUtf8": "NOT_UTF8", "PhcB64": "PHC_B64", "NotBase64": "NOT_BASE64", "ShaBase64": "SHA_BASE64",
-                "Md5Format": "MD5_FORMAT", "BcryptB64": "BCRYPT_B64"}.get(
-            name, re.sub(r"(?<!^)(?=[A-Z])", "_", name).upper())
-
     found = {upper(name): place for place, name in enumerate(re.findall(r"Answer::([A-Za-z0-9]+),", table))}
     found.update((upper(name), int(n)) for name, n in re.findall(r"^    (Base64\w*) = ([0-9]+),$", text, re.M))
     found.update((upper(name), int(n)) for n, name in re.findall(r"^ +(-[0-9]) => Err\(Error::(\w+)\),$", text, re.M))
@@ -279,7 +276,7 @@ def bindings_agree(wanted):
     """Each number of the bindings is that of the definitions; Python has all of them, Rust each answer and status."""
     for name, found, own in [("Python", python_numbers(), set(wanted)),
                              ("Rust", rust_numbers(), {n for n in wanted if not n.endswith(("_SIZE", "_MAX", "OR"))})]:
-        need(own - {"DONE"} <= set(found), f"{name} lacks {' '.join(sorted(own - set(found)))}")
+        need(own - {"DONE"} <= set(found), f"{name} lacks {' '.join(sorted(own - {'DONE'} - set(found)))}")
         other = sorted(n for n in found if found[n] != wanted.get(n))
         need(not other, f"{name} has other numbers than the definitions: {' '.join(other)}")
     print("numbers.py: the numbers of the Python and Rust bindings are those of the definitions")

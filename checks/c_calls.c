@@ -1,6 +1,10 @@
 /* Calls each export of libpwcheck with passwords of 0 to 5,000 bytes of all values, each buffer of its exact size on
  * the heap, to be built with -fsanitize=address,undefined. Each answer is compared with what the header says; the first
  * that differs ends the program with 1.
+ *
+ * usage: c_calls LINES WORDS [short]    (LINES has texts of every scheme, and WORDS their words: pwtool's stored run,
+ *                                        crates/pwtool/data/lines.txt and crates/pwtool/stdout. With a third word:
+ *                                        the lengths up to 200, and those about bounds, alone)
  */
 #include <pwcheck.h>
 #include <stdio.h>
@@ -153,6 +157,7 @@ static void log_in(void)
     NEED(pwcheck_make(password, 13, again, PWCHECK_TEXT_MAX, &other_len) == PWCHECK_DONE && other_len == 97);
     NEED(memcmp(out + 31, again + 31, 22));
     NEED(pwcheck_check_login(password, 13, out, len) == PWCHECK_MATCH);
+    NEED(!pwcheck_needs_remake(out, len) && pwcheck_needs_remake(out, len - 1) && pwcheck_needs_remake(out, 0));
     NEED(pwcheck_check_login(password, 12, out, len) == PWCHECK_MISMATCH);
     for (size_t i = 0; i < sizeof ANY / sizeof *ANY; i++)
         NEED(pwcheck_check_login((const uint8_t *)"secret", 6, (const uint8_t *)ANY[i].text, strlen(ANY[i].text))
@@ -208,6 +213,40 @@ static void check_every_scheme(void)
     give_back(stored, strlen(ANY[2].text));
     give_back(zero, 7);
     give_back(no_text, 1);
+}
+
+/* The word of a password and a stored text, in buffers of their own sizes. */
+static void word_of(const char *password, size_t n, const char *text, size_t m, char *word)
+{
+    struct pwcheck_limits limits = PWCHECK_LIMITS_NONE;
+    limits.bcrypt_cost = 4;
+    uint8_t *secret = copy(password, n), *stored = copy(text, m), *out = room(PWCHECK_WORD_SIZE);
+    pwcheck_word(pwcheck_check_any(secret, n, stored, m, &limits), out, PWCHECK_WORD_SIZE);
+    strcpy(word, (char *)out);
+    give_back(secret, n);
+    give_back(stored, m);
+    give_back(out, PWCHECK_WORD_SIZE);
+}
+
+/* Each line of the stored run of `pwtool check --max-bcrypt-cost 4` has its word here too, where a cost above the bound has
+ * another one, and a line without a tab is none. */
+static void stored_run(const char *lines_name, const char *words_name)
+{
+    FILE *lines = fopen(lines_name, "r"), *words = fopen(words_name, "r");
+    char line[1024], wanted[64], word[PWCHECK_WORD_SIZE];
+    int count = 0;
+    NEED(lines && words);
+    for (; fgets(line, sizeof line, lines); count++) {
+        NEED(fgets(wanted, sizeof wanted, words));
+        line[strcspn(line, "\n")] = wanted[strcspn(wanted, "\n")] = 0;
+        char *tab = strrchr(line, '\t');
+        if (tab) word_of(line, (size_t)(tab - line), tab + 1, strlen(tab + 1), word);
+        else strcpy(word, "badline");
+        NEED(!strcmp(strcmp(word, "over-cost") ? word : "too-costly", wanted));
+    }
+    NEED(count > 0 && !fgets(wanted, sizeof wanted, words));
+    fclose(lines);
+    fclose(words);
 }
 
 /* A text that is made: its length, no byte past it, and the checks that match it. */
@@ -416,11 +455,15 @@ static void fill(uint8_t *password, size_t n, int is_text)
 
 static void words(void)
 {
-    for (int32_t k = -5; k < 60; k++)
+    int32_t count = 0; /* of answers: after the first number without a word, none has one */
+    uint8_t none;
+    while (pwcheck_word(count, &none, 0)) count++;
+    NEED(count > PWCHECK_ZERO_BYTE);
+    for (int32_t k = -5; k < 300; k++)
         for (size_t n = 0; n <= PWCHECK_WORD_SIZE; n++) {
             uint8_t *out = room(n);
             size_t len = pwcheck_word(k, out, n);
-            NEED(len < PWCHECK_WORD_SIZE && (len > 0) == (k >= 0 && k <= PWCHECK_ZERO_BYTE));
+            NEED(len < PWCHECK_WORD_SIZE && (len > 0) == (k >= 0 && k < count));
             if (len && len < n) NEED(strlen((char *)out) == len);
             give_back(out, n);
         }
@@ -430,11 +473,15 @@ static void words(void)
     give_back(out, sizeof PWCHECK_VERSION);
 }
 
-/* With a word: the lengths up to 200, and those about bounds, alone. */
 int main(int argc, char **argv)
 {
-    (void)argv;
+    if (argc < 3) {
+        fprintf(stderr, "usage: c_calls LINES WORDS [short]\n");
+        return 2;
+    }
+    int is_short = argc > 3;
     words();
+    stored_run(argv[1], argv[2]);
     check_every_scheme();
     log_in();
     make_refused();
@@ -442,7 +489,7 @@ int main(int argc, char **argv)
         for (int is_text = NO_TEXT; is_text <= TEXT; is_text++) {
             /* A digest of a long password takes long: each length up to 200, those about bounds, and each 331st. */
             int all = n <= 200 || n % 331 == 0 || (n >= 4095 && n <= 4097);
-            if (argc > 1 && n > 200 && !(n >= 4095 && n <= 4097)) continue;
+            if (is_short && n > 200 && !(n >= 4095 && n <= 4097)) continue;
             uint8_t *password = room(n);
             fill(password, n, is_text);
             int text = is_text || !n;
@@ -456,6 +503,6 @@ int main(int argc, char **argv)
             give_back(password, n);
         }
     printf("c_calls: %lu answers of calls with passwords of %s are those of the header\n", calls,
-        argc > 1 ? "0 to 200 and about 4,096 bytes" : "0 to 5,000 bytes");
+        is_short ? "0 to 200 and about 4,096 bytes" : "0 to 5,000 bytes");
     return fflush(stdout) == EOF;
 }

@@ -32,7 +32,7 @@ export PWCHECK_DIST=1 PWCHECK=$work/tree/dist/pwcheck
 python3 "$work/tree/bindings/library.py" "$work/lib"
 python3 "$top/checks/exports.py" "$work/lib"
 gcc -std=c99 -O1 -Wall -Wextra -Werror -I "$work/lib/include" "$top/checks/c_calls.c" "$work/lib/lib/libpwcheck.a" -o "$work/c_calls"
-"$work/c_calls" short
+"$work/c_calls" "$top/crates/pwtool/data/lines.txt" "$top/crates/pwtool/stdout" short
 python3 "$work/tree/bindings/try.py" "$work/try"
 
 if [ -e /usr/include/crypt.h ]; then

@@ -14,7 +14,7 @@ import subprocess
 import sys
 
 # The calls that came behind version 1.0, by theirs. A call never changes its version.
-SINCE = dict.fromkeys(("pwcheck_check_any", "pwcheck_check_login", "pwcheck_make", "pwcheck_bcrypt_text", "pwcheck_yescrypt_text", "pwcheck_argon2id_text",
+SINCE = dict.fromkeys(("pwcheck_check_any", "pwcheck_check_login", "pwcheck_make", "pwcheck_needs_remake", "pwcheck_bcrypt_text", "pwcheck_yescrypt_text", "pwcheck_argon2id_text",
                        "pwcheck_pbkdf2_sha256_text"), "1.1")
 
 LIB, INCLUDE = (os.path.join(sys.argv[1], name) for name in ("lib", "include"))

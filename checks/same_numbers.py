@@ -15,11 +15,12 @@ from page_texts import TOP, end, page_texts
 
 CLI = "crates/pwtool_cli/src/cli.rt"
 BOUNDS = "crates/pwtool_forms/src/bounds.rt"
+LEASTS = "crates/shadow_survey/src/least.rt"
 
 # Where each number of an option stands in a record of costs: the family, and its name there.
 NUMBERS = {
     "sha-rounds": ("sha_crypt", "rounds"), "bcrypt-cost": ("bcrypt", "cost"), "yescrypt-ln": ("yescrypt", "ln"), "yescrypt-r": ("yescrypt", "r"),
-    "yescrypt-t": ("yescrypt", "t"), "pbkdf2-rounds": ("pbkdf2_sha256", "rounds"), "pbkdf2-sha512-rounds": ("pbkdf2_sha512", "rounds"),
+    "yescrypt-t": ("yescrypt", "t"), "pbkdf2-rounds": ("pbkdf2_sha256", "rounds"),
     "scrypt-ln": ("scrypt", "ln"), "scrypt-r": ("scrypt", "r"), "scrypt-p": ("scrypt", "p"), "argon2-memory": ("argon2", "m"),
     "argon2-passes": ("argon2", "t"), "argon2-lanes": ("argon2", "p"),
 }
@@ -74,9 +75,11 @@ FACTS = [
     ("the status of a file that can't be opened", ("crates/pwtool_forms/src/status.rt", r"NO_FILE: u8 = (\d+)"),
      [r"(\d+) \|? ?a file can't be opened", r"It (\d+) a file can't"], 2),
 ]
-for name in ("sha-rounds", "bcrypt-cost", "yescrypt-ln", "scrypt-ln", "pbkdf2-rounds", "pbkdf2-sha512-rounds", "argon2-memory"):
-    FACTS.append((f"--least-{name}", (BOUNDS, in_record("LEAST", name)),
-                  [r"\| `--least-" + name + r"` N \|[^|]*\| ([\d,]+) \|", r"-least-" + name + r" \(([\d,]+)\)"], 2))
+for name in ("sha256-rounds", "sha512-rounds", "bcrypt-cost", "yescrypt-memory", "scrypt-memory", "scrypt-work", "pbkdf2-rounds",
+             "pbkdf2-sha512-rounds", "argon2-memory", "argon2-work"):
+    field = name.replace("pbkdf2-rounds", "pbkdf2-sha256-rounds").replace("-", "_")
+    FACTS.append((f"--least-{name}", (LEASTS, rf"const RECOMMENDED_LEAST: .*?\b{field}: ([\d_]+)"),
+                  [r"\| `--least-" + name + r"` N \|[^|]*\| ([\d,]+): ", r"-least-" + name + r" = N ([\d,]+)[:,]"], 2))
 for name in ("sha-rounds", "bcrypt-cost", "yescrypt-ln", "yescrypt-r", "yescrypt-t", "pbkdf2-rounds", "scrypt-ln", "scrypt-r", "scrypt-p",
              "argon2-memory", "argon2-passes", "argon2-lanes"):
     FACTS.append((f"--max-{name}", (BOUNDS, in_record("SCHEMES_OWN", name)),

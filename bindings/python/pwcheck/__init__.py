@@ -14,7 +14,7 @@ import secrets
 from typing import Any, Callable, Dict, List, Optional, Union
 
 __all__ = ["Answer", "Alphabet", "Data", "LIMITS_LOGIN", "Limits", "PasswordRefused", "RECOMMENDED", "Status", "VERSION", "check", "check_any",
-           "check_limited", "check_login", "make", "make_recommended", "sha_check", "word", "version", "scrypt", "scrypt_text", "sha_digest", "sha_field", "sha_text", "b64encode",
+           "check_limited", "check_login", "make", "make_recommended", "needs_remake", "sha_check", "word", "version", "scrypt", "scrypt_text", "sha_digest", "sha_field", "sha_text", "b64encode",
            "b64decode", "same"]
 
 
@@ -164,6 +164,7 @@ _check_limited = _export("check_limited", c.c_int32, *_bytes, *_bytes, c.c_uint3
 _check_any = _export("check_any", c.c_int32, *_bytes, *_bytes, c.POINTER(Limits))
 _check_login = _export("check_login", c.c_int32, *_bytes, *_bytes)
 _make = _export("make", c.c_int32, *_bytes, *_bytes, _len)
+_needs_remake = _export("needs_remake", c.c_bool, *_bytes)
 _word = _export("word", c.c_size_t, c.c_int32, *_bytes)
 _version = _export("version", c.c_size_t, *_bytes)
 _scrypt = _export("scrypt", c.c_int32, *_bytes, *_bytes, *_cost, *_bytes)
@@ -287,6 +288,12 @@ def check_any(password: Data, stored: Data, limits: Optional[Limits] = None) -> 
 def check_login(password: Data, stored: Data) -> Answer:
     """Checks a password against a stored text of every scheme within `LIMITS_LOGIN`: what a login service asks."""
     return Answer(_check_login(*_data(password, stored)))
+
+
+def needs_remake(stored: Data) -> bool:
+    """Whether a stored text is another one than `make_recommended` makes: weak, of another scheme, or without a verdict. Nothing
+    is hashed. Ask after a match, and then store the text of the same password that `make_recommended` makes."""
+    return bool(_needs_remake(*_data(stored)))
 
 
 def sha_check(bits: int, password: Data, stored: Data) -> Answer:

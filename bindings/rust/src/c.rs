@@ -19,6 +19,7 @@ unsafe extern "C" {
     pub fn pwcheck_check_any(p: In, p_len: usize, s: In, s_len: usize, limits: *const SizedLimits) -> i32;
     pub fn pwcheck_check_login(p: In, p_len: usize, s: In, s_len: usize) -> i32;
     pub fn pwcheck_make(p: In, p_len: usize, out: Out, out_len: usize, len: Len) -> i32;
+    pub fn pwcheck_needs_remake(stored: In, stored_len: usize) -> bool;
     pub fn pwcheck_sha256_check(password: In, password_len: usize, stored: In, stored_len: usize) -> i32;
     pub fn pwcheck_sha512_check(password: In, password_len: usize, stored: In, stored_len: usize) -> i32;
     pub fn pwcheck_word(number: i32, out: Out, out_len: usize) -> usize;

@@ -362,6 +362,19 @@ pub fn check_login(password: &[u8], stored: &[u8]) -> Answer {
     Answer::of(unsafe { c::pwcheck_check_login(p.as_ptr(), p.len(), s.as_ptr(), s.len()) })
 }
 
+/// Whether a stored text is another one than [`make_recommended`] makes: weak, of another scheme, or without a verdict. Nothing is
+/// hashed. Ask after a match, and then store the text of the same password that [`make_recommended`] makes.
+///
+/// ```
+/// use pwcheck::{make_recommended, needs_remake};
+///
+/// assert!(needs_remake(b"$2b$12$abcdefghijklmnopqrstuu2r9OfJnfCsdneAXAGHnS4UpFFP8WIrW"));
+/// assert!(!needs_remake(make_recommended(b"correct horse").unwrap().as_bytes()));
+/// ```
+pub fn needs_remake(stored: &[u8]) -> bool {
+    unsafe { c::pwcheck_needs_remake(stored.as_ptr(), stored.len()) }
+}
+
 /// Checks a password against a text of SHA-256-crypt alone.
 pub fn sha256_check(password: &[u8], stored: &[u8]) -> Answer {
     Answer::of(unsafe { c::pwcheck_sha256_check(password.as_ptr(), password.len(), stored.as_ptr(), stored.len()) })

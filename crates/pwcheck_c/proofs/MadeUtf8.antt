@@ -26,6 +26,8 @@ use Rattle.sha_crypt.specs.declared.errors.Family.TheVariants.{Sha256, Sha512}
 use Rattle.stored_check.specs.Verdict.{verdict}
 use Rattle.stored_check.specs.declared.error.StoredError.{StoredError}
 use Rattle.stored_check.proofs.Walk.{not_a_text}
+use Rattle.pbkdf2_key.specs.declared.profile.Pbkdf2Hash.{Pbkdf2Hash}
+use Rattle.pbkdf2_key.specs.declared.profile.Pbkdf2Hash.TheVariants.{Sha256, Sha512}
 use Rattle.yescrypt_plain.specs.Field.{crypt_field}
 use Rattle.yescrypt_plain.specs.Made.{yescrypt_hash_text}
 use Rattle.yescrypt_plain.specs.Numbers.{character, class_for, class_text, digits_text, number_text}
@@ -46,7 +48,8 @@ use Rattle.any_make.specs.declared.scheme.MakeCost.{MakeCost}
 use Rattle.any_make.specs.declared.scheme.MakeCost.TheVariants as cost
 use Rattle.any_make.proofs.Judged.{by_record, by_row}
 use Rattle.any_make.proofs.Matches.{made_is, made_matches, short_enough}
-use Rattle.pwcheck_c.specs.AnyAnswers.{any_answer, bounds_of, cause_answer}
+use Rattle.pwcheck_c.specs.AnyAnswers.{any_answer, bounds_of}
+use Rattle.pwcheck_c.specs.Answers.{cause_answer}
 use Rattle.pwcheck_c.specs.Laws.{MadeMatches}
 
 -- ---- characters
@@ -227,9 +230,11 @@ argon2_scheme : (c : Argon2Cost) (salt key : List ℕ) → is_record (text_schem
 unfolding text_scheme pieces_at record_text
 argon2_scheme c salt key = refl
 
-pbkdf2_scheme : (n : ℕ) (salt key : List ℕ) → is_record (text_scheme (record_text (pbkdf2_record n salt key))) ≡ true
+pbkdf2_scheme : (hash : Pbkdf2Hash) (n : ℕ) (salt key : List ℕ)
+    → is_record (text_scheme (record_text (pbkdf2_record hash n salt key))) ≡ true
 unfolding text_scheme pieces_at record_text
-pbkdf2_scheme n salt key = refl
+pbkdf2_scheme Sha256 n salt key = refl
+pbkdf2_scheme Sha512 n salt key = refl
 
 made_ascii : (c : MakeCost) (password salt : List ℕ) → is_taken c ≡ true → length password ≤ 4096
     → any_verdict accepted tag password (hash_text c password salt) ≡ Ok true → IsAscii (hash_text c password salt)
@@ -244,8 +249,8 @@ made_ascii (cost.Bcrypt n) password salt taken short is =
 made_ascii (cost.Yescrypt c) password salt taken short is = yescrypt_ascii c password salt taken
 made_ascii (cost.Argon2id c) password salt taken short is =
     of_record password _ short (argon2_scheme c salt _) is
-made_ascii (cost.Pbkdf2Sha256 n) password salt taken short is =
-    of_record password _ short (pbkdf2_scheme n salt _) is
+made_ascii (cost.Pbkdf2 hash n) password salt taken short is =
+    of_record password _ short (pbkdf2_scheme hash n salt _) is
 
 -- ---- the law
 

@@ -10,7 +10,6 @@ use Rattle.phc.proofs.Characters.{all_weaker}
 use Rattle.pieces.proofs.ByteTests.{is_not}
 use Rattle.sha_crypt.proofs.MadeTexts.{IsSalt}
 use Rattle.sha_crypt.specs.declared.errors.CryptError.{CryptError}
-use Rattle.stored_check.specs.declared.error.StoredError.{StoredError}
 pub use Rattle.stored_check.proofs.Normals.{as_verdict}
 use Rattle.pwcheck_c.specs.Inputs.{is_password, is_salt, is_salt_character, rounds_taken, text_takes}
 use Rattle.c_buffers.specs.Put.{IsPut}

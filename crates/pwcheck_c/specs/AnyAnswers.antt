@@ -1,61 +1,17 @@
 -- The answers to a password and a stored text of every scheme, as bytes.
 use Rattle.std.specs.Prelude.{◌≡◌, ◌≢◌, ◌⊎◌, ℕ, Bool, true, false, List, Some, Result, Ok, Err, if◌then◌else◌}
 use Rattle.stored_check.specs.declared.error.StoredError.TheVariants.{OutOfMemory}
-use Rattle.bcrypt_plain.specs.declared.error.BcryptFault.{BcryptFault}
-use Rattle.bcrypt_plain.specs.declared.error.BcryptFault.TheVariants as of_bcrypt
-use Rattle.yescrypt_plain.specs.declared.error.TextFault.{TextFault}
-use Rattle.yescrypt_plain.specs.declared.error.TextFault.TheVariants as of_text
 use Rattle.any_check.specs.Given.{given_may_lack, given_verdict}
 use Rattle.any_check.specs.Numbers.{of_cost, of_ln_r_p, of_ln_r_t, of_m_t_p, of_rounds}
 use Rattle.any_check.specs.Words.{any_word}
 use Rattle.any_check.specs.declared.numbers.SchemeCosts.{SchemeCosts}
 use Rattle.any_check.specs.declared.error.AnyError.{AnyError}
 use Rattle.any_check.specs.declared.error.AnyError.TheVariants as of_any
+use Rattle.pwcheck_c.specs.Answers.{answer_word, cause_answer}
 use Rattle.pwcheck_c.specs.Verdicts.{are_text}
-use Rattle.pwcheck_c.specs.Words.{answer_word}
 use Rattle.pwcheck_c.specs.declared.any.Limits.{Limits}
 use Rattle.pwcheck_c.specs.declared.answer.Answer.{Answer}
-use Rattle.pwcheck_c.specs.declared.answer.Answer.TheVariants.{BcryptB64, BcryptCost, BcryptFormat, BcryptObsolete, Checked}
-use Rattle.pwcheck_c.specs.declared.answer.Answer.TheVariants.{Md5Format, NoScheme, NotText, OverCost, ScryptCost, ScryptFormat}
-use Rattle.pwcheck_c.specs.declared.answer.Answer.TheVariants.{YescryptCost, YescryptFlavor, YescryptFormat, ZeroByte}
-
--- ---- causes: one answer for those that have one word
-
--- a fault of a text of bcrypt; the last line is for the faults of its form
-abbrev pub bcrypt_cause : BcryptFault → Answer
-bcrypt_cause of_bcrypt.Obsolete = BcryptObsolete
-bcrypt_cause of_bcrypt.Cost = BcryptCost
-bcrypt_cause of_bcrypt.Character = BcryptB64
-bcrypt_cause of_bcrypt.SpareBits = BcryptB64
-bcrypt_cause fault = BcryptFormat
-
--- a fault of a text `$y$`; the last line is for the faults of its form
-abbrev pub yescrypt_cause : TextFault → Answer
-yescrypt_cause of_text.Flavor = YescryptFlavor
-yescrypt_cause of_text.Parallelism = YescryptCost
-yescrypt_cause of_text.Upgrades = YescryptCost
-yescrypt_cause of_text.Rom = YescryptCost
-yescrypt_cause of_text.Memory = YescryptCost
-yescrypt_cause of_text.Cost = YescryptCost
-yescrypt_cause fault = YescryptFormat
-
--- a fault of a text `$7$`; the last line is for the faults of its form
-abbrev pub scrypt_cause : TextFault → Answer
-scrypt_cause of_text.Memory = ScryptCost
-scrypt_cause of_text.Cost = ScryptCost
-scrypt_cause fault = ScryptFormat
-
--- what `check_any` answers; the verdicts and the causes of `check_stored` keep their numbers
-abbrev pub cause_answer : Result Bool AnyError → Answer
-cause_answer (Ok b) = Checked (Ok b)
-cause_answer (Err (of_any.Stored e)) = Checked (Err e)
-cause_answer (Err of_any.NoScheme) = NoScheme
-cause_answer (Err (of_any.Md5 fault)) = Md5Format
-cause_answer (Err (of_any.Bcrypt fault)) = bcrypt_cause fault
-cause_answer (Err (of_any.Yescrypt fault)) = yescrypt_cause fault
-cause_answer (Err (of_any.Scrypt fault)) = scrypt_cause fault
-cause_answer (Err of_any.ZeroByte) = ZeroByte
-cause_answer (Err of_any.TooCostly) = OverCost
+use Rattle.pwcheck_c.specs.declared.answer.Answer.TheVariants.{Checked, NotText}
 
 -- ---- a password and a stored text
 

@@ -1,11 +1,11 @@
-pub mod Numbers
-pub mod Words
+pub mod Answers
 pub mod AnyAnswers
 pub mod Verdicts
 pub mod Costs
 pub mod Coder
 pub mod Inputs
 pub mod Texts
+pub mod Remake
 pub mod Statuses
 pub mod Written
 pub mod Version

@@ -1,5 +1,5 @@
 -- What the calls answer that give no verdict, by number.
-use Rattle.std.specs.Prelude.{ℤ, pos, negsuc}
+use Rattle.std.specs.Prelude.{ℤ, negsuc}
 
 -- -1: a number or a length is outside what is taken
 abbrev pub status_out_of_range : ℤ

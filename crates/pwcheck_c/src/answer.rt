@@ -1,12 +1,14 @@
-//! Answers and their numbers.
+//! Answers: their numbers, their words, and the answer to each cause.
 
 ghost use Rattle.std.specs.Prelude.{◌≡◌, Some};
 ghost use Rattle.std.specs.List.{slice_get};
-ghost use Rattle.pwcheck_c.specs.Numbers.{answer_of};
-ghost use Rattle.pwcheck_c.specs.Words.{answer_word};
+ghost use Rattle.pwcheck_c.specs.Answers.{answer_of, answer_word, bcrypt_cause, cause_answer, scrypt_cause, yescrypt_cause};
 
+use any_check::AnyError;
 use base64ct::Error;
+use bcrypt_plain::BcryptFault;
 use stored_check::{McfFault, PhcFault, ShaFault, ShaFormat, StoredError, word};
+use yescrypt_plain::TextFault;
 
 /// What a password and a stored text are answered with.
 #[derive(Clone, Copy)]
@@ -212,5 +214,59 @@ impl Answer {
             Answer::Checked(Err(StoredError::OutOfMemory)) => "no-memory",
             Answer::Checked(verdict) => word(&verdict),
         }
+    }
+}
+
+// The answer for a fault of a text of bcrypt.
+fn bcrypt_cause(fault: BcryptFault) -> Answer
+    ensures { result ≡ bcrypt_cause fault }
+{
+    match fault {
+        BcryptFault::Obsolete => Answer::BcryptObsolete,
+        BcryptFault::Cost => Answer::BcryptCost,
+        BcryptFault::Character | BcryptFault::SpareBits => Answer::BcryptB64,
+        _ => Answer::BcryptFormat,
+    }
+}
+
+// The answer for a fault of a text `$y$`.
+fn yescrypt_cause(fault: TextFault) -> Answer
+    ensures { result ≡ yescrypt_cause fault }
+{
+    match fault {
+        TextFault::Flavor => Answer::YescryptFlavor,
+        TextFault::Parallelism
+        | TextFault::Upgrades
+        | TextFault::Rom
+        | TextFault::Memory
+        | TextFault::Cost => Answer::YescryptCost,
+        _ => Answer::YescryptFormat,
+    }
+}
+
+// The answer for a fault of a text `$7$`.
+fn scrypt_cause(fault: TextFault) -> Answer
+    ensures { result ≡ scrypt_cause fault }
+{
+    match fault {
+        TextFault::Memory | TextFault::Cost => Answer::ScryptCost,
+        _ => Answer::ScryptFormat,
+    }
+}
+
+/// What `check_any` answers, as an answer with a number.
+pub fn cause_answer(answer: Result<bool, AnyError>) -> Answer
+    ensures { result ≡ cause_answer answer }
+{
+    match answer {
+        Ok(matches) => Answer::Checked(Ok(matches)),
+        Err(AnyError::Stored(e)) => Answer::Checked(Err(e)),
+        Err(AnyError::NoScheme) => Answer::NoScheme,
+        Err(AnyError::Md5(_)) => Answer::Md5Format,
+        Err(AnyError::Bcrypt(fault)) => bcrypt_cause(fault),
+        Err(AnyError::Yescrypt(fault)) => yescrypt_cause(fault),
+        Err(AnyError::Scrypt(fault)) => scrypt_cause(fault),
+        Err(AnyError::ZeroByte) => Answer::ZeroByte,
+        Err(AnyError::TooCostly) => Answer::OverCost,
     }
 }

@@ -1,16 +1,14 @@
 //! The verdict for every scheme.
 
 ghost use Rattle.std.specs.Prelude.{◌≡◌, IsSomeAnd, false, true};
-ghost use Rattle.pwcheck_c.specs.Numbers.{answer_of};
-ghost use Rattle.pwcheck_c.specs.AnyAnswers.{IsAnyAnswer, IsTextAnswer, bcrypt_cause, bounds_of, cause_answer, scrypt_cause, yescrypt_cause};
+ghost use Rattle.pwcheck_c.specs.Answers.{answer_of};
+ghost use Rattle.pwcheck_c.specs.AnyAnswers.{IsAnyAnswer, IsTextAnswer, bounds_of};
 
-use crate::answer::Answer;
+use crate::answer::{Answer, cause_answer};
 use crate::check::text_of;
-use any_check::{AnyCheck, AnyError, Costs, SchemeCosts};
-use bcrypt_plain::BcryptFault;
+use any_check::{AnyCheck, Costs, SchemeCosts};
 use std::alloc::Global;
 use stored_check::StoredError;
-use yescrypt_plain::TextFault;
 
 /// The most that a valid stored text may ask for, scheme by scheme. C programs know it as `struct pwcheck_limits`.
 #[repr(C)]
@@ -54,60 +52,6 @@ fn bounds_of(limits: &Limits) -> SchemeCosts
             limits.argon2_passes as u64,
             limits.argon2_lanes as u64,
         ),
-    }
-}
-
-// The answer for a fault of a text of bcrypt.
-fn bcrypt_cause(fault: BcryptFault) -> Answer
-    ensures { result ≡ bcrypt_cause fault }
-{
-    match fault {
-        BcryptFault::Obsolete => Answer::BcryptObsolete,
-        BcryptFault::Cost => Answer::BcryptCost,
-        BcryptFault::Character | BcryptFault::SpareBits => Answer::BcryptB64,
-        _ => Answer::BcryptFormat,
-    }
-}
-
-// The answer for a fault of a text `$y$`.
-fn yescrypt_cause(fault: TextFault) -> Answer
-    ensures { result ≡ yescrypt_cause fault }
-{
-    match fault {
-        TextFault::Flavor => Answer::YescryptFlavor,
-        TextFault::Parallelism
-        | TextFault::Upgrades
-        | TextFault::Rom
-        | TextFault::Memory
-        | TextFault::Cost => Answer::YescryptCost,
-        _ => Answer::YescryptFormat,
-    }
-}
-
-// The answer for a fault of a text `$7$`.
-fn scrypt_cause(fault: TextFault) -> Answer
-    ensures { result ≡ scrypt_cause fault }
-{
-    match fault {
-        TextFault::Memory | TextFault::Cost => Answer::ScryptCost,
-        _ => Answer::ScryptFormat,
-    }
-}
-
-// What `check_any` answers, as an answer with a number.
-fn cause_answer(answer: Result<bool, AnyError>) -> Answer
-    ensures { result ≡ cause_answer answer }
-{
-    match answer {
-        Ok(matches) => Answer::Checked(Ok(matches)),
-        Err(AnyError::Stored(e)) => Answer::Checked(Err(e)),
-        Err(AnyError::NoScheme) => Answer::NoScheme,
-        Err(AnyError::Md5(_)) => Answer::Md5Format,
-        Err(AnyError::Bcrypt(fault)) => bcrypt_cause(fault),
-        Err(AnyError::Yescrypt(fault)) => yescrypt_cause(fault),
-        Err(AnyError::Scrypt(fault)) => scrypt_cause(fault),
-        Err(AnyError::ZeroByte) => Answer::ZeroByte,
-        Err(AnyError::TooCostly) => Answer::OverCost,
     }
 }
 

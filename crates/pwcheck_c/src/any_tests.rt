@@ -2,6 +2,7 @@
 //! argon2.
 
 use crate::any::{Limits, pwcheck_check_any};
+use crate::words::pwcheck_word;
 
 // No text is above these.
 pub(crate) const NONE: Limits = Limits {
@@ -72,51 +73,67 @@ fn verdicts_of_every_scheme(rt: HostRuntime) {
     }
 }
 
+// Whether an answer's number has a word.
+fn has_word(number: i32, word: &str) -> bool {
+    let mut out = [b'x'; 18];
+    let n = pwcheck_word(number, &mut out);
+    n < 18 && &out[..n] == word.as_bytes() && out[n] == 0
+}
+
 #[test]
 fn causes_by_number(rt: HostRuntime) {
-    let rows: [(&[u8], i32); 16] = [
-        (b"\xff", 2),
-        (b"*", 31),
-        (b"", 31),
-        (b"$1$abcdefgh", 32),
+    let rows: [(&[u8], i32, &str); 16] = [
+        (b"\xff", 2, "not-utf8"),
+        (b"*", 31, "no-scheme"),
+        (b"", 31, "no-scheme"),
+        (b"$1$abcdefgh", 32, "md5-format"),
         (
             b"$2x$04$abcdefghijklmnopqrstuu2r9OfJnfCsdneAXAGHnS4UpFFP8WIrW",
             33,
+            "bcrypt-obsolete",
         ),
         (
             b"$2b$03$abcdefghijklmnopqrstuu2r9OfJnfCsdneAXAGHnS4UpFFP8WIrW",
             34,
+            "bcrypt-cost",
         ),
         (
             b"$2b$04$abcdefghijklmnopqrstuv2r9OfJnfCsdneAXAGHnS4UpFFP8WIrW",
             35,
+            "bcrypt-b64",
         ),
         (
             b"$2b$04$abcdefghijklmnopqrstuu2r9OfJnfCsdneAXAGHnS4UpFFP8WIr",
             36,
+            "bcrypt-format",
         ),
         (
             b"$y$/75$0123456789ab$kb1fsIrDP1wOa4Q3gNpxZkfwQ3ce8kmPbnemuN65IT2",
             37,
+            "yescrypt-flavor",
         ),
         (
             b"$y$jT5$0123456789ab$kb1fsIrDP1wOa4Q3gNpxZkfwQ3ce8kmPbnemuN65IT2",
             38,
+            "yescrypt-cost",
         ),
-        (b"$y$j75$0123456789ab", 39),
+        (b"$y$j75$0123456789ab", 39, "yescrypt-format"),
         (
             b"$7$T/..../....SodiumChloride$nlEbTww0ryKdVNlzWsYxiiWbBXRoFx2X8iNJtJTvzX.",
             40,
+            "scrypt-cost",
         ),
-        (b"$7$4/..../....SodiumChloride", 41),
-        (b"$5$rounds=1$abcdefgh$x", 15),
-        (b"$scrypt$ln=4,r=8,p=1$c2FsdHNhbHRzYWx0", 28),
-        (b"!$6$abcdefgh$x", 5),
+        (b"$7$4/..../....SodiumChloride", 41, "scrypt-format"),
+        (b"$5$rounds=1$abcdefgh$x", 15, "sha-rounds"),
+        (b"$scrypt$ln=4,r=8,p=1$c2FsdHNhbHRzYWx0", 28, "no-hash"),
+        (b"!$6$abcdefgh$x", 5, "mcf-delimiter"),
     ];
-    for (stored, number) in rows {
+    for (stored, number, word) in rows {
         let got = pwcheck_check_any(rt.alloc(), b"secret", stored, &NONE);
         assert_eq!(rt; got, number, "{stored:?}");
+        assert!(rt; has_word(number, word), "{word}");
     }
+    assert!(rt; has_word(42, "zero-byte"));
     let bcrypt = TEXTS[4].as_bytes();
     assert_eq!(rt;
         pwcheck_check_any(rt.alloc(), b"sec\0ret", bcrypt, &NONE),

@@ -2,7 +2,7 @@
 
 ghost use Rattle.std.specs.Prelude.{◌≡◌, MatchOption, IsSomeAnd, true, false};
 ghost use Rattle.std.specs.Str.{is_utf8};
-ghost use Rattle.pwcheck_c.specs.Numbers.{answer_of};
+ghost use Rattle.pwcheck_c.specs.Answers.{answer_of};
 ghost use Rattle.pwcheck_c.specs.Verdicts.{IsAnswer};
 ghost use Rattle.pwcheck_c.specs.Costs.{IsLimitedAnswer};
 

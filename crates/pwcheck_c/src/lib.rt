@@ -23,6 +23,9 @@ mod lengths;
 mod makers;
 #[cfg(test)]
 mod makers_tests;
+mod remake;
+#[cfg(test)]
+mod remake_tests;
 mod scrypt_text;
 mod sha_check;
 mod sha_text;

@@ -11,7 +11,7 @@ ghost use Rattle.c_buffers.specs.Statuses.{status_done};
 use crate::statuses::{
     DONE, NO_MEMORY, NO_ROOM, OUT_OF_RANGE, REFUSED_LENGTH, REFUSED_UTF8, REFUSED_ZERO,
 };
-use any_make::{Argon2Cost, MakeCost, MakeFault, make_text};
+use any_make::{Argon2Cost, MakeCost, MakeFault, Pbkdf2Hash, make_text};
 use std::alloc::Global;
 use yescrypt_plain::YescryptParams;
 
@@ -124,13 +124,13 @@ pub extern "C" fn pwcheck_pbkdf2_sha256_text(
     out: &mut [u8],
     len: &mut usize,
 ) -> i32
-    ensures made { IsMade (made (MakeCost.Pbkdf2Sha256 rounds) password.now salt.now)
+    ensures made { IsMade (made (MakeCost.Pbkdf2 Pbkdf2Hash.Sha256 rounds) password.now salt.now)
         out.old out.new len.old len.new result }
     ensures matches { result ≡ status_done → any_verdict accepted tag password.now (take len.new out.new) ≡ Ok true }
 {
     make(
         alloc,
-        MakeCost::Pbkdf2Sha256(rounds),
+        MakeCost::Pbkdf2(Pbkdf2Hash::Sha256, rounds),
         password,
         salt,
         out,

@@ -2,7 +2,7 @@
 
 ghost use Rattle.std.specs.Prelude.{◌≡◌, Some};
 ghost use Rattle.sha_crypt.specs.Families.{sha256_answer, sha512_answer};
-ghost use Rattle.pwcheck_c.specs.Numbers.{answer_of};
+ghost use Rattle.pwcheck_c.specs.Answers.{answer_of};
 ghost use Rattle.pwcheck_c.specs.Verdicts.{family_answer, of_family, short_answer};
 
 use crate::answer::Answer;

@@ -87,8 +87,8 @@ fn family_checks(rt: HostRuntime) {
     assert!(rt; pwcheck_sha512_check(&LONG, b"\xff") == 2);
 }
 
-// The words of all answers, by their numbers.
-const WORDS: [&str; 43] = [
+// The words of the answers before those of `any_check` alone, by their numbers; those are in any_tests.
+const WORDS: [&str; 31] = [
     "match",
     "mismatch",
     "not-utf8",
@@ -120,22 +120,10 @@ const WORDS: [&str; 43] = [
     "no-hash",
     "kdf",
     "over-cost",
-    "no-scheme",
-    "md5-format",
-    "bcrypt-obsolete",
-    "bcrypt-cost",
-    "bcrypt-b64",
-    "bcrypt-format",
-    "yescrypt-flavor",
-    "yescrypt-cost",
-    "yescrypt-format",
-    "scrypt-cost",
-    "scrypt-format",
-    "zero-byte",
 ];
 
 #[test]
-fn all_words(rt: HostRuntime) {
+fn words_by_number(rt: HostRuntime) {
     for (i, word) in WORDS.iter().enumerate() {
         let mut out = [b'x'; 18];
         let n = pwcheck_word(i as i32, &mut out);
@@ -157,7 +145,7 @@ fn words(rt: HostRuntime) {
     assert_eq!(rt; &out[..7], b"match\0r".as_slice());
     assert!(rt; pwcheck_word(9, &mut out) == 14);
     assert!(rt; pwcheck_word(29, &mut out) == 3);
-    assert!(rt; pwcheck_word(43, &mut out) == 0);
+    assert!(rt; pwcheck_word(1_000, &mut out) == 0);
     assert!(rt; pwcheck_word(-1, &mut out) == 0);
 }
 

@@ -1,8 +1,7 @@
 //! The words of answers.
 
 ghost use Rattle.std.specs.Prelude.{◌≡◌, ◌<◌, MatchOption};
-ghost use Rattle.pwcheck_c.specs.Numbers.{answer_of};
-ghost use Rattle.pwcheck_c.specs.Words.{answer_word};
+ghost use Rattle.pwcheck_c.specs.Answers.{answer_of, answer_word};
 ghost use Rattle.pwcheck_c.specs.Written.{IsWritten};
 
 use crate::answer::Answer;

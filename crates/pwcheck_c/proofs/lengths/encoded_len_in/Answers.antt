@@ -2,7 +2,6 @@ use Rattle.std.proofs.Common.{◌≤◌, ◌+◌, arith, rules}
 use Rattle.base64ct.specs.Encoding.{longest_input}
 use Rattle.pwcheck_c.proofs.EncodedLens.{encoded_len_of}
 use Rattle.pwcheck_c.proofs.lengths.encoded_len_in.Goals as goal
-use Rattle.pwcheck_c.proofs.lengths.encoded_len_in.Goals.{then-padded, else-padded}
 
 pub returns : goal.returns
 returns g c =
