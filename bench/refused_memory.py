@@ -16,7 +16,7 @@ import subprocess
 import sys
 
 TOP = os.path.dirname(os.path.dirname(os.path.abspath(__file__)))
-CRATES = ["base64ct", "mcf", "phc", "sha_crypt", "scrypt_plain", "argon2_plain", "yescrypt_plain", "pbkdf2_plain", "any_check", "any_make", "pwcheck_run", "pwcheck", "pwfile"]
+CRATES = ["base64ct", "mcf", "phc", "sha_crypt", "scrypt_plain", "argon2_plain", "yescrypt_plain", "pbkdf2_plain", "any_check", "any_make", "crypt_text", "pwcheck_run", "pwcheck", "pwfile"]
 PROGRAMS = ["pwcheck", "pwfile"]
 RUNS = {
     "pwcheck": [

@@ -6,7 +6,6 @@ use Rattle.phc.specs.declared.password_hash.PasswordHash.{PasswordHash}
 use Rattle.stored_check.specs.Verdict.{same_text}
 use Rattle.phc_kdf.specs.Numbers.{number}
 use Rattle.argon2_plain.specs.Profile.{are_taken, argon2_accepts, params_from, params_of, variant_of}
-use Rattle.argon2_plain.specs.declared.params.Params.{Params}
 use Rattle.argon2_plain.specs.declared.variant.Variant.{Variant}
 use Rattle.argon2_plain.specs.declared.variant.Variant.TheVariants.{D, I, Id}
 use Rattle.base64ct.proofs.DecodingLaws.{same_true}

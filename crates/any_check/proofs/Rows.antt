@@ -20,7 +20,6 @@ use Rattle.stored_check.proofs.Causes.{fits}
 use Rattle.stored_check.specs.Verdict.{IsVerdict, may_lack_memory, mcf_name, named_family, parts_need, text_needs, verdict}
 use Rattle.stored_check.specs.declared.error.StoredError.{StoredError}
 use Rattle.md5_plain.specs.declared.magic.Magic.{Magic}
-use Rattle.md5_plain.specs.declared.magic.Magic.TheVariants as of_magic
 use Rattle.stored_check.specs.declared.error.StoredError.TheVariants.{Mcf, PasswordTooLong}
 use Rattle.bcrypt_plain.specs.Check.{bcrypt_answer}
 use Rattle.bcrypt_plain.specs.declared.error.BcryptError.{BcryptError}

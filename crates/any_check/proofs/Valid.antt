@@ -1,9 +1,8 @@
 -- A text has a verdict exactly where it has no fault.
 use Rattle.std.proofs.Common.{◌≡◌, ℕ, ◌≤◌, Bool, true, false, List, [], length, refl, sym, ap, subst, ◌∙◌, arith, Option, Some, None}
 use Rattle.std.proofs.Common.{Result, Ok, Err}
-use Rattle.std.specs.Prelude.{◌↔◌, is_ok, if◌then◌else◌}
+use Rattle.std.specs.Prelude.{is_ok, if◌then◌else◌}
 use Rattle.std.specs.Option.{option_map}
-use Rattle.std.proofs.lemmas.Bool.{false≢true}
 use Rattle.mcf.specs.Grammar as mcf_parts
 use Rattle.mcf.specs.Grammar.{fault, mcf, parts}
 use Rattle.mcf.specs.declared.error.Error as mcf_error

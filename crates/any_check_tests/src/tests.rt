@@ -18,7 +18,7 @@ fn word_of(answer: &Result<bool, AnyError>) -> &'static str {
 }
 
 // Texts of the password `secret`.
-const TEXTS: [&str; 16] = [
+pub const TEXTS: [&str; 16] = [
     "$1$abcdefgh$cHJi5PXp/ki/ktXzqlk6I1",
     "$apr1$abcdefgh$h9FWgUz3n9YxylKLlR5SQ/",
     "$5$abcdefgh$gruCpC7VkOTspMQTTSAR8mtlO9Upms.fwqE5y16JVM.",

@@ -1,6 +1,6 @@
 -- The law for each method, by the prefix of the text.
-use Rattle.std.proofs.Common.{◌≡◌, ◌⊎◌, ℕ, ◌≤◌, Bool, true, false, List, ◌++◌, length, drop, refl, sym, subst, inl, inr, Ok}
-use Rattle.std.specs.Prelude.{◌↔◌, ◌||◌, Option, Some, None, codes, is_some, if◌then◌else◌}
+use Rattle.std.proofs.Common.{◌≡◌, ℕ, ◌≤◌, Bool, true, false, List, ◌++◌, length, drop, refl, sym, subst, inl, inr, Ok}
+use Rattle.std.specs.Prelude.{◌↔◌, ◌||◌, Option, Some, None, codes, is_some}
 use Rattle.std.proofs.lemmas.Bool.{false≢true, or_cases}
 use Rattle.phc.specs.declared.password_hash.PasswordHash.{PasswordHash}
 use Rattle.sha_crypt.specs.declared.errors.Family.TheVariants.{Sha256, Sha512}
@@ -9,8 +9,7 @@ use Rattle.crypt_text.specs.Settings.{begins}
 use Rattle.scheme_list.proofs.Found.{found_holds}
 use Rattle.scheme_list.specs.Schemes.{has_prefix, method_of, schemes}
 use Rattle.scheme_list.specs.declared.schemes.Scheme.{Scheme}
-use Rattle.scheme_list.specs.declared.schemes.Scheme.TheVariants.{Argon2d, Argon2i, Argon2id, Bcrypt, Md5Crypt, Pbkdf2Sha256}
-use Rattle.scheme_list.specs.declared.schemes.Scheme.TheVariants.{Pbkdf2Sha512, Scrypt, ScryptCrypt, Sha256Crypt, Sha512Crypt, Yescrypt}
+use Rattle.scheme_list.specs.declared.schemes.Scheme.TheVariants.{Bcrypt, Md5Crypt, ScryptCrypt, Sha256Crypt, Sha512Crypt, Yescrypt}
 use Rattle.crypt_text.specs.Texts.{crypt_text, takes_memory}
 use Rattle.crypt_law.specs.Law.{MatchesExactly}
 use Rattle.crypt_law.proofs.Answers.{as_any}
@@ -67,12 +66,8 @@ module _ (accepted : PasswordHash → List ℕ → ℕ → Bool)
   by_scheme text ScryptCrypt is =
       of_prefix text (codes "$7$") (only (begins text (codes "$7$")) is)
       (λ short fits h. scrypt_law accepted tag phrase (drop 3 text) matches short (fits refl) h)
-  by_scheme text Scrypt is = absurd (false≢true is)
-  by_scheme text Pbkdf2Sha256 is = absurd (false≢true is)
-  by_scheme text Pbkdf2Sha512 is = absurd (false≢true is)
-  by_scheme text Argon2d is = absurd (false≢true is)
-  by_scheme text Argon2i is = absurd (false≢true is)
-  by_scheme text Argon2id is = absurd (false≢true is)
+  -- the others have no prefix
+  by_scheme text other is = absurd (false≢true is)
 
   by_method : (text : List ℕ) (o : Option Scheme) → method_of text ≡ o → is_some o ≡ true → Holds text
   by_method text None is some = absurd (false≢true some)

@@ -30,7 +30,7 @@ use Rattle.scheme_list.specs.declared.schemes.Scheme.TheVariants.{Yescrypt}
 use Rattle.crypt_text.specs.Settings.{YescryptSetting, salt_bytes, yescrypt_setting}
 use Rattle.scheme_list.specs.Schemes.{method_of}
 use Rattle.crypt_text.specs.Texts as crypt
-use Rattle.crypt_text.specs.Texts.{crypt_text, if_setting, if_short, method_text}
+use Rattle.crypt_text.specs.Texts.{crypt_text, if_setting, method_text}
 use Rattle.crypt_law.proofs.Answers.{IsTold, as_any, told_of}
 use Rattle.crypt_law.proofs.Characters.{characters_clean, field_clean}
 use Rattle.crypt_law.proofs.Clean.{are_clean, is_clean, none_refused}

@@ -1,12 +1,12 @@
 -- What the calls of the table rest on.
 use Rattle.std.proofs.Common.{◌≡◌, ◌⊎◌, ℕ, suc, ◌+◌, ◌≤◌, ◌<◌, Bool, true, false, List, [], ◌∷◌, ◌++◌, length, cond}
 use Rattle.std.proofs.Common.{refl, sym, ap, ◌∙◌, arith, inl, inr, Option, Some, None, Result, Ok, Err, Bor}
-use Rattle.std.specs.Prelude.{◌&&◌, ◌||◌, IfOk, IfSome, MatchOption, String, string_bytes, codes, is_ok, is_some, nat_le, nat_lt, not}
-use Rattle.std.specs.Prelude.{unwrap_or, ◌^◌, if◌then◌else◌}
+use Rattle.std.specs.Prelude.{◌&&◌, ◌||◌, IfOk, IfSome, MatchOption, String, string_bytes, codes, is_ok, is_some, nat_le, not}
+use Rattle.std.specs.Prelude.{unwrap_or, ◌^◌}
 use Rattle.std.specs.Option.{option_map}
 use Rattle.std.specs.List.{after_first, before_first, list_any, position_or_len}
 use Rattle.std.specs.Str.{is_utf8}
-use Rattle.std.proofs.lemmas.Bool.{and_parts, false≢true}
+use Rattle.std.proofs.lemmas.Bool.{false≢true}
 use Rattle.std.proofs.lemmas.Bool.Decides.{nat_tests}
 use Rattle.indexmap.specs.IndexMap.{insert_entry}
 use Rattle.base64ct.specs.Encoding.{EachBelow, longest_input}
@@ -22,7 +22,7 @@ use Rattle.stored_check.specs.Verdict.{same_text}
 use Rattle.pw_file.specs.Policy.{IsLawful, TextPolicy}
 use Rattle.pw_file.specs.Upgraded.{upgraded_text, upgraded_key}
 use Rattle.pieces.specs.Faults.{first_fault, unless}
-use Rattle.pw_file.specs.Answers.{IsAnswer, bad_text, check_answer, open_check, check_may_lack, checked, has_room, open_lack}
+use Rattle.pw_file.specs.Answers.{IsAnswer, bad_text, check_answer, check_may_lack, checked, has_room}
 use Rattle.pw_file.specs.Answers.{set_fault, upgrade_answer, open_upgrade, is_match, upgrade_may_lack, done_of}
 use Rattle.pw_file.specs.Answers.{done_or_fault, exchange_answer, open_text, set_answer, with_salt}
 use Rattle.pw_file.specs.Commands.{by_cut, command, cut_at_tab}

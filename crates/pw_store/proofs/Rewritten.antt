@@ -1,11 +1,10 @@
 -- The lines of the rows make the same rows again.
 use Rattle.std.proofs.Common.{◌≡◌, ℕ, ◌+◌, ◌*◌, ◌≤◌, suc, Bool, true, false, cond, List, [], ◌∷◌, ◌++◌, length, map, refl, sym, ap, ◌∙◌, subst, arith, append_assoc, Option, Some, None, Result, Ok, Err}
-use Rattle.std.specs.Prelude.{nat_le, nat_lt, if◌then◌else◌}
+use Rattle.std.specs.Prelude.{nat_le, nat_lt}
 use Rattle.std.specs.List.{flat_map, list_any}
 use Rattle.std.specs.Map.{keys_of}
 use Rattle.std.proofs.lemmas.Bool.Decides.{nat_tests}
 use Rattle.std.proofs.lemmas.List.{append-nil, length-append, map-append}
-use Rattle.indexmap.specs.IndexMap.{insert_entry}
 use Rattle.pw_file.specs.Policy.{IsLawful, TextPolicy}
 use Rattle.stored_check.specs.Verdict.{same_text}
 use Rattle.line_log.specs.Log.{AreWhole, joined, open_lines}

@@ -1,6 +1,6 @@
 -- What a line of a password file is answered with, where every scheme has a verdict.
 use Rattle.std.specs.Prelude.{◌≡◌, ◌⊎◌, ℕ, Bool, true, false, List, [], ◌∷◌, ◌++◌, length, nat_lt, ◌&&◌, codes}
-use Rattle.std.specs.Prelude.{if◌then◌else◌, Option, Some, None, Result, Ok, Err}
+use Rattle.std.specs.Prelude.{if◌then◌else◌, Option, Ok, Err}
 use Rattle.std.specs.List.{list_any, before_last, after_last}
 use Rattle.std.specs.Str.{is_utf8}
 use Rattle.pieces.specs.Characters.{is_tab}
@@ -10,7 +10,6 @@ use Rattle.stored_check.specs.declared.error.StoredError.TheVariants.{OutOfMemor
 use Rattle.any_check.specs.Given.{given_may_lack, given_verdict}
 use Rattle.any_check.specs.Words.{any_word}
 use Rattle.any_check.specs.declared.numbers.SchemeCosts.{SchemeCosts}
-use Rattle.any_check.specs.declared.error.AnyError.{AnyError}
 use Rattle.any_check.specs.declared.error.AnyError.TheVariants.{Stored}
 use Rattle.shadow_check.specs.declared.lines.LineAnswer.{LineAnswer}
 use Rattle.shadow_check.specs.declared.lines.LineAnswer.TheVariants.{BadLine, Checked, TooLong}

@@ -24,7 +24,6 @@ use Rattle.stored_check.specs.declared.error.StoredError.{StoredError}
 use Rattle.stored_check.specs.declared.error.StoredError.TheVariants.{PasswordTooLong}
 use Rattle.yescrypt_plain.specs.Check.{is_verdict, scrypt_answer, scrypt_matches, scrypt_verdict, yescrypt_answer}
 use Rattle.yescrypt_plain.specs.Check.{yescrypt_matches, yescrypt_verdict}
-use Rattle.yescrypt_plain.specs.Check as crypt
 use Rattle.yescrypt_plain.specs.Text.{ScryptMeaning, YescryptMeaning, scrypt_text, yescrypt_text}
 use Rattle.yescrypt_plain.specs.declared.error.CheckError.TheVariants as of_crypt
 use Rattle.yescrypt_plain.specs.declared.error.TextFault.{TextFault}
@@ -36,8 +35,8 @@ use Rattle.scheme_list.specs.Schemes.{scheme_named}
 use Rattle.any_check.specs.declared.error.AnyError.{AnyError}
 use Rattle.any_check.specs.declared.error.AnyError.TheVariants.{Stored}
 use Rattle.scheme_list.specs.declared.schemes.Scheme.{Scheme}
-use Rattle.scheme_list.specs.declared.schemes.Scheme.TheVariants.{Argon2d, Argon2i, Argon2id, Bcrypt, Md5Crypt, Pbkdf2Sha256}
-use Rattle.scheme_list.specs.declared.schemes.Scheme.TheVariants.{Pbkdf2Sha512, Scrypt, ScryptCrypt, Sha256Crypt, Sha512Crypt, Yescrypt}
+use Rattle.scheme_list.specs.declared.schemes.Scheme.TheVariants.{Argon2d, Argon2i, Argon2id, Pbkdf2Sha256}
+use Rattle.scheme_list.specs.declared.schemes.Scheme.TheVariants.{Pbkdf2Sha512, Scrypt, ScryptCrypt, Yescrypt}
 use Rattle.pw_file.specs.Policy.{IsLawful}
 use Rattle.pw_file.specs.StoredLaws.{IsScryptText, fresh_good, fresh_read, is_text_byte, stored_lawful, text_bytes}
 use Rattle.pw_file.specs.StoredTexts.{verdict_on}
@@ -257,11 +256,6 @@ scrypt_judged password text h = scrypt_cases password (scrypt_text text) h
 row_judged : (password text : List ℕ) (scheme : Option Scheme)
     → row_may_lack accepted needs_memory tag scheme password text ≡ true
     → IsJudged password (scheme_answer accepted tag scheme password text)
-row_judged password text None h = absurd (false≢true h)
-row_judged password text (Some Md5Crypt) h = absurd (false≢true h)
-row_judged password text (Some Sha256Crypt) h = absurd (false≢true h)
-row_judged password text (Some Sha512Crypt) h = absurd (false≢true h)
-row_judged password text (Some Bcrypt) h = absurd (false≢true h)
 row_judged password text (Some Yescrypt) h = yescrypt_judged password text h
 row_judged password text (Some ScryptCrypt) h = scrypt_judged password text h
 row_judged password text (Some Scrypt) h = record_judged password text h
@@ -270,6 +264,7 @@ row_judged password text (Some Pbkdf2Sha512) h = record_judged password text h
 row_judged password text (Some Argon2d) h = record_judged password text h
 row_judged password text (Some Argon2i) h = record_judged password text h
 row_judged password text (Some Argon2id) h = record_judged password text h
+row_judged password text other h = absurd (false≢true h)
 
 lack_judged : (password text : List ℕ) → given_may_lack None password text ≡ true
     → is_ok (given_verdict None password text) ≡ true

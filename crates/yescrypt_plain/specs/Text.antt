@@ -1,6 +1,6 @@
 -- The texts `$y$parameters$salt$hash` and `$7$parameters-and-salt$hash` of crypt(5), cut at each `$`: the first fault, or
 -- the parameters, the salt and the hash. The order of the faults is ours.
-use Rattle.std.specs.Prelude.{ℕ, ◌&&◌, ◌||◌, Bool, List, [], ◌∷◌, codes, drop, length, nat_eq, nat_le, Option, Some, None, Result, Ok, Err}
+use Rattle.std.specs.Prelude.{ℕ, ◌&&◌, Bool, List, [], ◌∷◌, codes, drop, length, nat_eq, nat_le, Option, Some, None, Result, Ok, Err}
 use Rattle.std.specs.Prelude.{if◌then◌else◌}
 use Rattle.std.specs.Cmp.Lexicographic.{pointwise}
 use Rattle.std.specs.List.{list_all}

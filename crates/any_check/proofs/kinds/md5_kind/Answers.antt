@@ -1,4 +1,4 @@
-use Rattle.std.proofs.Common.{rules, ◌≡◌, ◌∙◌, sym, ap, None, Some}
+use Rattle.std.proofs.Common.{rules, ◌≡◌, ◌∙◌, sym, None, Some}
 use Rattle.mcf.specs.Grammar.{fault, parts}
 use Rattle.md5_plain.specs.Verdict.{magic_of}
 use Rattle.any_check.specs.Kinds.{md5_fields_kind}

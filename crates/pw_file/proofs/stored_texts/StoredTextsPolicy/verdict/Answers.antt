@@ -1,5 +1,3 @@
-use Rattle.std.proofs.Common.{Result, Ok, Err}
-use Rattle.stored_check.specs.declared.error.StoredError.TheVariants.{OutOfMemory}
 use Rattle.pw_file.proofs.StoredVerdicts.{wants}
 use Rattle.pw_file.proofs.stored_texts.StoredTextsPolicy.verdict.Goals as goal
 

@@ -1,7 +1,7 @@
 use Rattle.std.proofs.Common.{Err}
 use Rattle.pw_file.specs.Answers.{done_of}
 use Rattle.pw_file.specs.History.{text_in}
-use Rattle.std.proofs.Common.{length, sym}
+use Rattle.std.proofs.Common.{length}
 use Rattle.pw_file.proofs.Calls.{set_content}
 use Rattle.pw_file.proofs.TableAnswers.{error_is_no_value, exchange_done}
 use Rattle.pw_file.proofs.table.Table.exchange.Goals as goal
