@@ -4,7 +4,7 @@ import os
 import sys
 
 TOP = os.path.dirname(os.path.dirname(os.path.abspath(__file__)))
-PAGES = ("README.md", "CONTRIBUTING.md", "SECURITY.md", "CHANGELOG.md", "NOTICE", "docs/*.md", "bench/README.md", "man/*", "include/*.h")
+PAGES = ("README.md", "CONTRIBUTING.md", "SECURITY.md", "CHANGELOG.md", "NOTICE", "docs/*.md", "docs/internals/*.md", "bench/README.md", "man/*", "include/*.h")
 
 
 def page_texts():

@@ -1,5 +1,5 @@
 #!/usr/bin/env python3
-"""Checks what the pages name: each path of the repository, and each must-fail edit of docs/ARCHITECTURE.md's list.
+"""Checks what the pages name: each path of the repository, and each must-fail edit of docs/internals/ARCHITECTURE.md's list.
 
 usage: checks/pages.py             (it ends with 1 where a page names what isn't there, or where one of PLAIN has a sentence of more than 40 words)
        checks/pages.py sentences   (prints for each page its sentences, their mean length in words, and those of more than 40 words)
@@ -48,7 +48,7 @@ def dead_edits(text):
         for crate_name, name in re.findall(r"`(\w+)`|\b([a-z]\w*_\w+)\b", row):
             crate = crate_name or crate
             if name and not os.path.exists(os.path.join(TOP, "crates", crate or "", "must-fail", name + ".edit")):
-                yield f"docs/ARCHITECTURE.md: {crate} has no edit {name}"
+                yield f"docs/internals/ARCHITECTURE.md: {crate} has no edit {name}"
 
 
 def sentences(text):
@@ -90,7 +90,7 @@ def main():
         faults += dead_paths(page, text)
         if page in PLAIN:
             faults += long_sentences(page, text)
-        if page == "docs/ARCHITECTURE.md":
+        if page == "docs/internals/ARCHITECTURE.md":
             faults += dead_edits(text)
     end(faults, f"pages: {len(pages)} read")
 

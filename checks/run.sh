@@ -49,7 +49,7 @@ python3 checks/exports.py "$work/lib"
 python3 bindings/try.py "$work/try"
 gcc -std=c99 -g -O1 -Wall -Wextra -Werror -fsanitize=address,undefined -fno-sanitize-recover=all \
   -I "$work/lib/include" checks/c_calls.c "$work/lib/lib/libpwcheck.a" -o "$work/c_calls"
-"$work/c_calls"
+"$work/c_calls" crates/pwtool/data/lines.txt crates/pwtool/stdout
 if [ -e /usr/include/crypt.h ]; then
   python3 crypt3/library.py "$work/crypt"
   # pwcrypt.c is compiled for the sanitizers with the program that calls it. Its null pointers are meant.
