@@ -85,5 +85,5 @@ stack() { # LIBRARY BYTES
   }
   echo "c_faces.sh: no call of $1 takes more than $2 bytes of stack, or leaves anything of a password"
 }
-stack libpwcheck.so.1.1 12800
+stack libpwcheck.so.1.1 8192
 stack libpwcrypt.so.1.0 8192
