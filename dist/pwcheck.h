@@ -13,11 +13,11 @@
  *   at most 304 MiB, and give it back; so does pwcheck_check_any, which may take more, as the stored text asks: 2 GiB
  *   for Argon2. Bound it. pwcheck_yescrypt_text and pwcheck_argon2id_text take what the numbers of the call ask for.
  *   They are not for signal handlers, nor for the forked child of a process with threads.
- * - The time of a check is told by the stored text: its rounds, or the parameters of scrypt. SHA-crypt's grows with the
+ * - The stored text sets the time of a check: its rounds, or the parameters of scrypt. SHA-crypt's grows with the
  *   square of the password's length too, so it takes passwords of at most 4,096 bytes. A stored text of another's
  *   choice may ask for hours: bound it by pwcheck_check_limited, or by the limits of pwcheck_check_any.
- * - The processor is x86-64-v2 or later. No call takes more than 12,800 bytes of stack beside malloc's, as
- *   checks/stack.py measures: a thread of 24 KB is enough, and one of PTHREAD_STACK_MIN (16 KB) isn't.
+ * - The processor is x86-64-v2 or later. No call takes more than 8,192 bytes of stack beside malloc's, as
+ *   checks/stack.py measures: a thread of PTHREAD_STACK_MIN (16 KB) is enough.
  * - After each call that takes a password the stack that it used, the vector registers and the memory that it took are
  *   overwritten or given back to the system. The caller's own copies, swap and core dumps are not the library's.
  *
@@ -28,7 +28,7 @@
  * - PWCHECK_OUT_OF_MEMORY is no verdict, and PWCHECK_OVER_COST is none: tell the user to try later, and an operator.
  *   Don't count it as a wrong password.
  * - For a user that doesn't exist check the password against a fixed text of the same scheme and cost as the others,
- *   and throw the answer away. Else the time tells who exists.
+ *   and throw the answer away. Else the time shows who exists.
  * - Draw salts by getrandom(2), arc4random_buf(3) or what else the system has for secrets, never by rand(3).
  *
  * How to make a text to store, with PWCHECK_DONE the one status that it is there:
@@ -36,6 +36,7 @@
  *       size_t n;
  *       if (pwcheck_make(password, len, text, sizeof text, &n) == PWCHECK_DONE)
  *           keep(text, n);                                  n bytes, and no zero after them
+ * After a match pwcheck_needs_remake(stored, m) says whether to keep such a text in the place of the one that matched.
  */
 #ifndef PWCHECK_H
 #define PWCHECK_H
@@ -314,6 +315,12 @@ int32_t pwcheck_sha512_crypt_text(const uint8_t *password, size_t password_len, 
  * version may recommend more. PWCHECK_NO_RANDOM where the system gives no random bytes. From version 1.1 on. */
 PWCHECK_MUST_USE PWCHECK_NONNULL
 int32_t pwcheck_make(const uint8_t *password, size_t password_len, uint8_t *out, size_t out_len, size_t *len);
+
+/* Whether a stored text is another one than pwcheck_make makes: its cost is below what its source recommends (as `pwtool
+ * survey` judges), it is of another scheme than Argon2id, or it has no verdict. Nothing is hashed. Ask after a match, and
+ * then store the text that pwcheck_make makes of the same password. From version 1.1 on. */
+PWCHECK_MUST_USE PWCHECK_NONNULL
+bool pwcheck_needs_remake(const uint8_t *stored, size_t stored_len);
 
 /* The whole text of bcrypt, yescrypt, Argon2id and PBKDF2 with SHA-256, without a zero behind it; `*len` is its length,
  * and is written only with PWCHECK_DONE. The salt is 16 bytes, which the caller draws at random; a key has 32 bytes.
