@@ -2,7 +2,7 @@
 
 ghost use Rattle.std.specs.Prelude.{◌≡◌, ◌<◌, ◌≤◌, Some, length};
 ghost use Rattle.std.specs.List.{slice_get};
-ghost use Rattle.scheme_list.specs.Schemes.{place, row_of, schemes};
+ghost use Rattle.scheme_list.specs.Schemes.{has_identifier, place, row_of, schemes};
 
 /// A scheme.
 #[derive(Clone, Copy, Debug, PartialEq, Eq)]
@@ -84,6 +84,26 @@ impl Scheme {
         ensures scheme { slice_get schemes place ≡ Some result }
     {
         SCHEMES[place]
+    }
+
+    /// Whether an identifier, which is what a text has between its first two `$`, is one of its texts'.
+    pub fn has_identifier(self, id: &str) -> bool
+        ensures identifier { result ≡ has_identifier id.now self }
+    {
+        match self {
+            Scheme::Md5Crypt => id == "1" || id == "apr1",
+            Scheme::Sha256Crypt => id == "5",
+            Scheme::Sha512Crypt => id == "6",
+            Scheme::Bcrypt => id == "2a" || id == "2b" || id == "2y" || id == "2" || id == "2x",
+            Scheme::Yescrypt => id == "y",
+            Scheme::ScryptCrypt => id == "7",
+            Scheme::Scrypt => id == "scrypt",
+            Scheme::Pbkdf2Sha256 => id == "pbkdf2-sha256",
+            Scheme::Pbkdf2Sha512 => id == "pbkdf2-sha512",
+            Scheme::Argon2d => id == "argon2d",
+            Scheme::Argon2i => id == "argon2i",
+            Scheme::Argon2id => id == "argon2id",
+        }
     }
 
     /// The name.

@@ -5,9 +5,9 @@ use Rattle.line_io.specs.Devices.{WhereTold}
 use Rattle.line_io.specs.Lines.{lines}
 use Rattle.line_program.specs.Outcome.{Outcome}
 use Rattle.line_program.specs.Rules.{LineRules}
-use Rattle.shadow_fields.specs.Loads.{Loaded}
-use Rattle.shadow_fields.specs.Passwords.{UserPasswords, password_in, password_of}
-use Rattle.shadow_fields.specs.Wanted.{LoadedWanted, has_line, is_in, wanted_password}
+use Rattle.shadow_fields.specs.Loads.{Loaded, Unfinished}
+use Rattle.shadow_fields.specs.Passwords.{UserPasswords, is_given, password_in, password_of}
+use Rattle.shadow_fields.specs.Wanted.{LoadedWanted, has_line, is_in, is_wanted_line, wanted_password}
 use Rattle.shadow_check.specs.FewerOutcome.{FewerOutcome, WantedOutcome}
 use Rattle.shadow_check.specs.JoinOutcome.{JoinOutcome}
 use Rattle.shadow_check.specs.NoText.{NoTextOutcome, no_text_rules}
@@ -18,9 +18,9 @@ use Rattle.shadow_check.proofs.TwoFiles.{both, first_alone}
 -- ---- a table that ended early, or that has what the file says
 
 module _ (rows : UserPasswords) (status max : ℕ) where
-  loaded_early : (held taken added : List ℕ) → Loaded rows status max held taken added
-      → (added ≡ []) × (status ≡ 6 → max < length held)
-  loaded_early held taken added o = (o.nothing, o.budget)
+  loaded_early : 1 < status → (held taken added : List ℕ) → Loaded rows status max held taken added
+      → (added ≡ []) × Unfinished is_given status max held
+  loaded_early high held taken added o = (o.nothing, o.early high)
 
   loaded_rows : status ≤ 1 → (held taken added : List ℕ) → Loaded rows status max held taken added
       → (added ≡ []) × (length held ≤ max) × (password_in rows ≡ password_of (lines held))
@@ -31,9 +31,9 @@ module _ (rows : UserPasswords) (status max : ℕ) where
   loaded_users low held taken added o = (o.nothing, (o.done low).0, λ i user. is_some (((o.done low).2 user) i))
 
   module _ (is_wanted : List ℕ → Bool) where
-    wanted_early : (held taken added : List ℕ) → LoadedWanted is_wanted rows status max held taken added
-        → (added ≡ []) × (status ≡ 6 → max < length held)
-    wanted_early held taken added o = (o.nothing, o.budget)
+    wanted_early : 1 < status → (held taken added : List ℕ) → LoadedWanted is_wanted rows status max held taken added
+        → (added ≡ []) × Unfinished (is_wanted_line is_wanted) status max held
+    wanted_early high held taken added o = (o.nothing, o.early high)
 
     wanted_rows : status ≤ 1 → (held taken added : List ℕ) → LoadedWanted is_wanted rows status max held taken added
         → (added ≡ []) × (length held ≤ max) × (password_in rows ≡ wanted_password is_wanted (lines held))
@@ -48,8 +48,7 @@ module _ (owed : (List ℕ → Option (List ℕ)) → LineRules) (rows : UserPas
       → IfSome left (λ given. WhereTold t t w w_mid
       (λ held taken added. JoinOutcome owed (Passwords status) max given held taken added))
   passwords_end high =
-      first_alone (1 < status) (λ given. status ≡ 6 → max < length given) (Loaded rows status max)
-      (loaded_early rows status max) high
+      first_alone (λ given. Unfinished is_given status max given) (Loaded rows status max) (loaded_early rows status max high)
 
   -- they were, and the texts followed
   pub texts_end : (status2 : ℕ) → status ≤ 1 → (left left_now t t_now w w_mid w_now : Option (List ℕ))
@@ -69,8 +68,8 @@ module _ (owed : (List ℕ → Option (List ℕ)) → LineRules) (rows : UserPas
         → IfSome left (λ given. WhereTold t t w w_mid
         (λ held taken added. WantedOutcome owed is_wanted (Passwords status) max given held taken added))
     wanted_end high =
-        first_alone (1 < status) (λ given. status ≡ 6 → max < length given) (LoadedWanted is_wanted rows status max)
-        (wanted_early rows status max is_wanted) high
+        first_alone (λ given. Unfinished (is_wanted_line is_wanted) status max given) (LoadedWanted is_wanted rows status max)
+        (wanted_early rows status max is_wanted high)
 
     pub wanted_texts_end : (status2 : ℕ) → status ≤ 1 → (left left_now t t_now w w_mid w_now : Option (List ℕ))
         → WhereTold left left_now w w_mid (λ held taken added. LoadedWanted is_wanted rows status max held taken added)
@@ -90,8 +89,8 @@ module _ (owed : (List ℕ → Option (List ℕ)) → LineRules) (rows : UserPas
       (λ held taken added. FewerOutcome owed (Err status) max first given held taken added)))
   users_end high left left_now None t w w_mid o = search rules
   users_end high left left_now (Some given) t w w_mid o =
-      first_alone (1 < status) (λ first. status ≡ 6 → max < length first) (Loaded rows status max)
-      (loaded_early rows status max) high left left_now t w w_mid o
+      first_alone (λ first. Unfinished is_given status max first) (Loaded rows status max) (loaded_early rows status max high)
+      left left_now t w w_mid o
 
   -- they were, and the others followed
   pub fewer_end : (end : JoinEnd) → status ≤ 1 → (left left_now p t t_now w w_mid w_now : Option (List ℕ))
@@ -115,8 +114,7 @@ module _ (rows : UserPasswords) (status max : ℕ) where
       → IfSome left (λ given. WhereTold t t w w_mid
       (λ held taken added. NoTextOutcome (Texts status) max given held taken added))
   no_texts_end high =
-      first_alone (1 < status) (λ given. status ≡ 6 → max < length given) (Loaded rows status max)
-      (loaded_early rows status max) high
+      first_alone (λ given. Unfinished is_given status max given) (Loaded rows status max) (loaded_early rows status max high)
 
   -- they were, and the passwords followed
   pub told_end : (status2 : ℕ) → status ≤ 1 → (left left_now t t_now w w_mid w_now : Option (List ℕ))

@@ -6,10 +6,10 @@ use Rattle.line_io.specs.Devices.{WhereTold}
 use Rattle.line_io.proofs.Moved.{appends_more, consumes_none}
 
 -- the first wrote nothing, and there was no second
-module _ (A : Type 0) (B : List ℕ → Type 0) (P : List ℕ → List ℕ → List ℕ → Type 0)
-    (says : (held taken added : List ℕ) → P held taken added → (added ≡ []) × B held) (a : A) where
+module _ (A : List ℕ → Type 0) (P : List ℕ → List ℕ → List ℕ → Type 0)
+    (says : (held taken added : List ℕ) → P held taken added → (added ≡ []) × A held) where
   pub first_alone : (left left_now t w w_mid : Option (List ℕ)) → WhereTold left left_now w w_mid P
-      → IfSome left (λ given. WhereTold t t w w_mid (λ held taken added. A × B given × (taken ≡ []) × (added ≡ [])))
+      → IfSome left (λ given. WhereTold t t w w_mid (λ held taken added. A given × (taken ≡ []) × (added ≡ [])))
   first_alone None left_now t w w_mid o = search rules
   first_alone (Some given) None t w w_mid o = search rules
   first_alone (Some given) left_now None w w_mid o = search rules
@@ -17,7 +17,7 @@ module _ (A : Type 0) (B : List ℕ → Type 0) (P : List ℕ → List ℕ → L
   first_alone (Some given) (Some given_now) (Some held) (Some x) w_mid o =
       let said = says given o.0 o.1 o.4 in
       let nothing : Appends (Some x) w_mid [] = rw (said.0) at o.3 in
-      ([], [], consumes_none (Some held), nothing, (a, said.1, refl, refl))
+      ([], [], consumes_none (Some held), nothing, (said.1, refl, refl))
 
 -- the first wrote nothing, and what it found decides on the second
 module _ {X : Type 0} (O : X → List ℕ → List ℕ → List ℕ → Type 0) (found : X) (F : List ℕ → X) (max : ℕ)

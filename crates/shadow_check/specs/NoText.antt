@@ -1,10 +1,12 @@
 -- The users of a file of passwords, those without a text told.
-use Rattle.std.specs.Prelude.{◌≡◌, ◌<◌, ◌≤◌, ℕ, Bool, false, List, [], ◌∷◌, ◌++◌, length, nat_lt, codes, if◌then◌else◌}
+use Rattle.std.specs.Prelude.{◌≡◌, ◌≤◌, ℕ, Bool, false, List, [], ◌∷◌, ◌++◌, length, nat_lt, codes, if◌then◌else◌}
 use Rattle.line_program.specs.Outcome.{Outcome}
 use Rattle.line_program.specs.Rules.{LineRules, each_line}
 use Rattle.line_io.specs.Limits.{line_max}
 use Rattle.line_io.specs.Lines.{lines}
 use Rattle.shadow_fields.specs.Fields.{has_user, user_of}
+use Rattle.shadow_fields.specs.Loads.{Unfinished}
+use Rattle.shadow_fields.specs.Passwords.{is_given}
 use Rattle.shadow_fields.specs.Wanted.{has_line}
 use Rattle.shadow_check.specs.declared.join.JoinEnd.{JoinEnd}
 use Rattle.shadow_check.specs.declared.join.JoinEnd.TheVariants.{Passwords, Texts}
@@ -35,6 +37,6 @@ no_text_rules has_text = each_line (no_text_output has_text) (no_text_is_good ha
 -- passwords is answered by whether its user has a line in the texts.
 abbrev pub NoTextOutcome : JoinEnd → ℕ → List ℕ → List ℕ → List ℕ → List ℕ → Type 0
 NoTextOutcome (Texts status) max texts held taken added =
-    (1 < status) × (status ≡ 6 → max < length texts) × (taken ≡ []) × (added ≡ [])
+    Unfinished is_given status max texts × (taken ≡ []) × (added ≡ [])
 NoTextOutcome (Passwords status) max texts held taken added =
     (length texts ≤ max) × Outcome (no_text_rules (has_line (lines texts))) status max held taken added

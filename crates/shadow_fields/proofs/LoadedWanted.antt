@@ -5,14 +5,14 @@ use Rattle.std.proofs.lemmas.Bool.Decides.{nat_tests}
 use Rattle.std.specs.List.{list_all}
 use Rattle.line_io.specs.Lines.{lines}
 use Rattle.line_io.specs.Runs.{IsPrefix}
-use Rattle.line_program.specs.Rules.{after_lines, all_good, replies}
+use Rattle.line_program.specs.Rules.{after_lines, all_good, from_state, replies}
 use Rattle.line_program.specs.Outcome.{StateOutcome}
 use Rattle.shadow_fields.specs.Fields.{rest_of, user_of}
 use Rattle.shadow_fields.specs.Passwords.{UserPasswords, is_given, is_same, password_behind, password_in, password_of, with_password}
-use Rattle.shadow_fields.specs.Wanted.{LoadedWanted, has_line, is_in, wanted_behind, wanted_password}
+use Rattle.shadow_fields.specs.Wanted.{LoadedWanted, has_line, is_in, is_wanted_line, wanted_behind, wanted_password}
 use Rattle.shadow_fields.specs.WantedRules.{loading_wanted_rules}
 use Rattle.shadow_fields.specs.declared.wanted.LoadingWanted.{LoadingWanted}
-use Rattle.shadow_fields.proofs.Loaded.{none_before}
+use Rattle.shadow_fields.proofs.Loaded.{none_before, unfinished}
 use Rattle.shadow_fields.proofs.Tables.{password_inserted, same_true}
 
 -- ---- behind a line
@@ -111,6 +111,10 @@ rows_after : (s : LoadingWanted) (ls : List (List ℕ))
 rows_after s [] = refl
 rows_after s (l ∷ ls) = rows_after (loading_wanted_rules.after s l) ls
 
+users_stay : (s : LoadingWanted) (ls : List (List ℕ)) → (after_lines loading_wanted_rules s ls).users ≡ s.users
+users_stay s [] = refl
+users_stay s (l ∷ ls) = users_stay (loading_wanted_rules.after s l) ls
+
 pub loaded_wanted : (s s_now : LoadingWanted) → s.passwords ≡ [] → (status max : ℕ) (held taken added : List ℕ)
     → StateOutcome loading_wanted_rules s s_now status max held taken added
     → LoadedWanted (is_in s.users) s_now.passwords status max held taken added
@@ -125,6 +129,7 @@ loaded_wanted s s_now empty status max held taken added o = record {
         ∙ rw empty refl,
   );
   verdict = λ low. o.0.verdict low ∙ ap (λ (b : Bool). if b then 0 else 1) (good_each s (lines held));
-  budget = λ h. (o.0.budget h).0;
+  early = unfinished (from_state loading_wanted_rules s) (is_wanted_line (is_in s.users))
+      (λ before line asks. rw (sym (users_stay s before)) (asks)) status max held taken added o.0;
   nothing = none_before added (rw (nothing_put s (lines held)) at o.0.beginning);
 }
