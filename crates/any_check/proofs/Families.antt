@@ -6,8 +6,8 @@ use Rattle.base64ct.proofs.DecodingLaws.{same_true}
 use Rattle.scheme_list.proofs.Found.{found_holds}
 use Rattle.scheme_list.specs.Schemes.{has_identifier, row_of, same, scheme_named, schemes}
 use Rattle.scheme_list.specs.declared.schemes.Scheme.{Scheme}
-use Rattle.scheme_list.specs.declared.schemes.Scheme.TheVariants.{Argon2d, Argon2i, Argon2id, Bcrypt, Md5Crypt, Pbkdf2Sha256}
-use Rattle.scheme_list.specs.declared.schemes.Scheme.TheVariants.{Pbkdf2Sha512, Scrypt, ScryptCrypt, Sha256Crypt, Sha512Crypt, Yescrypt}
+use Rattle.scheme_list.specs.declared.schemes.Scheme.TheVariants.{Argon2d, Argon2i, Argon2id, Pbkdf2Sha256}
+use Rattle.scheme_list.specs.declared.schemes.Scheme.TheVariants.{Pbkdf2Sha512, Scrypt, Sha256Crypt, Sha512Crypt}
 use Rattle.phc.specs.declared.password_hash.PasswordHash.{PasswordHash}
 use Rattle.sha_crypt.specs.Records.{family_id}
 use Rattle.sha_crypt.specs.declared.errors.Family.{Family}
@@ -82,15 +82,10 @@ module _ (accepted : PasswordHash → List ℕ → ℕ → Bool) (tag : List ℕ
   pub record_stored : (o : Option Scheme) → is_record o ≡ true
       → scheme_answer accepted tag o password stored ≡ stored_row accepted tag password stored
   record_stored None h = absurd (false≢true h)
-  record_stored (Some Md5Crypt) h = absurd (false≢true h)
-  record_stored (Some Sha256Crypt) h = absurd (false≢true h)
-  record_stored (Some Sha512Crypt) h = absurd (false≢true h)
-  record_stored (Some Bcrypt) h = absurd (false≢true h)
-  record_stored (Some Yescrypt) h = absurd (false≢true h)
-  record_stored (Some ScryptCrypt) h = absurd (false≢true h)
   record_stored (Some Scrypt) h = refl
   record_stored (Some Pbkdf2Sha256) h = refl
   record_stored (Some Pbkdf2Sha512) h = refl
   record_stored (Some Argon2d) h = refl
   record_stored (Some Argon2i) h = refl
   record_stored (Some Argon2id) h = refl
+  record_stored (Some other) h = absurd (false≢true h)

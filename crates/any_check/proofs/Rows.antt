@@ -12,7 +12,7 @@ use Rattle.md5_plain.specs.Verdict.{magic_of}
 use Rattle.md5_plain.specs.declared.magic.Magic.{Magic}
 use Rattle.scheme_list.specs.declared.schemes.Scheme.{Scheme}
 use Rattle.scheme_list.specs.declared.schemes.Scheme.TheVariants.{Argon2d, Argon2i, Argon2id, Bcrypt, Md5Crypt, Pbkdf2Sha256}
-use Rattle.scheme_list.specs.declared.schemes.Scheme.TheVariants.{Pbkdf2Sha512, Scrypt, ScryptCrypt, Sha256Crypt, Sha512Crypt, Yescrypt}
+use Rattle.scheme_list.specs.declared.schemes.Scheme.TheVariants.{Pbkdf2Sha512, Scrypt, ScryptCrypt, Yescrypt}
 use Rattle.sha_crypt.specs.Records.{family_scheme}
 use Rattle.sha_crypt.specs.declared.errors.Family.{Family}
 use Rattle.pieces.specs.Faults.{value_or_fault}
@@ -126,18 +126,13 @@ module _ (accepted : PasswordHash → List ℕ → ℕ → Bool) (tag : List ℕ
   record_lack : (scheme : Scheme) → is_record (Some scheme) ≡ true
       → row_may_lack accepted needs_memory tag (Some scheme) password stored
       ≡ may_lack_memory accepted needs_memory tag password stored
-  record_lack Md5Crypt h = absurd (false≢true h)
-  record_lack Sha256Crypt h = absurd (false≢true h)
-  record_lack Sha512Crypt h = absurd (false≢true h)
-  record_lack Bcrypt h = absurd (false≢true h)
-  record_lack Yescrypt h = absurd (false≢true h)
-  record_lack ScryptCrypt h = absurd (false≢true h)
   record_lack Scrypt h = refl
   record_lack Pbkdf2Sha256 h = refl
   record_lack Pbkdf2Sha512 h = refl
   record_lack Argon2d h = refl
   record_lack Argon2i h = refl
   record_lack Argon2id h = refl
+  record_lack other h = absurd (false≢true h)
 
   -- records
   pub record_row : (scheme : Scheme) → is_record (Some scheme) ≡ true → (r : Result Bool StoredError)

@@ -2,7 +2,6 @@ pub mod Table
 pub mod Numbers
 pub mod Kinds
 pub mod Cost
-pub mod Words
 pub mod Records
 pub mod Laws
 pub mod Given

@@ -1,6 +1,6 @@
--- The verdict for every scheme: a table from the identifier of a stored text to the definition of its scheme.
+-- The verdict for every scheme: a table from the identifier of a stored text to the definition of its scheme; and its word.
 use Rattle.std.specs.Prelude.{◌≡◌, ◌⊎◌, ℕ, Bool, true, false, List, length, nat_lt, Option, Some, None, Result, Ok, Err}
-use Rattle.std.specs.Prelude.{if◌then◌else◌}
+use Rattle.std.specs.Prelude.{codes, if◌then◌else◌}
 use Rattle.mcf.specs.Grammar.{Parts, mcf, parts}
 use Rattle.mcf.specs.declared.error.Error as mcf_error
 use Rattle.phc.specs.declared.password_hash.PasswordHash.{PasswordHash}
@@ -12,6 +12,7 @@ use Rattle.sha_crypt.specs.declared.errors.Family.{Family}
 use Rattle.sha_crypt.specs.declared.errors.Family.TheVariants.{Sha256, Sha512}
 use Rattle.phc_kdf.specs.Limits.{password_max}
 use Rattle.stored_check.specs.Verdict.{may_lack_memory, mcf_name, verdict}
+use Rattle.stored_check.specs.Words.{word}
 use Rattle.stored_check.specs.declared.error.StoredError.{StoredError}
 use Rattle.stored_check.specs.declared.error.StoredError.TheVariants.{Mcf, OutOfMemory, PasswordTooLong}
 use Rattle.md5_plain.specs.Verdict.{magic_of, md5_verdict}
@@ -20,9 +21,13 @@ use Rattle.md5_plain.specs.declared.magic.Magic.{Magic}
 use Rattle.bcrypt_plain.specs.Check.{bcrypt_answer}
 use Rattle.bcrypt_plain.specs.declared.error.BcryptError.{BcryptError}
 use Rattle.bcrypt_plain.specs.declared.error.BcryptError.TheVariants as of_bcrypt
+use Rattle.bcrypt_plain.specs.declared.error.BcryptFault.{BcryptFault}
+use Rattle.bcrypt_plain.specs.declared.error.BcryptFault.TheVariants as of_fault
 use Rattle.yescrypt_plain.specs.Check.{is_verdict, scrypt_answer, yescrypt_answer}
 use Rattle.yescrypt_plain.specs.declared.error.CheckError.{CheckError}
 use Rattle.yescrypt_plain.specs.declared.error.CheckError.TheVariants as of_crypt
+use Rattle.yescrypt_plain.specs.declared.error.TextFault.{TextFault}
+use Rattle.yescrypt_plain.specs.declared.error.TextFault.TheVariants as of_text
 use Rattle.any_check.specs.declared.error.AnyError.{AnyError}
 use Rattle.any_check.specs.declared.error.AnyError.TheVariants as cause
 
@@ -158,3 +163,41 @@ any_may_lack accepted needs_memory tag password stored =
 abbrev pub IsAnyVerdict : Result Bool AnyError → Bool → Result Bool AnyError → Type 0
 IsAnyVerdict verdict may_lack answer =
     (answer ≡ verdict) ⊎ ((answer ≡ Err (cause.Stored OutOfMemory)) × (may_lack ≡ true))
+
+-- ---- words
+
+-- the word of a fault of a text of bcrypt; the last line is for the faults of its form
+abbrev pub bcrypt_word : BcryptFault → List ℕ
+bcrypt_word of_fault.Obsolete = codes "bcrypt-obsolete"
+bcrypt_word of_fault.Cost = codes "bcrypt-cost"
+bcrypt_word of_fault.Character = codes "bcrypt-b64"
+bcrypt_word of_fault.SpareBits = codes "bcrypt-b64"
+bcrypt_word fault = codes "bcrypt-format"
+
+-- the word of a fault of a text `$y$`; the last line is for the faults of its form
+abbrev pub yescrypt_word : TextFault → List ℕ
+yescrypt_word of_text.Flavor = codes "yescrypt-flavor"
+yescrypt_word of_text.Parallelism = codes "yescrypt-cost"
+yescrypt_word of_text.Upgrades = codes "yescrypt-cost"
+yescrypt_word of_text.Rom = codes "yescrypt-cost"
+yescrypt_word of_text.Memory = codes "yescrypt-cost"
+yescrypt_word of_text.Cost = codes "yescrypt-cost"
+yescrypt_word fault = codes "yescrypt-format"
+
+-- the word of a fault of a text `$7$`; the last line is for the faults of its form
+abbrev pub scrypt_word : TextFault → List ℕ
+scrypt_word of_text.Memory = codes "scrypt-cost"
+scrypt_word of_text.Cost = codes "scrypt-cost"
+scrypt_word fault = codes "scrypt-format"
+
+-- those of `check_stored`, and a few for each further scheme; want of memory has none
+abbrev pub any_word : Result Bool AnyError → List ℕ
+any_word (Ok b) = word (Ok b)
+any_word (Err (cause.Stored e)) = word (Err e)
+any_word (Err cause.NoScheme) = codes "no-scheme"
+any_word (Err (cause.Md5 fault)) = codes "md5-format"
+any_word (Err (cause.Bcrypt fault)) = bcrypt_word fault
+any_word (Err (cause.Yescrypt fault)) = yescrypt_word fault
+any_word (Err (cause.Scrypt fault)) = scrypt_word fault
+any_word (Err cause.ZeroByte) = codes "zero-byte"
+any_word (Err cause.TooCostly) = codes "too-costly"

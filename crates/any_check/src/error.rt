@@ -1,4 +1,8 @@
-//! Why a stored text gets no verdict.
+//! Why a stored text gets no verdict, and the word of each cause.
+
+ghost use Rattle.std.specs.Prelude.{◌≡◌, ◌≢◌, ◌≤◌, Err, length};
+ghost use Rattle.stored_check.specs.declared.error.StoredError.TheVariants.{OutOfMemory};
+ghost use Rattle.any_check.specs.Table.{any_word, bcrypt_word, scrypt_word, yescrypt_word};
 
 use bcrypt_plain::BcryptFault;
 use md5_plain::Md5Fault;
@@ -25,4 +29,66 @@ pub enum AnyError {
     ZeroByte,
     /// The text is valid, and its cost is above the bound.
     TooCostly,
+}
+
+// The word of a fault of a bcrypt text.
+fn bcrypt_word(fault: BcryptFault) -> &'static str
+    ensures word { result.now ≡ bcrypt_word fault }
+    ensures short { length result.now ≤ 17 }
+{
+    match fault {
+        BcryptFault::Obsolete => "bcrypt-obsolete",
+        BcryptFault::Cost => "bcrypt-cost",
+        BcryptFault::Character | BcryptFault::SpareBits => "bcrypt-b64",
+        _ => "bcrypt-format",
+    }
+}
+
+// The word of a fault of a text `$y$`.
+fn yescrypt_word(fault: TextFault) -> &'static str
+    ensures word { result.now ≡ yescrypt_word fault }
+    ensures short { length result.now ≤ 17 }
+{
+    match fault {
+        TextFault::Flavor => "yescrypt-flavor",
+        TextFault::Parallelism
+        | TextFault::Upgrades
+        | TextFault::Rom
+        | TextFault::Memory
+        | TextFault::Cost => "yescrypt-cost",
+        _ => "yescrypt-format",
+    }
+}
+
+// The word of a fault of a text `$7$`.
+fn scrypt_word(fault: TextFault) -> &'static str
+    ensures word { result.now ≡ scrypt_word fault }
+    ensures short { length result.now ≤ 17 }
+{
+    match fault {
+        TextFault::Memory | TextFault::Cost => "scrypt-cost",
+        _ => "scrypt-format",
+    }
+}
+
+/// The word of an answer of [`check_any`](crate::check_any): `pwcheck`'s words; `no-scheme`; `md5-format` for each fault of a
+/// text of md5-crypt; `bcrypt-obsolete`, `bcrypt-cost`, `bcrypt-b64` and, for each other fault of a text of bcrypt,
+/// `bcrypt-format`; `yescrypt-flavor`, `yescrypt-cost` and `yescrypt-format`; `scrypt-cost` and `scrypt-format` for faults
+/// of a text `$7$`; `zero-byte`; and `too-costly`. Want of memory has none.
+pub fn any_word(answer: &Result<bool, AnyError>) -> &'static str
+    requires known { answer.now ≢ Err (AnyError.Stored OutOfMemory) }
+    ensures word { result.now ≡ any_word answer.now }
+    ensures short { length result.now ≤ 17 }
+{
+    match *answer {
+        Ok(matches) => stored_check::word(&Ok(matches)),
+        Err(AnyError::Stored(e)) => stored_check::word(&Err(e)),
+        Err(AnyError::NoScheme) => "no-scheme",
+        Err(AnyError::Md5(_)) => "md5-format",
+        Err(AnyError::Bcrypt(fault)) => bcrypt_word(fault),
+        Err(AnyError::Yescrypt(fault)) => yescrypt_word(fault),
+        Err(AnyError::Scrypt(fault)) => scrypt_word(fault),
+        Err(AnyError::ZeroByte) => "zero-byte",
+        Err(AnyError::TooCostly) => "too-costly",
+    }
 }

@@ -149,10 +149,7 @@ recommended_taken scheme.Pbkdf2Sha512 =
     (refl, taken_by scheme.Pbkdf2Sha512 (cost.Pbkdf2 hash.Sha512 210000) (refl, refl))
 recommended_taken scheme.Argon2id =
     (refl, taken_by scheme.Argon2id (cost.Argon2id (record { memory = 65536; passes = 3; lanes = 4 })) (refl, refl))
-recommended_taken scheme.Md5Crypt = (refl, λ c h. absurd cc)
-recommended_taken scheme.ScryptCrypt = (refl, λ c h. absurd cc)
-recommended_taken scheme.Argon2d = (refl, λ c h. absurd cc)
-recommended_taken scheme.Argon2i = (refl, λ c h. absurd cc)
+recommended_taken other = (refl, λ c h. absurd cc)
 
 pub named_back : NamedBack
 named_back scheme.Sha256Crypt h = refl
@@ -163,7 +160,4 @@ named_back scheme.Scrypt h = refl
 named_back scheme.Pbkdf2Sha256 h = refl
 named_back scheme.Pbkdf2Sha512 h = refl
 named_back scheme.Argon2id h = refl
-named_back scheme.Md5Crypt h = absurd (false≢true h)
-named_back scheme.ScryptCrypt h = absurd (false≢true h)
-named_back scheme.Argon2d h = absurd (false≢true h)
-named_back scheme.Argon2i h = absurd (false≢true h)
+named_back other h = absurd (false≢true h)

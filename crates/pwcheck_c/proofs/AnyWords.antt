@@ -6,7 +6,7 @@ use Rattle.bcrypt_plain.specs.declared.error.BcryptFault.{BcryptFault}
 use Rattle.bcrypt_plain.specs.declared.error.BcryptFault.TheVariants as of_bcrypt
 use Rattle.yescrypt_plain.specs.declared.error.TextFault.{TextFault}
 use Rattle.yescrypt_plain.specs.declared.error.TextFault.TheVariants as of_text
-use Rattle.any_check.specs.Words.{any_word, bcrypt_word, scrypt_word, yescrypt_word}
+use Rattle.any_check.specs.Table.{any_word, bcrypt_word, scrypt_word, yescrypt_word}
 use Rattle.any_check.specs.declared.error.AnyError.{AnyError}
 use Rattle.any_check.specs.declared.error.AnyError.TheVariants as of_any
 use Rattle.pwcheck_c.specs.Answers.{answer_word, bcrypt_cause, cause_answer, scrypt_cause, yescrypt_cause}

@@ -6,7 +6,7 @@ use Rattle.line_program.specs.Rules.{LineRules, each_line}
 use Rattle.line_io.specs.Limits.{line_max}
 use Rattle.shadow_fields.specs.Fields.{has_user, is_locked, text_of_line, user_of}
 use Rattle.any_check.specs.Given.{given_may_lack, given_verdict}
-use Rattle.any_check.specs.Words.{any_word}
+use Rattle.any_check.specs.Table.{any_word}
 use Rattle.any_check.specs.declared.numbers.SchemeCosts.{SchemeCosts}
 use Rattle.shadow_check.specs.declared.answer.JoinAnswer.{JoinAnswer}
 use Rattle.shadow_check.specs.declared.answer.JoinAnswer.TheVariants.{Checked, Empty, Locked, NoPassword, NotText}

@@ -8,7 +8,7 @@ use Rattle.line_program.specs.Rules.{LineRules, each_line}
 use Rattle.line_io.specs.Limits.{line_max}
 use Rattle.stored_check.specs.declared.error.StoredError.TheVariants.{OutOfMemory}
 use Rattle.any_check.specs.Given.{given_may_lack, given_verdict}
-use Rattle.any_check.specs.Words.{any_word}
+use Rattle.any_check.specs.Table.{any_word}
 use Rattle.any_check.specs.declared.numbers.SchemeCosts.{SchemeCosts}
 use Rattle.any_check.specs.declared.error.AnyError.TheVariants.{Stored}
 use Rattle.shadow_check.specs.declared.lines.LineAnswer.{LineAnswer}

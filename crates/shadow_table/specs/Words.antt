@@ -1,6 +1,6 @@
 -- The word of an answer of `check`, with any_check's words for the causes that there is no verdict.
 use Rattle.std.specs.Prelude.{ℕ, Bool, List, Result, Err}
-use Rattle.any_check.specs.Words.{any_word}
+use Rattle.any_check.specs.Table.{any_word}
 use Rattle.any_check.specs.declared.error.AnyError.{AnyError}
 use Rattle.pw_file.specs.Replies.{check_word, word_text}
 use Rattle.pw_file.specs.declared.error.FileError.{FileError}
