@@ -1,6 +1,7 @@
 -- What is met in a text after a byte of it.
 use Rattle.std.proofs.Common.{suc, ◌≡◌, ◌≢◌, ℕ, ◌+◌, ◌-◌, ◌^◌, ◌<◌, Bool, true, false, List, [], ◌∷◌, ◌++◌, length, slice_index, refl, sym, ap, ◌∙◌, arith}
-use Rattle.std.specs.Prelude.{◌==◌, ◌&&◌, ◌||◌, if◌then◌else◌, codes, decimal, min}
+use Rattle.std.specs.Prelude.{◌==◌, ◌&&◌, ◌||◌, if◌then◌else◌, codes, decimal, min, is_some, Option, None, Some}
+use Rattle.memchr.specs.Find.{IsFirstByte, is_byte}
 use Rattle.pieces.specs.FaultCounts.{one_more}
 use Rattle.pieces.specs.Places.{LacksBelow}
 use Rattle.line_filter.specs.Met.{count_returns, has_mark, has_mark_after, returns_words}
@@ -43,6 +44,12 @@ free_counted (b ∷ bytes) text free =
     let here : (b == 13) ≡ false = (let other : b ≢ 13 = free 0 (omega arith) in grind arith) in
     let rest = free_counted bytes text (λ i low is. free (suc i) (omega arith) is) in
     rw here (omega (arith, rest))
+
+-- a search that finds none
+pub none_found : (bytes : List ℕ) (place : Option ℕ) → IsFirstByte (is_byte 13) bytes place → is_some place ≡ false
+    → LacksBelow 13 bytes (length bytes)
+none_found bytes None first none = λ k low is. first k (omega arith) low (rw is refl)
+none_found bytes (Some k) first none = absurd (cc)
 
 pub free_passed : (n : ℕ) (has_return : Bool) (first : ℕ) (bytes text : List ℕ) → slice_index bytes 0 ≡ first
     → 0 < length bytes → LacksBelow 13 bytes (length bytes)

@@ -1,6 +1,6 @@
 //! A source whose bytes are looked at.
 
-ghost use Rattle.std.specs.Prelude.{◌≡◌, ◌≤◌, ◌<◌, ◌^◌, ◌++◌, ◌∷◌, ◌==◌, ◌&&◌, ◌||◌, [], ℕ, List, IfOk, OnErr, if◌then◌else◌, length, slice_index, take};
+ghost use Rattle.std.specs.Prelude.{◌≡◌, ◌≤◌, ◌<◌, ◌^◌, ◌++◌, ◌∷◌, ◌==◌, ◌&&◌, ◌||◌, [], ℕ, List, false, IfOk, OnErr, if◌then◌else◌, length, slice_index, take};
 ghost use Rattle.std.specs.Io.{ReadsAtMost};
 ghost use Rattle.std.specs.Io.KnownBytes.{ReadConsumes};
 ghost use Rattle.pieces.specs.FaultCounts.{HasRisen, one_more};
@@ -10,7 +10,7 @@ ghost use Rattle.line_filter.specs.Met.{has_mark_after, mark_with, met_in, met_w
 use crate::met::Met;
 use crate::sieve::Mark;
 use line_io::{Failed, Source};
-use pieces::places::first_place;
+use memchr::memchr;
 
 /// What was met so far.
 #[derive(Clone, Copy, Debug)]
@@ -55,6 +55,13 @@ fn mark_step(mark: Mark, b: u8) -> (Mark, bool)
         Mark::Second => (Mark::Past, b == 0xBF),
         Mark::Past => (Mark::Past, false),
     }
+}
+
+// Whether a carriage return is among these bytes.
+fn has_return(bytes: &[u8]) -> bool
+    ensures free { result ≡ false → LacksBelow 13 bytes.now (length bytes.now) }
+{
+    memchr(b'\r', bytes).is_some()
 }
 
 fn met_of(returns: u64, has_mark: bool) -> Met
@@ -119,7 +126,7 @@ impl Noticing {
         }
     }
 
-    // The same, sixteen bytes a step where there are none.
+    // The same, by one search where there are none.
     fn count_returns(&mut self, bytes: &[u8])
         ensures returns { (text : List ℕ) → returns_with self.new text ≡ returns_with self.old (bytes.now ++ text) }
         ensures marks { (text : List ℕ) → mark_with self.new text ≡ mark_with self.old text }
@@ -127,9 +134,10 @@ impl Noticing {
         if bytes.is_empty() {
             return;
         }
-        match first_place(bytes, b'\r') {
-            Some(_) => self.count_all(bytes),
-            None => self.pass(bytes[0], bytes),
+        if has_return(bytes) {
+            self.count_all(bytes);
+        } else {
+            self.pass(bytes[0], bytes);
         }
     }
 

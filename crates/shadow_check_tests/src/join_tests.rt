@@ -146,3 +146,50 @@ fn ends(rt: HostRuntime) -> Result<(), Fail> {
     }
     Ok(())
 }
+
+// Texts, the writes that fail, the output and the end. A user with a verdict is written at once, so that the second write comes
+// after the first user. Users without a verdict wait.
+const WRITES: [(&[u8], &[u64], &[u8], JoinEnd); 3] = [
+    (
+        TWO_TEXTS,
+        &[],
+        b"ann\tmatch\nbob\tmismatch\n",
+        JoinEnd::Texts(1),
+    ),
+    (TWO_TEXTS, &[1], b"ann\tmatch\n", JoinEnd::Texts(4)),
+    (
+        b"ann:*\nbob:!\n",
+        &[1],
+        b"ann\tlocked\nbob\tlocked\n",
+        JoinEnd::Texts(1),
+    ),
+];
+
+const TWO_TEXTS: &[u8] = b"ann:$1$abcdefgh$cHJi5PXp/ki/ktXzqlk6I1\n\
+    bob:$1$abcdefgh$cHJi5PXp/ki/ktXzqlk6I1\n";
+
+#[test]
+fn joined_users_written_after_a_verdict(rt: HostRuntime) -> Result<(), Fail> {
+    for (held, failing, output, wanted) in WRITES {
+        let mut room = [0; 40];
+        let mut passwords = MemorySource::new(b"ann:secret\nbob:Secret\n", 1_000, &[]);
+        let mut texts = MemorySource::new(held, 1_000, &[]);
+        let mut sink = MemorySink::new(&mut room, 1_000, failing);
+        let joining = TextJoin {
+            alloc: rt.alloc(),
+            limits: None,
+        };
+        let end = run_join(
+            rt.alloc(),
+            RandomState::new(&rt)?,
+            &joining,
+            &mut passwords,
+            &mut texts,
+            &mut sink,
+            1_000,
+        );
+        assert!(rt; end == wanted, "{end:?}, and not {wanted:?}");
+        assert!(rt; sink.bytes() == output, "{wanted:?}");
+    }
+    Ok(())
+}

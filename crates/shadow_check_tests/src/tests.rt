@@ -51,6 +51,34 @@ fn statuses_with_users(rt: HostRuntime) {
     }
 }
 
+// An input, the writes that fail, the output and the status. A user with a verdict is written at once, so that the second write
+// comes after the first user. Users without a verdict wait.
+const WRITES: [(&[u8], &[u64], &[u8], u8); 3] = [
+    (TWO_USERS, &[], b"ann\tmatch\nbob\tmismatch\n", 1),
+    (TWO_USERS, &[1], b"ann\tmatch\n", 4),
+    (
+        b"ann:secret\t*\nbob:secret\t*\n",
+        &[1],
+        b"ann\tno-scheme\nbob\tno-scheme\n",
+        1,
+    ),
+];
+
+const TWO_USERS: &[u8] = b"ann:secret\t$1$abcdefgh$cHJi5PXp/ki/ktXzqlk6I1\n\
+    bob:Secret\t$1$abcdefgh$cHJi5PXp/ki/ktXzqlk6I1\n";
+
+#[test]
+fn users_written_after_a_verdict(rt: HostRuntime) {
+    for (input, failing, output, status) in WRITES {
+        let mut room = [0; 40];
+        let mut source = MemorySource::new(input, 1_000, &[]);
+        let mut sink = MemorySink::new(&mut room, 1_000, failing);
+        let got = run_users(rt.alloc(), None, &mut source, &mut sink, 1_000);
+        assert!(rt; got == status, "{output:?}: {got}");
+        assert!(rt; sink.bytes() == output, "{output:?}");
+    }
+}
+
 #[test]
 fn bounds_with_users(rt: HostRuntime) {
     let limits = SchemeCosts {
