@@ -10,7 +10,7 @@ use Rattle.scheme_list.proofs.Found.{found_holds}
 use Rattle.scheme_list.specs.Schemes.{has_prefix, method_of, schemes}
 use Rattle.scheme_list.specs.declared.schemes.Scheme.{Scheme}
 use Rattle.scheme_list.specs.declared.schemes.Scheme.TheVariants.{Bcrypt, Md5Crypt, ScryptCrypt, Sha256Crypt, Sha512Crypt, Yescrypt}
-use Rattle.crypt_text.specs.Texts.{crypt_text, takes_memory}
+use Rattle.crypt_text.specs.Texts.{crypt_text}
 use Rattle.crypt_law.specs.Law.{MatchesExactly}
 use Rattle.crypt_law.proofs.Answers.{as_any}
 use Rattle.crypt_law.proofs.BcryptLaw.{bcrypt_law, of_a, of_b, of_y}
@@ -29,7 +29,6 @@ module _ (accepted : PasswordHash → List ℕ → ℕ → Bool)
   abbrev Holds : List ℕ → Type 0
   Holds text =
       length phrase ≤ 511
-      → (takes_memory (method_of text) ≡ true → length text ≤ 339)
       → any_verdict accepted tag phrase text ≡ as_any matches
       → (crypt_text phrase text ≡ Ok text) ↔ (matches ≡ true)
 
@@ -40,32 +39,32 @@ module _ (accepted : PasswordHash → List ℕ → ℕ → Bool)
   by_bcrypt : (text : List ℕ) → has_prefix text Bcrypt ≡ true → Holds text
   by_bcrypt text is =
       elim (or_cases (begins text (codes "$2a$")) (begins text (codes "$2b$") || (begins text (codes "$2y$") || false)) is) [
-        | inl a ↦ of_prefix text (codes "$2a$") a (λ short fits h. bcrypt_law accepted tag of_a phrase (drop 4 text) matches short h)
+        | inl a ↦ of_prefix text (codes "$2a$") a (λ short h. bcrypt_law accepted tag of_a phrase (drop 4 text) matches short h)
         | inr others ↦
             elim (or_cases (begins text (codes "$2b$")) (begins text (codes "$2y$") || false) others) [
-              | inl b ↦ of_prefix text (codes "$2b$") b (λ short fits h. bcrypt_law accepted tag of_b phrase (drop 4 text) matches short h)
+              | inl b ↦ of_prefix text (codes "$2b$") b (λ short h. bcrypt_law accepted tag of_b phrase (drop 4 text) matches short h)
               | inr y ↦ of_prefix text (codes "$2y$") (only (begins text (codes "$2y$")) y)
-                  (λ short fits h. bcrypt_law accepted tag of_y phrase (drop 4 text) matches short h)
+                  (λ short h. bcrypt_law accepted tag of_y phrase (drop 4 text) matches short h)
             ]
       ]
 
   by_scheme : (text : List ℕ) (s : Scheme) → has_prefix text s ≡ true → Holds text
   by_scheme text Md5Crypt is =
       of_prefix text (codes "$1$") (only (begins text (codes "$1$")) is)
-      (λ short fits h. md5_law accepted tag phrase (drop 3 text) matches short h)
+      (λ short h. md5_law accepted tag phrase (drop 3 text) matches short h)
   by_scheme text Sha256Crypt is =
       of_prefix text (codes "$5$") (only (begins text (codes "$5$")) is)
-      (λ short fits h. sha_law accepted tag Sha256 phrase (drop 3 text) matches short h)
+      (λ short h. sha_law accepted tag Sha256 phrase (drop 3 text) matches short h)
   by_scheme text Sha512Crypt is =
       of_prefix text (codes "$6$") (only (begins text (codes "$6$")) is)
-      (λ short fits h. sha_law accepted tag Sha512 phrase (drop 3 text) matches short h)
+      (λ short h. sha_law accepted tag Sha512 phrase (drop 3 text) matches short h)
   by_scheme text Bcrypt is = by_bcrypt text is
   by_scheme text Yescrypt is =
       of_prefix text (codes "$y$") (only (begins text (codes "$y$")) is)
-      (λ short fits h. yescrypt_law accepted tag phrase (drop 3 text) matches short (fits refl) h)
+      (λ short h. yescrypt_law accepted tag phrase (drop 3 text) matches short h)
   by_scheme text ScryptCrypt is =
       of_prefix text (codes "$7$") (only (begins text (codes "$7$")) is)
-      (λ short fits h. scrypt_law accepted tag phrase (drop 3 text) matches short (fits refl) h)
+      (λ short h. scrypt_law accepted tag phrase (drop 3 text) matches short h)
   -- the others have no prefix
   by_scheme text other is = absurd (false≢true is)
 

@@ -8,6 +8,7 @@ mod BcryptReadings
 mod ShaLaw
 mod Md5Law
 mod BcryptLaw
+mod Lengths
 mod YescryptLaw
 mod ScryptLaw
 mod Law

@@ -1,5 +1,5 @@
 -- The law for texts `$7$`.
-use Rattle.std.proofs.Common.{◌≡◌, ℕ, ◌^◌, ◌≤◌, Bool, true, false, List, [], ◌∷◌, ◌++◌, length, take, refl, sym, subst, ap, ◌∙◌, arith}
+use Rattle.std.proofs.Common.{◌≡◌, ℕ, ◌^◌, ◌≤◌, Bool, true, false, List, [], ◌∷◌, ◌++◌, length, take, refl, sym, ap, ◌∙◌, arith}
 use Rattle.std.proofs.Common.{append_assoc, Some, Ok, Err}
 use Rattle.std.specs.Prelude.{◌↔◌, ◌||◌, codes, nat_le, nat_lt, if◌then◌else◌}
 use Rattle.std.specs.List.{list_all}
@@ -23,7 +23,7 @@ use Rattle.yescrypt_plain.specs.Text.{scrypt_text}
 use Rattle.yescrypt_plain.specs.declared.error.CheckError.TheVariants as of_crypt
 use Rattle.yescrypt_plain.specs.declared.params.ScryptParams.{ScryptParams}
 use Rattle.yescrypt_plain.proofs.Characters.{scrypt_params_characters}
-use Rattle.yescrypt_plain.proofs.Fields.{field_passes}
+use Rattle.yescrypt_plain.proofs.Fields.{field_len, field_passes}
 use Rattle.scrypt_plain.proofs.KeyBytes.{scrypt_bytes}
 use Rattle.yescrypt_plain.proofs.ScryptParamFields.{scrypt_params_read, scrypt_salt_behind}
 use Rattle.yescrypt_plain.proofs.ScryptTexts.{text_is}
@@ -38,6 +38,7 @@ use Rattle.crypt_law.proofs.Answers.{IsTold, as_any, told_of}
 use Rattle.crypt_law.proofs.Characters.{characters_clean, field_clean}
 use Rattle.crypt_law.proofs.Clean.{are_clean, is_clean, none_refused}
 use Rattle.crypt_law.proofs.Cuts.{before_last_cut}
+use Rattle.crypt_law.proofs.Lengths.{scrypt_hash_size, scrypt_params_size}
 use Rattle.crypt_law.proofs.Prefixes.{crypt_is, law_by, row_is}
 
 -- `$7$`, and the rest
@@ -107,6 +108,13 @@ rest_clean params salt hash good characters hash_small =
     (characters_clean (scrypt_params_text params) (scrypt_params_characters params good))
     (all_append is_clean salt (36 ∷ crypt_field hash) (characters_clean salt characters) (field_clean hash hash_small))
 
+short_text : (params : ScryptParams) (salt hash : List ℕ) → length salt ≤ 86 → length hash ≡ 32 → EachBelow 256 hash
+    → length (whole (rest_of params salt hash)) ≤ 339
+short_text params salt hash most size hash_small =
+    let of_params = scrypt_params_size params in
+    let of_hash = field_len hash hash_small in
+    omega (arith, of_params, of_hash, most, size)
+
 -- ---- the answer
 
 front_params : (params : ScryptParams) (more : List ℕ) → take 11 (scrypt_params_text params ++ more) ≡ scrypt_params_text params
@@ -150,21 +158,24 @@ told_by phrase text matches short h =
     (λ m b told. by_verdict phrase (scrypt_matches phrase m) b short told) (scrypt_text text) matches h
 
 module _ (accepted : PasswordHash → List ℕ → ℕ → Bool) (tag : List ℕ → PasswordHash → List ℕ → ℕ → List ℕ) where
-  pub scrypt_law : (phrase rest : List ℕ) (matches : Bool) → length phrase ≤ 511 → length (whole rest) ≤ 339
+  pub scrypt_law : (phrase rest : List ℕ) (matches : Bool) → length phrase ≤ 511
       → any_verdict accepted tag phrase (whole rest) ≡ as_any matches
       → (crypt_text phrase (whole rest) ≡ Ok (whole rest)) ↔ (matches ≡ true)
-  scrypt_law phrase rest matches short fits h =
+  scrypt_law phrase rest matches short h =
       let text : List ℕ = whole rest in
       let answer = told_by phrase text matches short
       (sym (row_is accepted tag phrase text ScryptCrypt short (scheme_is rest)) ∙ h) in
       let m = answer.means in
       let found = text_is text m answer.are in
-      let characters = (and_parts (nat_le (length m.salt) 86) (list_all is_crypt_character m.salt) found.salt).1 in
+      let of_salt = and_parts (nat_le (length m.salt) 86) (list_all is_crypt_character m.salt) found.salt in
+      let few = of_salt.0 in
+      let most : length m.salt ≤ 86 = grind (arith, nat_tests, few) in
+      let characters = of_salt.1 in
       let again : List ℕ = rest_of m.params m.salt m.hash in
       let is : text ≡ whole again = found.is ∙ text_again m.params m.salt m.hash in
       let clean = none_refused (whole again) (rest_clean m.params m.salt m.hash found.bounds characters found.hash_below) in
       let made = ap (crypt_text phrase) is ∙ crypt_is phrase (whole again) short clean
-      ∙ method_is phrase again (subst (λ (t : List ℕ). length t ≤ 339) is fits)
+      ∙ method_is phrase again (short_text m.params m.salt m.hash most (scrypt_hash_size text m answer.are) found.hash_below)
       ∙ ap (if_setting (crypt.scrypt_text again phrase))
       (setting_read m.params m.salt m.hash found.bounds characters found.hash_below)
       ∙ ap (λ (p : List ℕ). Ok (codes "$7$" ++ p ++ m.salt ++ codes "$" ++ crypt_field (key phrase m)))

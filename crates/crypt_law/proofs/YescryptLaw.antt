@@ -1,5 +1,5 @@
 -- The law for texts `$y$`.
-use Rattle.std.proofs.Common.{◌≡◌, ℕ, ◌≤◌, Bool, true, false, List, ◌∷◌, ◌++◌, length, refl, sym, subst, ap, ◌∙◌, arith}
+use Rattle.std.proofs.Common.{◌≡◌, ℕ, ◌≤◌, Bool, true, false, List, ◌∷◌, ◌++◌, length, refl, sym, ap, ◌∙◌, arith}
 use Rattle.std.proofs.Common.{append_assoc, Some, Ok, Err}
 use Rattle.std.specs.Prelude.{◌↔◌, codes, nat_le, nat_lt, if◌then◌else◌}
 use Rattle.std.proofs.lemmas.Bool.Decides.{nat_tests}
@@ -35,6 +35,7 @@ use Rattle.crypt_law.proofs.Answers.{IsTold, as_any, told_of}
 use Rattle.crypt_law.proofs.Characters.{characters_clean, field_clean}
 use Rattle.crypt_law.proofs.Clean.{are_clean, is_clean, none_refused}
 use Rattle.crypt_law.proofs.Cuts.{after_cut, before_cut, before_last_cut, has_cut}
+use Rattle.crypt_law.proofs.Lengths.{params_size, yescrypt_hash_size}
 use Rattle.crypt_law.proofs.Prefixes.{crypt_is, law_by, row_is}
 
 -- `$y$`, and the rest
@@ -95,6 +96,14 @@ rest_clean params salt hash good below hash_small =
     (characters_clean (yescrypt_params_text params) (params_characters params good))
     (all_append is_clean (crypt_field salt) (36 ∷ crypt_field hash) (field_clean salt below) (field_clean hash hash_small))
 
+short_text : (params : YescryptParams) (salt hash : List ℕ) → length salt ≤ 64 → length hash ≡ 32 → EachBelow 256 salt
+    → EachBelow 256 hash → length (whole (rest_of params salt hash)) ≤ 339
+short_text params salt hash most size below hash_small =
+    let of_params = params_size params in
+    let of_salt = field_len salt below in
+    let of_hash = field_len hash hash_small in
+    omega (arith, of_params, of_salt, of_hash, most, size)
+
 -- ---- the answer
 
 abbrev front : YescryptParams → List ℕ → List ℕ
@@ -131,10 +140,10 @@ told_by phrase text matches short h =
     (λ m b told. by_verdict phrase (yescrypt_matches phrase m) b short told) (yescrypt_text text) matches h
 
 module _ (accepted : PasswordHash → List ℕ → ℕ → Bool) (tag : List ℕ → PasswordHash → List ℕ → ℕ → List ℕ) where
-  pub yescrypt_law : (phrase rest : List ℕ) (matches : Bool) → length phrase ≤ 511 → length (whole rest) ≤ 339
+  pub yescrypt_law : (phrase rest : List ℕ) (matches : Bool) → length phrase ≤ 511
       → any_verdict accepted tag phrase (whole rest) ≡ as_any matches
       → (crypt_text phrase (whole rest) ≡ Ok (whole rest)) ↔ (matches ≡ true)
-  yescrypt_law phrase rest matches short fits h =
+  yescrypt_law phrase rest matches short h =
       let text : List ℕ = whole rest in
       let answer = told_by phrase text matches short
       (sym (row_is accepted tag phrase text Yescrypt short (scheme_is rest)) ∙ h) in
@@ -143,7 +152,8 @@ module _ (accepted : PasswordHash → List ℕ → ℕ → Bool) (tag : List ℕ
       let again : List ℕ = rest_of m.params m.salt m.hash in
       let clean = none_refused (whole again) (rest_clean m.params m.salt m.hash found.bounds found.below found.hash_below) in
       let made = ap (crypt_text phrase) found.is ∙ crypt_is phrase (whole again) short clean
-      ∙ method_is phrase again (subst (λ (t : List ℕ). length t ≤ 339) found.is fits)
+      ∙ method_is phrase again
+      (short_text m.params m.salt m.hash found.most (yescrypt_hash_size text m answer.are) found.below found.hash_below)
       ∙ ap (if_setting (crypt.yescrypt_text phrase))
       (setting_read m.params m.salt m.hash found.bounds found.most found.below found.hash_below) in
       law_by phrase text (λ (t : List ℕ). front m.params m.salt ++ crypt_field t) (key phrase m) m.hash matches made

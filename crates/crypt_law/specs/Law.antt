@@ -2,13 +2,12 @@
 use Rattle.std.specs.Prelude.{◌≡◌, ◌↔◌, ◌≤◌, ℕ, Bool, true, List, Ok, is_some, length}
 use Rattle.phc.specs.declared.password_hash.PasswordHash.{PasswordHash}
 use Rattle.any_check.specs.Table.{any_verdict}
-use Rattle.crypt_text.specs.Limits.{phrase_max, setting_max}
+use Rattle.crypt_text.specs.Limits.{phrase_max}
 use Rattle.scheme_list.specs.Schemes.{method_of}
-use Rattle.crypt_text.specs.Texts.{crypt_text, takes_memory}
+use Rattle.crypt_text.specs.Texts.{crypt_text}
 
--- For each text of one of crypt's methods, of at most 339 bytes where that is `$7$` or `$y$`, on which there is a verdict, and
--- each phrase of at most 511 bytes: the text that crypt(3) gives for the phrase and this text as its setting is this very text
--- exactly where the verdict is a match. A verdict on bcrypt's texts is on phrases without a zero byte. Whatever the derivation
+-- For each text of one of crypt's methods on which there is a verdict, and each phrase of at most 511 bytes: the text that
+-- crypt(3) gives for the phrase and this text as its setting is this very text exactly where the verdict is a match. A verdict on bcrypt's texts is on phrases without a zero byte. Whatever the derivation
 -- of other schemes' records is: no such record has a method of crypt's.
 abbrev pub MatchesExactly : Type 0
 MatchesExactly =
@@ -16,6 +15,5 @@ MatchesExactly =
     (phrase text : List ℕ) (matches : Bool)
     → is_some (method_of text) ≡ true
     → length phrase ≤ phrase_max
-    → (takes_memory (method_of text) ≡ true → length text ≤ setting_max)
     → any_verdict accepted tag phrase text ≡ Ok matches
     → (crypt_text phrase text ≡ Ok text) ↔ (matches ≡ true)
