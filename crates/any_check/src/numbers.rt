@@ -36,7 +36,7 @@ pub const NO_COSTS: Costs = Costs {
     m: 0,
 };
 
-/// Numbers for each family of schemes: the most that a text may ask for, or the least that isn't weak. md5-crypt has none: it
+/// Numbers for each family of schemes: the most that a text may ask for. md5-crypt has none: it
 /// is 1,000 rounds for each text.
 #[derive(Clone, Copy, Debug, PartialEq, Eq)]
 pub struct SchemeCosts {

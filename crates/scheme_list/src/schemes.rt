@@ -47,7 +47,7 @@ pub const SCHEMES: [Scheme; SCHEME_COUNT] = [
     Scheme::Argon2id,
 ];
 
-/// The schemes whose texts ask for the same numbers. A bound on cost, and the least cost that isn't weak, is one for each.
+/// The schemes whose texts ask for the same numbers. A bound on cost has numbers for each.
 #[derive(Clone, Copy, Debug, PartialEq, Eq)]
 pub enum CostFamily {
     /// No number: each text costs the same.
