@@ -28,7 +28,7 @@ RUNS = {
     "pwfile": [([], b"set\tann\t$5\nset\tbob\t$6\nset\tann\t$1\nlist\n")],
 }
 MOST = 40
-WANT = re.compile(r"AllocError|AllocFailed|OutOfMemory|NoMemory|[Oo]ut of memory|want of memory|refused allocation")
+WANT = re.compile(r"AllocError|no-memory|AllocFailed|OutOfMemory|NoMemory|[Oo]ut of memory|want of memory|refused allocation")
 
 
 def told(text):

@@ -119,14 +119,14 @@ fn words(rt: HostRuntime) {
     let kdf = record_kdf(rt.alloc());
     let kept = CryptKept::new(rt.alloc());
     for stored in TEXTS {
-        let answer = check_any(rt.alloc(), &kdf, &kept, "secret", stored);
-        assert!(rt; word_of(&answer) == "match", "{stored}");
-        let answer = check_any(rt.alloc(), &kdf, &kept, "Secret", stored);
-        assert!(rt; word_of(&answer) == "mismatch", "{stored}");
+        let got = word_of(&check_any(rt.alloc(), &kdf, &kept, "secret", stored));
+        assert!(rt; got == "match", "{stored}: {got}");
+        let got = word_of(&check_any(rt.alloc(), &kdf, &kept, "Secret", stored));
+        assert!(rt; got == "mismatch", "{stored}: {got}");
     }
     for (stored, word) in FAULTS {
-        let answer = check_any(rt.alloc(), &kdf, &kept, "secret", stored);
-        assert!(rt; word_of(&answer) == word, "{stored}");
+        let got = word_of(&check_any(rt.alloc(), &kdf, &kept, "secret", stored));
+        assert!(rt; got == word, "{stored}: {got}");
     }
 }
 
@@ -175,10 +175,10 @@ fn bounds_reached(rt: HostRuntime) {
     let kdf = record_kdf(rt.alloc());
     let kept = CryptKept::new(rt.alloc());
     for stored in TEXTS {
-        let answer = check_any_within(rt.alloc(), &kdf, &kept, &least(), "secret", stored);
-        assert!(rt; word_of(&answer) == "match", "{stored}");
-        let answer = check_any_within(rt.alloc(), &kdf, &kept, &least(), "Secret", stored);
-        assert!(rt; word_of(&answer) == "mismatch", "{stored}");
+        let got = word_of(&check_any_within(rt.alloc(), &kdf, &kept, &least(), "secret", stored));
+        assert!(rt; got == "match", "{stored}: {got}");
+        let got = word_of(&check_any_within(rt.alloc(), &kdf, &kept, &least(), "Secret", stored));
+        assert!(rt; got == "mismatch", "{stored}: {got}");
     }
     let none = SchemeCosts {
         sha_crypt: NO_COSTS,
@@ -190,8 +190,8 @@ fn bounds_reached(rt: HostRuntime) {
         argon2: NO_COSTS,
     };
     for (stored, word) in FAULTS {
-        let answer = check_any_within(rt.alloc(), &kdf, &kept, &none, "secret", stored);
-        assert!(rt; word_of(&answer) == word, "{stored}");
+        let got = word_of(&check_any_within(rt.alloc(), &kdf, &kept, &none, "secret", stored));
+        assert!(rt; got == word, "{stored}: {got}");
     }
 }
 
@@ -300,11 +300,11 @@ fn bounds_passed(rt: HostRuntime) {
         ),
     ] {
         for (i, stored) in TEXTS.into_iter().enumerate() {
-            let answer = check_any_within(rt.alloc(), &kdf, &kept, &low, "secret", stored);
+            let got = word_of(&check_any_within(rt.alloc(), &kdf, &kept, &low, "secret", stored));
             if i == number {
-                assert!(rt; word_of(&answer) == "too-costly", "{stored}");
+                assert!(rt; got == "too-costly", "{stored}: {got}");
             } else if number != 2 && number != 4 {
-                assert!(rt; word_of(&answer) == "match", "{stored}");
+                assert!(rt; got == "match", "{stored}: {got}");
             }
         }
     }
@@ -321,11 +321,11 @@ fn long_passwords(rt: HostRuntime) {
     let too_long = Err(AnyError::Stored(StoredError::PasswordTooLong));
     for stored in TEXTS {
         let answer = check_any(rt.alloc(), &kdf, &kept, long, stored);
-        assert!(rt; answer == too_long, "{stored}");
+        assert!(rt; answer == too_long, "{stored}: {answer:?}");
         let answer = check_any_within(rt.alloc(), &kdf, &kept, &least(), long, stored);
-        assert!(rt; answer == too_long, "{stored}");
+        assert!(rt; answer == too_long, "{stored}: {answer:?}");
         let answer = check_any(rt.alloc(), &kdf, &kept, &long[1..], stored);
-        assert!(rt; answer == Ok(false), "{stored}");
+        assert!(rt; answer == Ok(false), "{stored}: {answer:?}");
     }
     let answer = check_any(rt.alloc(), &kdf, &kept, long, "*");
     assert!(rt; answer == too_long);
@@ -348,10 +348,10 @@ fn first_causes(rt: HostRuntime) {
     let kept = CryptKept::new(rt.alloc());
     for (password, stored, cause) in CAUSES {
         let answer = check_any(rt.alloc(), &kdf, &kept, password, stored);
-        assert!(rt; answer == Err(cause), "{stored}");
+        assert!(rt; answer == Err(cause), "{stored}: {answer:?}");
     }
-    let answer = check_any(rt.alloc(), &kdf, &kept, "sec\0ret", TEXTS[5]);
-    assert!(rt; word_of(&answer) == "zero-byte");
+    let got = word_of(&check_any(rt.alloc(), &kdf, &kept, "sec\0ret", TEXTS[5]));
+    assert!(rt; got == "zero-byte", "{got}");
 }
 
 #[test]
