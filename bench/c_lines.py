@@ -5,7 +5,7 @@
 
 The lines are those of bench/differ.py. bindings/c/check_lines.c is built over the static library (bindings/library.py,
 which builds what is missing), and its words have to be those of `pwcheck check` and those that differ.py computes from
-docs/WORDS.md. It prints each difference, and ends with 0 where there is none. It needs gcc and binutils; without
+pwcheck(1). It prints each difference, and ends with 0 where there is none. It needs gcc and binutils; without
 them it says so.
 """
 import collections

@@ -1,5 +1,5 @@
 #!/usr/bin/env python3
-"""Compares the built program with a reading of docs/WORDS.md in Python.
+"""Compares the built program with a reading of pwcheck(1) in Python.
 
     bench/differ.py [SEED [LINES]]
 

@@ -4,7 +4,7 @@
     bench/fuzz.py [SECONDS [SEED]]
 
 Inputs are taken from bench/corpus and mutated (bytes changed, cut, doubled, spliced with others), with words of each form
-and damaged ones. A run must end within ten seconds with a status that docs/WORDS.md has for its words; `check` and
+and damaged ones. A run must end within ten seconds with a status that pwcheck(1) has for its words; `check` and
 `normalize` must write one line for each line of the input, `unwrap` of what `wrap` wrote must give the input back, and
 with status 7 nothing may be written. What fails is kept in bench/corpus/found. It ends after the time given (600 s).
 """

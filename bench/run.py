@@ -48,7 +48,7 @@ ROWS = [Row(*row) for row in (
     ("crypt_definitions.py", "compare", "", 2, "2000", "the definitions of crypt(3) in Python beside libxcrypt"),
     ("crypt_differ.py", "compare", "gcc", 5, None, "libpwcrypt beside libxcrypt"),
     ("damaged_texts.py", "compare", "", 2, None, "damaged texts of every scheme: `pwtool check` and `survey` agree on each"),
-    ("differ.py", "compare", "", 2, "1 400", "`pwcheck check` beside a reading of docs/WORDS.md"),
+    ("differ.py", "compare", "", 2, "1 400", "`pwcheck check` beside a reading of pwcheck(1)"),
     ("foreign_texts.py", "compare", "", 3, None, "texts of Django, LDAP and passlib, asked of `pwtool --from`"),
     ("htpasswd_lines.py", "compare", "htpasswd", 1, None, "lines of htpasswd, asked of `pwlegacy`"),
     ("made_any.py", "compare", "", 3, None, "texts of `pwtool make`, asked of libxcrypt, hashlib and libargon2"),

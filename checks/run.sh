@@ -18,6 +18,8 @@ python3 bindings/numbers.py swaps
 python3 crypt3/numbers.py swaps
 python3 checks/pages.py
 python3 checks/same_numbers.py changed
+command -v mandoc >/dev/null 2>&1 || apt-get install -y mandoc >/dev/null 2>&1 || true
+python3 checks/programs.py
 python3 checks/layers.py
 python3 checks/copies.py
 python3 bench/pictures.py check

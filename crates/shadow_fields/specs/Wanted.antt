@@ -1,5 +1,5 @@
 -- The passwords of those users alone who are wanted.
-use Rattle.std.specs.Prelude.{◌≡◌, ◌≤◌, ℕ, Bool, List, [], length, Option, None, is_some, ◌&&◌, if◌then◌else◌}
+use Rattle.std.specs.Prelude.{◌≡◌, ◌<◌, ◌≤◌, ℕ, Bool, List, [], length, Option, None, is_some, ◌&&◌, if◌then◌else◌}
 use Rattle.std.specs.List.{list_all}
 use Rattle.line_io.specs.Lines.{lines}
 use Rattle.shadow_fields.specs.Fields.{rest_of, user_of}
