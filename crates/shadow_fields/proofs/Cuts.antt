@@ -1,5 +1,5 @@
 -- Lines cut at their first colon.
-use Rattle.std.proofs.Common.{◌≡◌, ◌≢◌, ℕ, ◌<◌, ◌+◌, ◌-◌, Bool, true, false, List, [], ◌∷◌, inl, inr, length, get_or}
+use Rattle.std.proofs.Common.{◌≡◌, ◌≢◌, ℕ, ◌<◌, ◌+◌, ◌-◌, true, false, List, [], ◌∷◌, inl, inr, length, get_or}
 use Rattle.std.proofs.Common.{take, drop, suc, refl, sym, ap, ◌∙◌, arith, rules, Option}
 use Rattle.std.specs.Prelude.{is_some, Some, None}
 use Rattle.std.specs.List.{list_any, before_first, after_first, position_or_len}

@@ -1,13 +1,11 @@
 -- What a run of the loading says of the table.
-use Rattle.std.proofs.Common.{◌≡◌, ℕ, ◌<◌, ◌≤◌, Bool, true, false, List, [], ◌∷◌, ◌++◌, length, refl, sym, ap, ◌∙◌, arith, rules}
-use Rattle.std.specs.Prelude.{fold, nat_lt, if◌then◌else◌, ◌&&◌, ◌||◌, Option, Some, slice_get, zero, suc}
+use Rattle.std.proofs.Common.{◌≡◌, ℕ, ◌<◌, Bool, true, false, List, [], ◌∷◌, length, refl, ap, ◌∙◌, arith, rules}
+use Rattle.std.specs.Prelude.{fold, nat_lt, if◌then◌else◌, ◌&&◌, ◌||◌, Some, slice_get, zero, suc}
 use Rattle.std.specs.List.{list_all, list_any}
-use Rattle.line_io.specs.Devices.{WhereTold}
-use Rattle.line_io.specs.Lines.{lines, whole_lines}
+use Rattle.line_io.specs.Lines.{lines}
 use Rattle.line_io.specs.Runs.{IsPrefix}
-use Rattle.line_program.specs.Outcome.{Outcome, output}
+use Rattle.line_program.specs.Outcome.{Outcome}
 use Rattle.line_program.specs.Rules.{LineRules, after_lines, all_good, from_state, replies}
-use Rattle.line_program.proofs.Told.{told_as}
 use Rattle.line_program.specs.Outcome.{StateOutcome}
 use Rattle.shadow_fields.specs.Fields.{has_user}
 use Rattle.shadow_fields.specs.LoadRules.{loading_rules, rows_behind}

@@ -1,15 +1,14 @@
 -- What a run of the loading of wanted users says of the table.
-use Rattle.std.proofs.Common.{◌≡◌, ℕ, ◌≤◌, Bool, true, false, List, [], ◌∷◌, ◌++◌, length, refl, sym, ap, ◌∙◌, arith, Option, rules}
+use Rattle.std.proofs.Common.{◌≡◌, ℕ, Bool, true, false, List, [], ◌∷◌, refl, sym, ap, ◌∙◌, arith, Option, rules}
 use Rattle.std.specs.Prelude.{fold, Some, None, if◌then◌else◌, ◌&&◌, is_some, slice_get, zero, suc}
 use Rattle.std.proofs.lemmas.Bool.Decides.{nat_tests}
 use Rattle.std.specs.List.{list_all}
 use Rattle.line_io.specs.Lines.{lines}
-use Rattle.line_io.specs.Runs.{IsPrefix}
 use Rattle.line_program.specs.Rules.{after_lines, all_good, from_state, replies}
 use Rattle.line_program.specs.Outcome.{StateOutcome}
 use Rattle.shadow_fields.specs.Fields.{rest_of, user_of}
 use Rattle.shadow_fields.specs.Passwords.{UserPasswords, is_given, is_same, password_behind, password_in, password_of, with_password}
-use Rattle.shadow_fields.specs.Wanted.{LoadedWanted, has_line, is_in, is_wanted_line, wanted_behind, wanted_password}
+use Rattle.shadow_fields.specs.Wanted.{LoadedWanted, has_line, is_in, is_wanted_line, wanted_behind}
 use Rattle.shadow_fields.specs.WantedRules.{loading_wanted_rules}
 use Rattle.shadow_fields.specs.declared.wanted.LoadingWanted.{LoadingWanted}
 use Rattle.shadow_fields.proofs.Loaded.{none_before, unfinished}

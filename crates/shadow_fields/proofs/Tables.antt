@@ -1,6 +1,6 @@
 -- Tables of passwords: their entries, and what a line adds.
 use Rattle.std.proofs.Common.{◌≡◌, ℕ, Bool, true, false, List, [], ◌∷◌, length, cond, refl, sym, ap, ◌∙◌, arith}
-use Rattle.std.specs.Prelude.{fold, nat_eq, Option, Some, None, Vec, ◌&&◌, if◌then◌else◌}
+use Rattle.std.specs.Prelude.{fold, nat_eq, Option, Some, Vec, ◌&&◌, if◌then◌else◌}
 use Rattle.std.specs.Cmp.Lexicographic.{pointwise}
 use Rattle.std.specs.Map.{lookup}
 use Rattle.std.specs.Option.{option_map}

@@ -1,5 +1,5 @@
 -- Users with their passwords.
-use Rattle.std.specs.Prelude.{ℕ, Bool, false, List, [], length, map, fold, nat_lt, ◌&&◌, nat_eq, Option, Some, None}
+use Rattle.std.specs.Prelude.{ℕ, Bool, false, List, length, map, fold, nat_lt, ◌&&◌, nat_eq, Option, Some, None}
 use Rattle.std.specs.Prelude.{if◌then◌else◌, Vec}
 use Rattle.std.specs.Cmp.Lexicographic.{pointwise}
 use Rattle.std.specs.Map.{lookup}

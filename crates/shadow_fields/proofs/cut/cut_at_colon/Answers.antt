@@ -1,4 +1,4 @@
-use Rattle.std.proofs.Common.{◌≡◌, ◌∙◌, ◌+◌}
+use Rattle.std.proofs.Common.{◌∙◌, ◌+◌}
 use Rattle.shadow_fields.proofs.Cuts.{behind, first_colon, no_colon}
 use Rattle.shadow_fields.proofs.cut.cut_at_colon.Goals as goal
 

@@ -1,4 +1,4 @@
-use Rattle.std.proofs.Common.{◌∙◌, sym, ap, Some, List, ℕ, Vec, Global}
+use Rattle.std.proofs.Common.{◌∙◌, sym, ap, Some, ℕ, Vec, Global}
 use Rattle.std.specs.Option.{option_map}
 use Rattle.shadow_fields.specs.Passwords.{UserPasswords, password_in}
 use Rattle.shadow_fields.proofs.Tables.{rows_password}

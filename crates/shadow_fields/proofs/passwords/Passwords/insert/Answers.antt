@@ -1,4 +1,4 @@
-use Rattle.std.proofs.Common.{◌∙◌, ap, List, ℕ}
+use Rattle.std.proofs.Common.{◌∙◌, ap}
 use Rattle.shadow_fields.specs.Passwords.{UserPasswords, rows_of, with_password}
 use Rattle.shadow_fields.proofs.Tables.{rows_inserted}
 use Rattle.shadow_fields.proofs.passwords.Passwords.insert.Goals as goal
