@@ -4,7 +4,9 @@
 It compares the words of pi with those that another formula gives (Stormer's), the texts of random passwords of any bytes
 but zero and random salts at cost 4 with libxcrypt's, and the answers to texts in which characters are changed, left out
 or put in: by the definition a password matches exactly where libxcrypt's crypt gives the very text back and its
-identifier is `2a`, `2b` or `2y`. libcrypt.so.1 is called through ctypes. It installs nothing and runs no code of ours.
+identifier is `2a`, `2b` or `2y`. Of some passwords with a byte of 255 the hash of `2a` is another one: which these are is
+compared for 50 times as many passwords, with libxcrypt's texts of `2a` and `2b` and with the arithmetic of the fault of `2x`, and
+the hash itself for a fifth of the texts. libcrypt.so.1 is called through ctypes. It installs nothing and runs no code of ours.
 
 usage: bench/bcrypt_definitions.py [SEED [TEXTS]]      (1 and 60 if left out; two to three seconds a text)
 """
@@ -98,8 +100,8 @@ def expand_key(x, salt, key):
     return x
 
 
-def eks_blowfish_setup(cost, salt, key):
-    x = expand_key(PI_WORDS, salt, key)
+def setup_from(x, cost, salt, key):
+    x = expand_key(x, salt, key)
     for _ in range(2 ** cost):
         x = expand_key(expand_key(x, bytes(16), key), bytes(16), salt)
     return x
@@ -107,8 +109,7 @@ def eks_blowfish_setup(cost, salt, key):
 
 # ---- specs/Bcrypt
 
-def bcrypt(password, salt, cost):
-    x = eks_blowfish_setup(cost, salt, password + b"\0")
+def first_bytes(x):
     ctext = b""
     for i in range(3):
         block = (cyclic_word(b"OrpheanBeholderScryDoubt", 2 * i), cyclic_word(b"OrpheanBeholderScryDoubt", 2 * i + 1))
@@ -116,6 +117,40 @@ def bcrypt(password, salt, cost):
             block = encrypt(x, block)
         ctext += block[0].to_bytes(4, "big") + block[1].to_bytes(4, "big")
     return ctext[:23]
+
+
+def bcrypt(password, salt, cost):
+    return first_bytes(setup_from(PI_WORDS, cost, salt, password + b"\0"))
+
+
+# ---- specs/Measure
+
+def is_high(b):
+    return b >= 128
+
+
+def is_ones(b):
+    return b == 255
+
+
+def is_filled(a, b, c, d):
+    return is_high(b) or is_high(c) or is_high(d)
+
+
+def is_kept(a, b, c, d):
+    return ((not is_high(b) or is_ones(a)) and (not is_high(c) or is_ones(a) and is_ones(b))
+            and (not is_high(d) or is_ones(a) and is_ones(b) and is_ones(c)))
+
+
+def is_measured(password):
+    key = password + b"\0"
+    words = [[key[(4 * i + k) % len(key)] for k in range(4)] for i in range(18)]
+    return all(is_kept(*word) for word in words) and any(is_filled(*word) for word in words)
+
+
+def measured_bcrypt(password, salt, cost):
+    first = [PI_WORDS[0] ^ 2 ** 16] + PI_WORDS[1:] if is_measured(password) else PI_WORDS
+    return first_bytes(setup_from(first, cost, salt, password + b"\0"))
 
 
 # ---- specs/Field, specs/Made
@@ -214,6 +249,58 @@ def changed(rnd, text):
     return changed(rnd, text) if dear else bytes(text)
 
 
+def is_measured_by_sign(password):
+    """The same by arithmetic: the words of bytes, and those of bytes that are negative numbers above 127, are the same words,
+    and a negative number was put to bits before it."""
+    key, differ, sign = password + b"\0", 0, 0
+    for i in range(18):
+        right = wrong = 0
+        for j in range(4):
+            byte = key[(4 * i + j) % len(key)]
+            right = (right << 8 | byte) % 2 ** 32
+            wrong = (wrong << 8 | (byte - 256 if byte > 127 else byte)) % 2 ** 32
+            sign |= j > 0 and wrong & 128
+        differ |= right ^ wrong
+    return differ == 0 and sign != 0
+
+
+def high_password(rnd):
+    """A password with high bytes, of which many are measured: bytes of 255 before a high one, at a word's first byte or another."""
+    length = rnd.choice(LENGTHS[1:] + [6, 9, 11, 13, 35, 68, 69])
+    kind = rnd.randrange(4)
+    if kind == 0:
+        return bytes(rnd.randrange(1, 256) for _ in range(length))
+    if kind == 1:
+        return bytes(rnd.choice([255, 255, 255, 0xa3, 0x80, 0x7f, 0xfe]) for _ in range(length))
+    password = bytearray(rnd.randrange(1, 128) for _ in range(length))
+    for _ in range(rnd.choice([1, 1, 2, 3, 8])):
+        place, before = rnd.randrange(length), rnd.randrange(4)
+        place -= place % 4 if kind == 2 else 0
+        for k in range(place, min(length, place + before)):
+            password[k] = 255
+        if place + before < length:
+            password[place + before] = rnd.randrange(128, 256)
+    return bytes(password)
+
+
+def measure(rnd, call, count):
+    """Which passwords are measured, and the hashes of some of them."""
+    measured = agree = 0
+    for _ in range(50 * count):
+        password, salt = high_password(rnd), bcrypt_field(rnd.randbytes(16))
+        ours = is_measured(password)
+        theirs = call(password, b"$2a$04$" + salt)[29:] != call(password, b"$2b$04$" + salt)[29:]
+        need(ours == theirs == is_measured_by_sign(password), f"measured or not: {password}")
+        measured += ours
+    for k in range(count // 5):
+        password, salt = high_password(rnd), rnd.randbytes(16)
+        while k % 2 == 0 and not is_measured(password):
+            password = high_password(rnd)
+        agree += call(password, b"$2a$04$" + bcrypt_field(salt)) == text_of(b"2a", 4, salt, measured_bcrypt(password, salt, 4))
+    need(agree == count // 5, f"hashes of 2a: {agree} of {count // 5} agree")
+    print(f"the measure of 2a: {50 * count} passwords, {measured} of them measured, agree; {agree} hashes are libxcrypt's")
+
+
 def main():
     rnd = random.Random(int(sys.argv[1]) if len(sys.argv) > 1 else 1)
     count = int(sys.argv[2]) if len(sys.argv) > 2 else 60
@@ -225,7 +312,6 @@ def main():
         salt = rnd.randbytes(16)
         text = text_of(b"2y", 4, salt, bcrypt(password, salt, 4))
         agree += call(password, text[:29]) == text
-        # libxcrypt's 2a has a measure of its own where a byte 255 stands
         ascii_word = bytes(rnd.randrange(1, 128) for _ in range(rnd.choice(LENGTHS)))
         stored = call(ascii_word, b"$2%c$04$" % rnd.choice(b"aby") + bcrypt_field(salt))
         need(bcrypt_answer(ascii_word, stored) == "Ok", f"no match: {stored}")
@@ -236,6 +322,7 @@ def main():
             need((answer == "Ok") == same, f"libxcrypt disagrees: {answer} {other}")
             rows += 1
             answers[answer] = answers.get(answer, 0) + 1
+    measure(rnd, call, count)
     print(f"words of pi: 1042 agree; texts of the definition at cost 4: {agree} of {count} are libxcrypt's")
     print(f"changed texts: {rows} answers agree with libxcrypt's: "
           + ", ".join(f"{answer} {times}" for answer, times in sorted(answers.items())))

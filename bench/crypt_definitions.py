@@ -244,8 +244,6 @@ def listed(phrase, setting):
         return None
     if method_of(setting) is None:
         return "another method"
-    if method_of(setting) == "2a" and 255 in phrase[:72]:
-        return "2a's measure"
     if kept(phrase, setting) != kept(phrase, setting, library_scrypt_costs, library_yescrypt_costs):
         return "costs"
     return None

@@ -7,7 +7,6 @@ use Rattle.std.specs.Int.{w32, from_be_bytes}
 use Rattle.std.specs.Int.Bits.{xor_zero_r}
 use Rattle.bcrypt_plain.specs.declared.blowfish.Block.{Block}
 use Rattle.bcrypt_plain.specs.Blowfish.{encrypt}
-use Rattle.bcrypt_plain.specs.Pi.{pi_words}
 use Rattle.bcrypt_plain.specs.Schedule.{Walk, cyclic_word, cyclic_words, expand_key, expanded}
 use Rattle.bcrypt_plain.specs.Schedule.{key_words, mixed, put_block, replace_next, replaced, salt_block, turns, xor_block}
 use Rattle.bcrypt_plain.specs.Schedule.{zero_salt}
@@ -85,12 +84,11 @@ unsalted last k =
 
 -- ---- the turns
 
-pub turns_first : (salt key kw sw p x : List ℕ) → kw ≡ key_words key → sw ≡ key_words salt → p ≡ pi_words
-    → x ≡ expanded p sw kw → x ≡ turns salt key (expand_key pi_words salt key) 0
+pub turns_first : (salt key kw sw first x : List ℕ) → kw ≡ key_words key → sw ≡ key_words salt
+    → x ≡ expanded first sw kw → x ≡ turns salt key (expand_key first salt key) 0
 unfolding turns
-turns_first salt key kw sw p x k s p_is e =
-    e ∙ ap (λ (w : List ℕ). expanded w sw kw) p_is ∙ ap (λ (w : List ℕ). expanded pi_words w kw) s
-    ∙ ap (expanded pi_words (key_words salt)) k
+turns_first salt key kw sw first x k s e =
+    e ∙ ap (λ (w : List ℕ). expanded first w kw) s ∙ ap (expanded first (key_words salt)) k
 
 turns-more : (salt key x0 : List ℕ) (n : ℕ)
     → turns salt key x0 (n + 1) ≡ expand_key (expand_key (turns salt key x0 n) zero_salt key) zero_salt salt

@@ -1,10 +1,12 @@
 -- Laws over the definitions.
 use Rattle.std.specs.Prelude.{◌≡◌, ◌↔◌, ◌≤◌, ℕ, false, List, Ok, length, take}
+use Rattle.std.specs.List.{list_any}
 use Rattle.base64ct.specs.Encoding.{EachBelow}
 use Rattle.bcrypt_plain.specs.Bcrypt.{bcrypt}
 use Rattle.bcrypt_plain.specs.Check.{bcrypt_answer, has_zero}
 use Rattle.bcrypt_plain.specs.Field.{bcrypt_field}
 use Rattle.bcrypt_plain.specs.Made.{IsHashText, bcrypt_text}
+use Rattle.bcrypt_plain.specs.Measure.{is_ones, measured_bcrypt}
 
 -- of a password the first 72 bytes count
 abbrev pub FirstBytesCount : Type 0
@@ -26,3 +28,9 @@ abbrev pub MatchesExactly : Type 0
 MatchesExactly =
     (password text : List ℕ)
     → (bcrypt_answer password text ≡ Ok tt) ↔ ((has_zero password ≡ false) × IsHashText password text)
+
+-- the measure of `2a` changes no hash of a password without a byte of 255
+abbrev pub MeasureNeedsOnes : Type 0
+MeasureNeedsOnes =
+    (password salt : List ℕ) (cost : ℕ) → list_any is_ones password ≡ false
+    → measured_bcrypt password salt cost ≡ bcrypt password salt cost

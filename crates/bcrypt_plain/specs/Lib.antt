@@ -2,6 +2,7 @@ pub mod Blowfish
 pub mod Pi
 pub mod Schedule
 pub mod Bcrypt
+pub mod Measure
 pub mod Field
 pub mod Text
 pub mod Check

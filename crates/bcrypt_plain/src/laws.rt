@@ -1,6 +1,6 @@
 //! Laws over the definitions.
 
-ghost use Rattle.bcrypt_plain.specs.Laws.{FieldOnce, FirstBytesCount, MadeMatches, MatchesExactly};
+ghost use Rattle.bcrypt_plain.specs.Laws.{FieldOnce, FirstBytesCount, MadeMatches, MatchesExactly, MeasureNeedsOnes};
 
 /// Of a password the first 72 bytes count.
 pub fn first_bytes_count()
@@ -21,4 +21,9 @@ pub fn made_matches()
 /// one; a password with a zero byte passes none.
 pub fn matches_exactly()
     ensures texts { MatchesExactly }
+{}
+
+/// The safety measure of `2a` changes no hash of a password without a byte of 255, and so none of UTF-8.
+pub fn measure_needs_ones()
+    ensures same { MeasureNeedsOnes }
 {}

@@ -6,7 +6,8 @@ ghost use Rattle.std.specs.Prelude.{◌≡◌, ◌≤◌, length};
 use base64ct::Counts;
 use bcrypt_plain::{
     BcryptError, BcryptFault, MakeFault, bcrypt, bcrypt_check, bcrypt_check_counted, bcrypt_simple,
-    bcrypt_text, decode_hash, decode_salt, encode_hash, encode_salt, laws, text_cost,
+    bcrypt_text, decode_hash, decode_salt, encode_hash, encode_salt, laws, measured_bcrypt,
+    text_cost,
 };
 use rand_chacha::ChaCha20Rng;
 use rand_core::{Rng, SeedableRng};
@@ -140,6 +141,106 @@ const KNOWN: [(&[u8], u32, &str, &str); 15] = [
     ),
 ];
 
+// A password, and the hashes that libxcrypt gives for it at cost 4 under `2a` and under `2b`: they differ where the safety
+// measure of `2a` is for the password.
+const MEASURED: [(&[u8], &str, &str); 19] = [
+    (
+        b"\xff\xff\xa3",
+        "Ias9ej8rVP83dbQWecz/ebYDer7Sfq6",
+        "79F7iyfPXU.AMPgYp2WOmvgKQ4Ez/5.",
+    ),
+    (
+        b"\xff\x80a",
+        "rVOWFXmb7u4Vr6F9/r3iY3UVJipV4Tm",
+        "OqFgI.oz3mcLd.Iz6eR3w4rEJnNgSI2",
+    ),
+    (
+        b"\xff\x7fa",
+        "meD3E.cjQPFOeNlb6gP.It5u0QxQGhy",
+        "meD3E.cjQPFOeNlb6gP.It5u0QxQGhy",
+    ),
+    (
+        b"\xfe\x80a",
+        "CiDUegn7E8XvEOKZhvKi0LT3iAWh3zW",
+        "CiDUegn7E8XvEOKZhvKi0LT3iAWh3zW",
+    ),
+    (
+        b"\xff\xff\xff",
+        "7R7s9dp3Nufj8vhfXpDVxA1CewHN6zK",
+        "FKw3TGe6Mjb0qZiTDXFGUVnDe/XvIVy",
+    ),
+    (
+        b"\xff\xff\x80",
+        "Uqpw2j4zyCWDn5W94Gl8ocu6tZD41t6",
+        "TtAV81DNVsyHCV3f3ke/oMB.3GQlf5a",
+    ),
+    (
+        b"\xff\xff\xfeabcd",
+        "dh2fWpZZA/94rfnopW1Uy/qSPJ2JEM6",
+        "1ek62yUI.Kugq6M3FBMOXj8nfh0t6Jy",
+    ),
+    (
+        b"\xff\xff\xff\x80abc",
+        "yJ5rPb01c.dnuhEL7h6x0TP0wFHqJXS",
+        "H0aCqPa0UJgXyWHotw2gWEFJjbjhH.S",
+    ),
+    (
+        b"\xff\xffa\x80abc",
+        "gv1ya3kxLO.xgm/7QsNU.IBEmwNeRjS",
+        "gv1ya3kxLO.xgm/7QsNU.IBEmwNeRjS",
+    ),
+    (
+        b"\xffa\xff\x80abc",
+        "B1GmUhA5Ll7xP6BguG1JQ1AmujU/ueq",
+        "B1GmUhA5Ll7xP6BguG1JQ1AmujU/ueq",
+    ),
+    (
+        b"\xa3ab",
+        "af1NAliZ2sElpgHgy1DuMkfSslA5RkC",
+        "af1NAliZ2sElpgHgy1DuMkfSslA5RkC",
+    ),
+    (
+        b"\xffa\xa3",
+        "kzDqKP.uTrKgI7Thn.JrgTgsqqwA5G6",
+        "kzDqKP.uTrKgI7Thn.JrgTgsqqwA5G6",
+    ),
+    (
+        b"\xffabc\xff\xa3abc",
+        "VkHgjoSpVMdQo0xqKU.mR3asHrLVFES",
+        "VkHgjoSpVMdQo0xqKU.mR3asHrLVFES",
+    ),
+    (
+        b"\xff\xa3aabc\xa3",
+        "c5pABwUnVhU4fxc9i3ZBmaQxjeb8Z2G",
+        "c5pABwUnVhU4fxc9i3ZBmaQxjeb8Z2G",
+    ),
+    (
+        b"\xff\xa334\xff\xff\xff\xa3345",
+        "PmnZifXAyP7sqefVHxdDlg.V55p1d56",
+        "PZmIKt.m7jAS2MaAgriAh2m0Mear0sG",
+    ),
+    (
+        b"aaaaaaaaaaaaaaaaaaaaaaaaaaaaaaaaaaaaaaaaaaaaaaaaaaaaaaaaaaaaaaaaaaaa\xff\xff\xff\xff",
+        "jzq5jZgzhfpEbtAtQu4NMs0ZsA9wLeG",
+        "FmdQDhBSvZwskuj/4Z9JuYZL22StTgu",
+    ),
+    (
+        b"aaaaaaaaaaaaaaaaaaaaaaaaaaaaaaaaaaaaaaaaaaaaaaaaaaaaaaaaaaaaaaaaaaaaaaa\xff",
+        "rvhPv9ZUivi6UWdBX1U4xATK7puf4yW",
+        "rvhPv9ZUivi6UWdBX1U4xATK7puf4yW",
+    ),
+    (
+        b"aaaaaaaaaaaaaaaaaaaaaaaaaaaaaaaaaaaaaaaaaaaaaaaaaaaaaaaaaaaaaaaaaaaaaaaa\xff\xa3",
+        "dWnlio9BRPS8MKPFcyrsOTh0M4LfeI6",
+        "dWnlio9BRPS8MKPFcyrsOTh0M4LfeI6",
+    ),
+    (
+        &[0xff; 255],
+        "ANvvLMzSCxQBmnQyvM8T67yjOUrJNzS",
+        "08bOJFQyl.kN4l8QCb5oKG0hVWpnCbm",
+    ),
+];
+
 // The first bytes of a text.
 fn front(bytes: &[u8], count: usize) -> &[u8]
     ensures { length result.now ≤ length bytes.now }
@@ -170,6 +271,25 @@ fn known_answers(rt: HostRuntime) {
         assert!(rt; encode_salt(&bytes).as_slice() == salt.as_bytes(), "{salt}");
         let hash = bcrypt(password, &bytes, cost);
         assert!(rt; encode_hash(&hash).as_slice() == field.as_bytes(), "{salt}");
+    }
+}
+
+#[test]
+fn the_measure_of_2a(rt: HostRuntime) {
+    let Some(salt) = decode_salt(b"/OK.fbVrR/bpIqNJ5ianF.") else {
+        panic!(rt; "the salt")
+    };
+    for (password, measured, plain) in MEASURED {
+        let hash = measured_bcrypt(password, &salt, 4);
+        assert!(rt;
+            encode_hash(&hash).as_slice() == measured.as_bytes(),
+            "{password:?}"
+        );
+        let hash = bcrypt(password, &salt, 4);
+        assert!(rt;
+            encode_hash(&hash).as_slice() == plain.as_bytes(),
+            "{password:?}"
+        );
     }
 }
 
@@ -580,4 +700,5 @@ fn laws_stand() {
     laws::field_once();
     laws::made_matches();
     laws::matches_exactly();
+    laws::measure_needs_ones();
 }

@@ -1,7 +1,8 @@
 -- The law for texts of bcrypt.
-use Rattle.std.proofs.Common.{◌≡◌, ℕ, ◌+◌, ◌/◌, ◌%◌, ◌≤◌, Bool, true, false, List, ◌∷◌, ◌++◌, length, refl, sym, ap, ◌∙◌, arith}
+use Rattle.std.proofs.Common.{◌≡◌, ℕ, ◌+◌, ◌/◌, ◌%◌, ◌≤◌, Bool, true, false, List, ◌∷◌, ◌++◌, length, refl, sym, subst, ap, ◌∙◌, arith}
 use Rattle.std.proofs.Common.{inl, inr, Some, Result, Ok, Err}
 use Rattle.std.specs.Prelude.{◌↔◌, codes, if◌then◌else◌}
+use Rattle.std.specs.List.{list_any}
 use Rattle.std.proofs.lemmas.Bool.Decides.{nat_tests}
 use Rattle.base64ct.specs.Encoding.{EachBelow}
 use Rattle.phc.specs.declared.password_hash.PasswordHash.{PasswordHash}
@@ -11,16 +12,18 @@ use Rattle.bcrypt_plain.specs.Bcrypt.{bcrypt}
 use Rattle.bcrypt_plain.specs.Check.{bcrypt_answer, has_zero, hash_matches, parts_answer}
 use Rattle.bcrypt_plain.specs.Field.{bcrypt_field}
 use Rattle.bcrypt_plain.specs.Made.{text_of, two_digits}
+use Rattle.bcrypt_plain.specs.Measure.{is_ones}
 use Rattle.bcrypt_plain.specs.Text.{Parts, text_parts, version_of}
 use Rattle.bcrypt_plain.specs.declared.error.BcryptError.TheVariants as of_bcrypt
 use Rattle.bcrypt_plain.specs.declared.error.BcryptFault.{BcryptFault}
 use Rattle.bcrypt_plain.proofs.MadeTexts.{field_passes, hash_below, hash_long, parts, text_read}
+use Rattle.bcrypt_plain.proofs.Measured.{measured_same}
 use Rattle.bcrypt_plain.proofs.ReadTexts.{current_is, current_lacks, text_is}
 use Rattle.any_check.specs.Table.{any_verdict, of_bcrypt_check, text_scheme}
 use Rattle.scheme_list.specs.declared.schemes.Scheme.TheVariants.{Bcrypt}
-use Rattle.crypt_text.specs.Settings.{bcrypt_setting}
+use Rattle.crypt_text.specs.Settings.{begins, bcrypt_setting}
 use Rattle.scheme_list.specs.Schemes.{method_of}
-use Rattle.crypt_text.specs.Texts.{bcrypt_text, crypt_text, if_setting, method_text}
+use Rattle.crypt_text.specs.Texts.{bcrypt_of, bcrypt_text, crypt_text, if_setting, method_text}
 use Rattle.crypt_law.proofs.Answers.{IsTold, as_any, told_of}
 use Rattle.crypt_law.proofs.BcryptReadings.{bcrypt_read}
 use Rattle.crypt_law.proofs.Clean.{are_clean, is_clean, none_refused}
@@ -92,16 +95,26 @@ whole_clean of_y rest h = h
 
 -- ---- a text is read as a setting
 
-made_from : (l : Letter) (phrase salt own : List ℕ) (cost : ℕ) → length phrase ≤ 511 → 4 ≤ cost → cost ≤ 31
+-- the safety measure of `2a` is for phrases with a byte of 255 alone
+hash_is : (l : Letter) (phrase rest salt : List ℕ) (cost : ℕ)
+    → (begins (whole l rest) (codes "$2a$") ≡ true → list_any is_ones phrase ≡ false)
+    → bcrypt_of (id l) phrase salt cost ≡ bcrypt phrase salt cost
+hash_is of_a phrase rest salt cost plain = measured_same phrase salt cost (plain refl)
+hash_is of_b phrase rest salt cost plain = refl
+hash_is of_y phrase rest salt cost plain = refl
+
+made_from : (l : Letter) (phrase salt own : List ℕ) (cost : ℕ) → length phrase ≤ 511
+    → bcrypt_of (id l) phrase salt cost ≡ bcrypt phrase salt cost → 4 ≤ cost → cost ≤ 31
     → length salt ≡ 16 → EachBelow 256 salt → EachBelow 256 own
     → crypt_text phrase (text_of (id l) cost salt own) ≡ Ok (text_of (id l) cost salt (bcrypt phrase salt cost))
-made_from l phrase salt own cost short least most len below own_below =
+made_from l phrase salt own cost short same least most len below own_below =
     let rest : List ℕ = two_digits cost ++ 36 ∷ (bcrypt_field salt ++ bcrypt_field own) in
     let clean = none_refused (whole l rest) (whole_clean l rest (rest_clean cost salt own most below own_below)) in
     ap (crypt_text phrase) (printed_is l cost salt own)
     ∙ crypt_is phrase (whole l rest) short clean
     ∙ method_is l phrase rest
     ∙ ap (if_setting (bcrypt_text (id l) phrase)) (bcrypt_read cost salt (bcrypt_field own) least most len below)
+    ∙ ap (λ (hash : List ℕ). Ok (text_of (id l) cost salt hash)) same
 
 -- ---- the verdict
 
@@ -140,9 +153,10 @@ hash_once l salt hash own cost least most len below hash_len hash_small own_len 
 
 module _ (accepted : PasswordHash → List ℕ → ℕ → Bool) (tag : List ℕ → PasswordHash → List ℕ → ℕ → List ℕ) where
   pub bcrypt_law : (l : Letter) (phrase rest : List ℕ) (matches : Bool) → length phrase ≤ 511
+      → (begins (whole l rest) (codes "$2a$") ≡ true → list_any is_ones phrase ≡ false)
       → any_verdict accepted tag phrase (whole l rest) ≡ as_any matches
       → (crypt_text phrase (whole l rest) ≡ Ok (whole l rest)) ↔ (matches ≡ true)
-  bcrypt_law l phrase rest matches short h =
+  bcrypt_law l phrase rest matches short plain h =
       let text : List ℕ = whole l rest in
       let answer = told_by phrase text matches
       (sym (row_is accepted tag phrase text Bcrypt short (scheme_is l rest)) ∙ h) in
@@ -151,9 +165,12 @@ module _ (accepted : PasswordHash → List ℕ → ℕ → Bool) (tag : List ℕ
       let letter = letter_of found.id found.current in
       let is : text ≡ text_of (id letter.0) p.cost p.salt p.hash =
       found.is ∙ ap (λ (n : List ℕ). text_of n p.cost p.salt p.hash) letter.1 in
+      let same = hash_is letter.0 phrase (two_digits p.cost ++ 36 ∷ (bcrypt_field p.salt ++ bcrypt_field p.hash)) p.salt p.cost
+      (subst (λ (t : List ℕ). begins t (codes "$2a$") ≡ true → list_any is_ones phrase ≡ false)
+      (is ∙ printed_is letter.0 p.cost p.salt p.hash) plain) in
       law_by phrase text (text_of (id letter.0) p.cost p.salt) (bcrypt phrase p.salt p.cost) p.hash matches
       (ap (crypt_text phrase) is
-      ∙ made_from letter.0 phrase p.salt p.hash p.cost short found.least found.most found.long found.below found.hash_below)
+      ∙ made_from letter.0 phrase p.salt p.hash p.cost short same found.least found.most found.long found.below found.hash_below)
       is
       (hash_once letter.0 p.salt (bcrypt phrase p.salt p.cost) p.hash p.cost found.least found.most found.long found.below
       (hash_long phrase p.salt p.cost) (hash_below phrase p.salt p.cost) found.hash_long found.hash_below)

@@ -1,9 +1,11 @@
 -- The text that crypt(3) gives for a phrase and a setting, as libxcrypt 4.4.33 does, or the cause that there is none. Each hash
 -- is that of the scheme's own definition.
-use Rattle.std.specs.Prelude.{◌≡◌, ◌⊎◌, ℕ, ◌^◌, ◌&&◌, Bool, true, false, List, ◌++◌, length, take, drop, nat_lt}
+use Rattle.std.specs.Prelude.{◌≡◌, ◌⊎◌, ℕ, ◌^◌, ◌&&◌, Bool, true, false, List, ◌++◌, length, take, drop, nat_eq, nat_lt}
 use Rattle.std.specs.Prelude.{Option, Some, None, Result, Ok, Err, is_ok, if◌then◌else◌, codes}
+use Rattle.std.specs.Cmp.Lexicographic.{pointwise}
 use Rattle.bcrypt_plain.specs.Bcrypt.{bcrypt}
 use Rattle.bcrypt_plain.specs.Made.{text_of}
+use Rattle.bcrypt_plain.specs.Measure.{measured_bcrypt}
 use Rattle.md5_plain.specs.Digest.{md5_crypt_digest}
 use Rattle.md5_plain.specs.Field.{md5_field}
 use Rattle.md5_plain.specs.declared.magic.Magic.TheVariants.{Md5}
@@ -50,9 +52,14 @@ sha_text family phrase s =
       hash = sha_field (family_scheme family) phrase s;
     })
 
+-- the hash of an identifier of bcrypt: `2a` has crypt_blowfish's safety measure
+abbrev pub bcrypt_of : List ℕ → List ℕ → List ℕ → ℕ → List ℕ
+bcrypt_of id phrase salt cost =
+    if pointwise nat_eq id (codes "2a") then measured_bcrypt phrase salt cost else bcrypt phrase salt cost
+
 -- `$2b$cost$salt-and-hash`, with the setting's own identifier
 abbrev pub bcrypt_text : List ℕ → List ℕ → BcryptSetting → List ℕ
-bcrypt_text id phrase s = text_of id s.cost s.salt (bcrypt phrase s.salt s.cost)
+bcrypt_text id phrase s = text_of id s.cost s.salt (bcrypt_of id phrase s.salt s.cost)
 
 -- `$7$parameters-and-salt$hash`, with the setting's eleven characters of parameters
 abbrev pub scrypt_text : List ℕ → List ℕ → ScryptSetting → List ℕ

@@ -4,12 +4,12 @@ ghost use Rattle.std.specs.Prelude.{◌≡◌, ◌≤◌, IfSome, MatchOption, d
 ghost use Rattle.bcrypt_plain.specs.Field.{field_bytes};
 ghost use Rattle.bcrypt_plain.specs.Text.{cost_of, is_digit};
 ghost use Rattle.crypt_text.specs.Settings.{bcrypt_setting, cleared, cleared_salt};
-ghost use Rattle.crypt_text.specs.Texts.{bcrypt_text, if_setting};
+ghost use Rattle.crypt_text.specs.Texts.{bcrypt_of, bcrypt_text, if_setting};
 ghost use Rattle.crypt_text.specs.Views.{as_bcrypt, bcrypt_view};
 
 use crate::fields::two_digits;
 use crate::{CryptError, TEXT_MAX};
-use bcrypt_plain::{bcrypt, decode_salt, encode_hash, encode_salt};
+use bcrypt_plain::{bcrypt, decode_salt, encode_hash, encode_salt, measured_bcrypt};
 use pieces::places::first_place;
 use pieces::short_bytes::ShortBytes;
 
@@ -87,6 +87,18 @@ fn bcrypt_setting(rest: &[u8]) -> Option<BcryptParts>
     }
 }
 
+// The hash for an identifier.
+fn bcrypt_of(id: &[u8], phrase: &[u8], salt: &[u8; 16], cost: u32) -> [u8; 23]
+    requires cost { cost ≤ 31 }
+    ensures { result ≡ bcrypt_of id.now phrase.now salt.now cost }
+{
+    if id == b"2a".as_slice() {
+        measured_bcrypt(phrase, salt, cost)
+    } else {
+        bcrypt(phrase, salt, cost)
+    }
+}
+
 // `$id$cost$salt-and-hash`.
 fn bcrypt_text(id: &[u8], phrase: &[u8], parts: BcryptParts) -> ShortBytes<TEXT_MAX>
     requires id { length id.now ≤ 2 }
@@ -99,7 +111,7 @@ fn bcrypt_text(id: &[u8], phrase: &[u8], parts: BcryptParts) -> ShortBytes<TEXT_
     text.push_all(&two_digits(parts.cost));
     text.push_all(b"$");
     text.push_all(&encode_salt(&parts.salt));
-    text.push_all(&encode_hash(&bcrypt(phrase, &parts.salt, parts.cost)));
+    text.push_all(&encode_hash(&bcrypt_of(id, phrase, &parts.salt, parts.cost)));
     text
 }
 

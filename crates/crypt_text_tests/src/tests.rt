@@ -72,7 +72,7 @@ const SHA_TEXTS: [(&[u8], &[u8], &[u8]); 8] = [
     ),
 ];
 
-const BCRYPT_TEXTS: [(&[u8], &[u8], &[u8]); 9] = [
+const BCRYPT_TEXTS: [(&[u8], &[u8], &[u8]); 13] = [
     (
         b"correct horse",
         b"$2a$04$abcdefghijklmnopqrstuu",
@@ -117,6 +117,26 @@ const BCRYPT_TEXTS: [(&[u8], &[u8], &[u8]); 9] = [
         b"aaaaaaaaaaaaaaaaaaaaaaaaaaaaaaaaaaaaaaaaaaaaaaaaaaaaaaaaaaaaaaaaaaaaaaaaa",
         b"$2b$04$abcdefghijklmnopqrstuu",
         b"$2b$04$abcdefghijklmnopqrstuuBzzIgyKkz7xMWYSzkIjUSnxEQFQ0WNe",
+    ),
+    (
+        b"\xff\xff\xa3",
+        b"$2a$04$abcdefghijklmnopqrstuu",
+        b"$2a$04$abcdefghijklmnopqrstuuZQhQBRpiYJCaQFgyHlB.t/F01cqLCIu",
+    ),
+    (
+        b"\xff\xff\xa3",
+        b"$2b$04$abcdefghijklmnopqrstuu",
+        b"$2b$04$abcdefghijklmnopqrstuuMOaOTHB4gEm.rriBjXNwBNh.Oc4mKGG",
+    ),
+    (
+        b"\xff\xff\xa3",
+        b"$2y$04$abcdefghijklmnopqrstuu",
+        b"$2y$04$abcdefghijklmnopqrstuuMOaOTHB4gEm.rriBjXNwBNh.Oc4mKGG",
+    ),
+    (
+        b"a\xff\xa3",
+        b"$2a$04$abcdefghijklmnopqrstuu",
+        b"$2a$04$abcdefghijklmnopqrstuupkyb4IOYNHi8I1radCzw3/Y0LdfSOBG",
     ),
 ];
 
