@@ -15,7 +15,7 @@ use Rattle.foreign_text.specs.Elasticsearch.{elasticsearch}
 use Rattle.foreign_text.specs.Encoded.{either_pbkdf2, encoded_pbkdf2}
 use Rattle.foreign_text.specs.Fields.{field_bytes, five_of, number_of, pbkdf2_cost, plain_hex, scrypt_cost, small_hex, three_of}
 use Rattle.foreign_text.specs.Grub.{grub, grub_fields, grub_pbkdf2}
-use Rattle.foreign_text.specs.Ldap.{ldap, ldap_argon2, ldap_bcrypt, ldap_crypt}
+use Rattle.foreign_text.specs.Ldap.{crypt_fault, ldap, ldap_argon2, ldap_bcrypt, ldap_crypt}
 use Rattle.foreign_text.specs.MediaWiki.{if_sized, is_size, mediawiki, mediawiki_cost, mediawiki_fields, mediawiki_pbkdf2}
 use Rattle.foreign_text.specs.Mosquitto.{mosquitto}
 use Rattle.foreign_text.specs.Names.{begins, behind_tag, passlib_unread}
@@ -26,9 +26,8 @@ use Rattle.foreign_text.specs.Werkzeug.{werkzeug, werkzeug_fields, werkzeug_meth
 use Rattle.foreign_text.specs.declared.converted.Foreign.{Foreign}
 use Rattle.foreign_text.specs.declared.converted.Foreign.TheVariants as of
 use Rattle.foreign_text.specs.declared.fault.ForeignFault.{ForeignFault}
-use Rattle.foreign_text.specs.declared.fault.ForeignFault.TheVariants.{Form, Unread}
+use Rattle.foreign_text.specs.declared.fault.ForeignFault.TheVariants.{Form}
 use Rattle.foreign_text.specs.declared.fault.Unread as unread
-use Rattle.foreign_text.specs.declared.fault.Unread.TheVariants.{DesCrypt}
 use Rattle.foreign_text.specs.declared.kdf.Kdf.{Kdf}
 use Rattle.foreign_text.specs.declared.kdf.Kdf.TheVariants.{Pbkdf2, Scrypt}
 use Rattle.foreign_text.specs.declared.kdf.Pbkdf2Hash.{Pbkdf2Hash}
@@ -64,7 +63,7 @@ module _ (text stored : List ℕ) where
   unfolding ldap
   ldap_first =
       by_front ldap_crypt (behind_tag text (codes "{CRYPT}") (codes "{crypt}")) _ stored
-      (λ rest h. signed [] rest stored (Unread DesCrypt) h)
+      (λ rest h. signed [] rest stored (crypt_fault rest) h)
       (by_front ldap_argon2 (behind_tag text (codes "{ARGON2}") (codes "{argon2}")) _ stored
       (λ rest h. signed (codes "argon2") rest stored Form h)
       (by_front ldap_bcrypt (behind_tag text (codes "{BCRYPT}") (codes "{bcrypt}")) _ stored
@@ -91,7 +90,7 @@ module _ (text stored : List ℕ) where
       (by_front (as_it_is (codes "$argon2id$")) (behind_tag text (codes "{ARGON2ID}") (codes "{argon2id}")) _ stored
       (λ rest h. signed (codes "argon2id$") rest stored Form h)
       (by_front ldap_crypt (behind_tag text (codes "{CRYPT}") (codes "{crypt}")) _ stored
-      (λ rest h. signed [] rest stored (Unread DesCrypt) h)
+      (λ rest h. signed [] rest stored (crypt_fault rest) h)
       (λ h. no_ok _ stored h)))))))
 
   spring_fields_made : (rest : List ℕ) → spring_fields rest ≡ Ok stored → First stored
@@ -267,6 +266,7 @@ unfolding converted
 itself of.Django text stored h = plain_again django django_first text stored h
 itself of.Werkzeug text stored h = plain_again werkzeug werkzeug_first text stored h
 itself of.Ldap text stored h = plain_again ldap ldap_first text stored h
+itself of.Ldif text stored h = plain_again ldap ldap_first text stored h
 itself of.Passlib text stored h = again passlib passlib_made text stored h (passlib_gives text stored h)
 itself of.Dovecot text stored h = plain_again dovecot dovecot_first text stored h
 itself of.Spring text stored h = plain_again spring spring_first text stored h

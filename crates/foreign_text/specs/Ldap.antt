@@ -1,15 +1,25 @@
 -- Texts of LDAP's `userPassword`: a tag, and what the module of that name writes.
-use Rattle.std.specs.Prelude.{ℕ, List, Ok, Err, if◌then◌else◌, codes}
+use Rattle.std.specs.Prelude.{ℕ, Bool, ◌||◌, List, length, nat_lt, Ok, Err, if◌then◌else◌, codes}
 use Rattle.foreign_text.specs.Answers.{Answer, as_it_is, or_behind}
 use Rattle.foreign_text.specs.Encoded.{either_pbkdf2}
 use Rattle.foreign_text.specs.Names.{begins, behind_tag, ldap_unread}
-use Rattle.foreign_text.specs.declared.fault.ForeignFault.TheVariants.{Unread}
+use Rattle.foreign_text.specs.declared.fault.ForeignFault.{ForeignFault}
+use Rattle.foreign_text.specs.declared.fault.ForeignFault.TheVariants.{Locked, Unread}
 use Rattle.foreign_text.specs.declared.fault.Unread.TheVariants.{DesCrypt}
 use Rattle.foreign_text.specs.declared.kdf.Pbkdf2Hash.TheVariants.{Sha256, Sha512}
 
--- `{CRYPT}$6$..`: what crypt(3) takes; without a `$` it is of DES
+-- What is in the place of crypt(3)'s text is of a locked account: it begins with `*` or `!`, as in shadow(5); or it has fewer than two
+-- characters, as the `x` of passwd(5), and then slapd takes no password (OpenLDAP, libraries/liblutil/passwd.c, chk_crypt).
+abbrev pub is_locked_crypt : List ℕ → Bool
+is_locked_crypt rest = begins rest (codes "*") || begins rest (codes "!") || nat_lt (length rest) 2
+
+-- another one without a `$` is of DES
+abbrev pub crypt_fault : List ℕ → ForeignFault
+crypt_fault rest = if is_locked_crypt rest then Locked else Unread DesCrypt
+
+-- `{CRYPT}$6$..`: what crypt(3) takes
 abbrev pub ldap_crypt : List ℕ → Answer
-ldap_crypt rest = if begins rest (codes "$") then Ok rest else Err (Unread DesCrypt)
+ldap_crypt rest = if begins rest (codes "$") then Ok rest else Err (crypt_fault rest)
 
 -- `{ARGON2}$argon2i$..` (OpenLDAP, contrib/slapd-modules/passwd/argon2)
 abbrev pub ldap_argon2 : List ℕ → Answer

@@ -1,7 +1,7 @@
 //! Foreign texts converted.
 
 ghost use Rattle.std.specs.Prelude.{◌≡◌};
-ghost use Rattle.foreign_text.specs.Converted.{by_maker, converted, has_colons, has_own_dollar};
+ghost use Rattle.foreign_text.specs.Converted.{by_maker, converted, has_clear_texts, has_colons, has_own_dollar};
 ghost use Rattle.foreign_text.specs.Views.{as_answer};
 
 use crate::ForeignFault;
@@ -29,6 +29,8 @@ pub enum Foreign {
     Werkzeug,
     /// LDAP: `{CRYPT}..`, `{ARGON2}..`, `{BCRYPT}..`, `{PBKDF2-SHA256}ROUNDS$SALT$KEY`, `{PBKDF2-SHA512}..`.
     Ldap,
+    /// The same in the lines of a dump in LDIF (`ldif_lines`): the text goes on to the line's end.
+    Ldif,
     /// passlib: `$pbkdf2-sha256$ROUNDS$SALT$KEY`, `$pbkdf2-sha512$..`, and the texts that it shares with others.
     Passlib,
     /// Dovecot: `{SHA512-CRYPT}$6$..`, `{BLF-CRYPT}$2y$..`, `{ARGON2ID}$argon2id$..` and others of crypt(3) and Argon2.
@@ -65,7 +67,18 @@ impl Foreign {
         ensures colons { result ≡ has_colons self }
     {
         match self {
-            Foreign::Werkzeug | Foreign::MediaWiki => true,
+            Foreign::Werkzeug | Foreign::Ldif | Foreign::MediaWiki => true,
+            _ => false,
+        }
+    }
+
+    /// Whether a text of the maker is the password itself where it has no tag, so that none which begins with `*` or `!` is of a locked
+    /// account.
+    pub fn has_clear_texts(self) -> bool
+        ensures clear { result ≡ has_clear_texts self }
+    {
+        match self {
+            Foreign::Ldap | Foreign::Ldif => true,
             _ => false,
         }
     }
@@ -82,7 +95,7 @@ fn by_maker<'a>(
     match foreign {
         Foreign::Django => django(text, made),
         Foreign::Werkzeug => werkzeug(text, made),
-        Foreign::Ldap => ldap(text, made),
+        Foreign::Ldap | Foreign::Ldif => ldap(text, made),
         Foreign::Passlib => passlib(text, made),
         Foreign::Dovecot => dovecot(text),
         Foreign::Spring => spring(text, made),

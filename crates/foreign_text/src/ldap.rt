@@ -2,7 +2,7 @@
 
 ghost use Rattle.std.specs.Prelude.{◌≡◌, ℕ, List};
 ghost use Rattle.pieces.specs.Pieces.{lent};
-ghost use Rattle.foreign_text.specs.Ldap.{ldap, ldap_crypt};
+ghost use Rattle.foreign_text.specs.Ldap.{crypt_fault, is_locked_crypt, ldap, ldap_crypt};
 ghost use Rattle.foreign_text.specs.Names.{behind_tag, is_tagged, ldap_digest, ldap_pbkdf2, ldap_sha2, ldap_unread};
 ghost use Rattle.foreign_text.specs.Views.{as_answer};
 
@@ -81,6 +81,24 @@ pub(crate) fn ldap_unread(text: &str) -> Unread
     ldap_pbkdf2(text)
 }
 
+// Whether a text in the place of crypt(3)'s is of a locked account.
+fn is_locked_crypt(rest: &str) -> bool
+    ensures { result ≡ is_locked_crypt rest.now }
+{
+    begins_with(rest, "*") || begins_with(rest, "!") || rest.len() < 2
+}
+
+// What a text without a `$` in the place of crypt(3)'s is.
+fn crypt_fault(rest: &str) -> ForeignFault
+    ensures { result ≡ crypt_fault rest.now }
+{
+    if is_locked_crypt(rest) {
+        ForeignFault::Locked
+    } else {
+        ForeignFault::Unread(Unread::DesCrypt)
+    }
+}
+
 /// What crypt(3) takes.
 pub(crate) fn ldap_crypt(rest: &str) -> Result<Option<&str>, ForeignFault>
     ensures { (made : List ℕ) → as_answer result made ≡ ldap_crypt rest.now }
@@ -88,7 +106,7 @@ pub(crate) fn ldap_crypt(rest: &str) -> Result<Option<&str>, ForeignFault>
     if begins_with(rest, "$") {
         Ok(Some(rest))
     } else {
-        Err(ForeignFault::Unread(Unread::DesCrypt))
+        Err(crypt_fault(rest))
     }
 }
 

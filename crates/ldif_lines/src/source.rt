@@ -6,11 +6,19 @@ ghost use Rattle.std.specs.Io.{ReadsAtMost};
 ghost use Rattle.std.specs.Io.KnownBytes.{Consumes, IsAtEnd, Keeps, ReadConsumes};
 ghost use Rattle.pieces.specs.FaultCounts.{HasRisen, one_more};
 ghost use Rattle.line_filter.specs.Steps.{TakesMost};
-ghost use Rattle.ldif_lines.specs.Ldif.{dump_text};
 ghost use Rattle.ldif_lines.specs.Steps.{pending, shown_by, waiting};
 
 use crate::reader::{PIECE, Reader};
 use line_io::{Failed, Source};
+
+/// What the bytes of a file are.
+#[derive(Clone, Copy, Debug, PartialEq, Eq)]
+pub enum FileForm {
+    /// Lines.
+    Lines,
+    /// A dump of a directory in LDIF.
+    Ldif,
+}
 
 // Takes a piece of a source, and answers whether it has ended.
 fn take_piece<S: Source>(reader: &mut Reader, source: &mut S) -> Result<bool, Failed>
@@ -84,28 +92,30 @@ fn read_lines<S: Source>(
     Ok(reader.give_into(buf))
 }
 
-/// A source of the lines of a dump that another source gives.
+/// A source of the lines of users and texts of a dump that another source gives, or of lines as they are.
 ///
-/// The other one gives the dump without carriage returns before its line feeds, as `line_filter::Filtered` does. It keeps what it has
-/// read and not yet given in some 130,000 bytes held in place.
+/// The other one gives the dump without carriage returns before its line feeds, as `line_filter::Filtered` does. What was read and not
+/// yet given is kept in some 110,000 bytes held in place.
 #[derive(Drop)]
 pub struct LdifLines<S: Source + Drop> {
     source: S,
+    form: FileForm,
     reader: Reader,
     faults: u64,
 }
 
 impl<S: Source + Drop> LdifLines<S> {
-    ghost use Rattle.ldif_lines.specs.Views.{faults_of, ldif_left, source_of};
+    ghost use Rattle.ldif_lines.specs.Views.{faults_of, ldif_left, read_as, source_of};
 
     /// A source of the lines of what the other one has left, with no fault counted.
-    pub fn new(source: S) -> LdifLines<S>
-        ensures left { ldif_left S.left result ≡ option_map dump_text (S.left source) }
+    pub fn new(form: FileForm, source: S) -> LdifLines<S>
+        ensures left { ldif_left S.left result ≡ read_as form (S.left source) }
         ensures source { source_of result ≡ source }
         ensures faults { faults_of result ≡ 0 }
     {
         LdifLines {
             source,
+            form,
             reader: Reader::new(),
             faults: 0,
         }
@@ -126,7 +136,10 @@ impl<S: Source + Drop> LdifLines<S> {
             ⊎ TakesMost (S.left (source_of self.old)) (S.left (source_of self.new))) }
         ensures faults { faults_of self.new ≡ faults_of self.old }
     {
-        read_lines(&mut self.reader, &mut self.source, buf)
+        match self.form {
+            FileForm::Lines => self.source.read(buf),
+            FileForm::Ldif => read_lines(&mut self.reader, &mut self.source, buf),
+        }
     }
 }
 

@@ -1,6 +1,6 @@
 //! What dumps give, in pieces of every size.
 
-use ldif_lines::LdifLines;
+use ldif_lines::{FileForm, LdifLines};
 use line_io::{Failed, MemorySource, Source};
 use std::test::Fail;
 
@@ -139,7 +139,7 @@ fn all_of<S: Source>(source: &mut S, room: usize, out: &mut Vec<u8>) -> Result<b
 fn dumps_in_pieces(rt: HostRuntime) -> Result<(), Fail> {
     for (dump, given) in DUMPS {
         for (step, room) in [(1, 7), (2, 1), (5, 64), (999, 3)] {
-            let mut source = LdifLines::new(MemorySource::new(dump, step, &[]));
+            let mut source = LdifLines::new(FileForm::Ldif, MemorySource::new(dump, step, &[]));
             let mut out = Vec::new(rt.alloc());
             assert!(rt; all_of(&mut source, room, &mut out)?, "{dump:?}");
             assert!(rt;

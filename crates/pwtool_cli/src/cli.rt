@@ -2,7 +2,7 @@
 
 use crate::make_cli::{make, normalize, unwrap, wrap};
 use crate::options::{
-    file, flag, form, plus, wanted, with_forms, with_from, with_good, with_telling,
+    FILES, MAKERS, file, flag, form, plus, wanted, with_forms, with_from, with_good, with_telling,
 };
 use crate::tables::table;
 use clap::{Arg, Command, value_parser};
@@ -179,6 +179,12 @@ const MOST: &str = "The most that a stored text may ask for (left out: what its 
 /// The heading of the least costs.
 const LEAST: &str = "The least that isn't weak (left out: the number in brackets)";
 
+/// The helps of the option that says whose spelling the texts have, of `check`, and of `join` and `survey`.
+const FROM_MAKER: &str = "The stored texts are spelled as this maker spells them";
+
+const FROM_FILE: &str = "\
+The stored texts are spelled as this maker spells them; ldif: the file is a dump of a directory";
+
 /// The helps of the option that says which answers count as good, of `check`, `join` and `survey`.
 const GOOD_WORDS: &str = "\
 Status 0 is for these answers, with commas between them: match, mismatch, no-scheme, unsupported, \
@@ -209,7 +215,7 @@ fn check<'a>(alloc: Global) -> Result<Command<'a>, AllocError> {
             alloc,
             with_good(
                 alloc,
-                with_forms(alloc, with_from(alloc, command)),
+                with_forms(alloc, with_from(alloc, command, MAKERS, FROM_MAKER)),
                 GOOD_WORDS,
             ),
         ),
@@ -238,7 +244,7 @@ fn join<'a>(alloc: Global) -> Result<Command<'a>, AllocError> {
             alloc,
             with_good(
                 alloc,
-                with_forms(alloc, with_from(alloc, command)),
+                with_forms(alloc, with_from(alloc, command, FILES, FROM_FILE)),
                 GOOD_USERS,
             ),
         ),
@@ -266,7 +272,7 @@ fn survey<'a>(alloc: Global) -> Result<Command<'a>, AllocError> {
             alloc,
             with_good(
                 alloc,
-                with_forms(alloc, with_from(alloc, command)),
+                with_forms(alloc, with_from(alloc, command, FILES, FROM_FILE)),
                 GOOD_TEXTS,
             ),
         ),
