@@ -136,9 +136,7 @@ fn answer_refused<R: Responder, K: Sink>(
             put_user(out, sink, parts.user, fault.word());
             Ok(false)
         }
-        LineForm::Surveyed => {
-            answer_with(inner, form, parts, surveyed_text(fault), out, sink)
-        }
+        LineForm::Surveyed => { answer_with(inner, form, parts, surveyed_text(fault), out, sink) }
     }
 }
 

@@ -396,11 +396,7 @@ const FAULTS: [(Foreign, &str, ForeignFault); 93] = [
         "!geheim",
         ForeignFault::Unread(Unread::Cleartext),
     ),
-    (
-        Foreign::Ldap,
-        "*",
-        ForeignFault::Unread(Unread::Cleartext),
-    ),
+    (Foreign::Ldap, "*", ForeignFault::Unread(Unread::Cleartext)),
     (
         Foreign::Ldif,
         "!{SSHA}x:y",

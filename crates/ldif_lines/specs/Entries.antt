@@ -1,6 +1,6 @@
 -- The entries of a dump, and the lines of a user, a colon and a text that each gives.
-use Rattle.std.specs.Prelude.{ℕ, ◌==◌, List, [], ◌∷◌, ◌++◌, length, map, nat_lt, Option, Some, None, replicate, if◌then◌else◌}
-use Rattle.std.specs.List.{filter, find, flat_map, onto_first}
+use Rattle.std.specs.Prelude.{ℕ, ◌==◌, List, [], ◌∷◌, ◌++◌, length, map, nat_lt, replicate, if◌then◌else◌}
+use Rattle.std.specs.List.{filter, flat_map, onto_first}
 use Rattle.ldif_lines.specs.Attributes.{is_dn, is_password, is_uid, line_name, line_text, no_name}
 use Rattle.ldif_lines.specs.Limits.{rows_most}
 
@@ -11,14 +11,19 @@ entries (line ∷ more) =
     if length line == 0 then [] ∷ entries more
     else if is_dn line then [] ∷ onto_first line (entries more) else onto_first line (entries more)
 
--- the name by the first line that has one
-abbrev pub name_in : Option (List ℕ) → List ℕ → List ℕ
-name_in None other = other
-name_in (Some line) other = line_name line
+-- the distinguished name with which an entry begins
+abbrev pub dn_name : List (List ℕ) → List ℕ
+dn_name [] = no_name
+dn_name (line ∷ more) = if is_dn line then line_name line else no_name
+
+-- the name by the first `uid`, or else this one
+abbrev pub uid_name : List ℕ → List (List ℕ) → List ℕ
+uid_name other [] = other
+uid_name other (line ∷ more) = if is_uid line then line_name line else uid_name other more
 
 -- The name of an entry: its first `uid`, or else its distinguished name.
 abbrev pub entry_name : List (List ℕ) → List ℕ
-entry_name entry = name_in (find is_uid entry) (name_in (find is_dn entry) no_name)
+entry_name entry = uid_name (dn_name entry) entry
 
 -- its texts, in their order
 abbrev pub entry_texts : List (List ℕ) → List (List ℕ)

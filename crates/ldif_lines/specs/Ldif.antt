@@ -1,5 +1,5 @@
 -- A dump of a directory in LDIF (RFC 2849), as lines of a user, a colon and a stored text.
-use Rattle.std.specs.Prelude.{ℕ, Bool, false, ◌&&◌, ◌==◌, List, [], ◌∷◌, ◌++◌, drop, length, map, not, take, if◌then◌else◌}
+use Rattle.std.specs.Prelude.{ℕ, Bool, false, ◌==◌, List, [], ◌∷◌, ◌++◌, drop, map, take, if◌then◌else◌}
 use Rattle.std.specs.List.{flat_map}
 use Rattle.line_io.specs.Lines.{lines}
 use Rattle.ldif_lines.specs.Entries.{entries, entry_rows}
@@ -14,8 +14,9 @@ begins_with_space (b ∷ line) = b == 32
 -- A line that isn't empty goes on in the next one, where that begins with a space, which isn't part of the line (RFC 2849, note 2).
 abbrev pub with_next : List ℕ → List (List ℕ) → List (List ℕ)
 with_next line [] = line ∷ []
-with_next line (next ∷ more) =
-    if not (length line == 0) && begins_with_space next then (line ++ drop 1 next) ∷ more else line ∷ next ∷ more
+with_next [] (next ∷ more) = [] ∷ next ∷ more
+with_next (b ∷ line) (next ∷ more) =
+    if begins_with_space next then (b ∷ line ++ drop 1 next) ∷ more else (b ∷ line) ∷ next ∷ more
 
 abbrev pub unfolded : List (List ℕ) → List (List ℕ)
 unfolded [] = []

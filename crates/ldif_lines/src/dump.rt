@@ -1,16 +1,12 @@
 //! A dump, byte by byte.
 
-ghost use Rattle.std.specs.Prelude.{◌≡◌, ◌≢◌, ◌≤◌, ◌<◌, ◌+◌, ◌++◌, ◌∷◌, [], List, ℕ, drop, false, length, min, take};
+ghost use Rattle.std.specs.Prelude.{◌≡◌, ◌==◌, ◌≤◌, ◌+◌, ◌++◌, ◌∷◌, [], List, ℕ, drop, false, length, min, take};
 ghost use Rattle.ldif_lines.specs.Limits.{rows_most};
 ghost use Rattle.ldif_lines.specs.Rests.{fresh, given_lines, grown, held_rows};
-ghost use Rattle.ldif_lines.specs.Steps.{held, shown, waiting};
 
 use crate::attribute::{LINE_MOST, is_dn};
-use crate::entry::{Entry, ROWS_MOST, Rows};
+use crate::entry::{Entry, Ready, Rows};
 use crate::room::Room;
-
-/// The bytes that may be ready: the lines of two entries.
-const READY_MOST: usize = 32_768;
 
 /// What was read of a dump, and the lines of its entries that are ready.
 #[derive(Drop)]
@@ -21,7 +17,7 @@ pub(crate) struct Dump {
     pub line: Room<LINE_MOST>,
     pub entry: Entry,
     pub rows: Rows,
-    pub ready: Room<READY_MOST>,
+    pub ready: Ready,
     /// Those of `ready` that were given.
     pub given: usize,
     ghost within: { given ≤ length ready },
@@ -36,18 +32,8 @@ fn grow(line: &mut Room<LINE_MOST>, b: u8)
     }
 }
 
-// Puts the lines of an entry after those that are ready.
-fn put_entry(entry: &Entry, rows: &mut Rows, ready: &mut Room<READY_MOST>)
-    requires room { length ready.old ≤ rows_most }
-    ensures put { ready.new ≡ ready.old ++ held_rows (held entry.now) }
-    ensures length { length ready.new ≤ length ready.old + rows_most }
-{
-    entry.rows_into(rows);
-    ready.push_all(rows.as_slice());
-}
-
 impl Dump {
-    ghost use Rattle.ldif_lines.specs.Steps.{shown, waiting};
+    ghost use Rattle.ldif_lines.specs.Steps.{held, shown, waiting};
     ghost use Rattle.ldif_lines.specs.Ldif.{dump_text};
 
     /// Nothing was read.
@@ -91,7 +77,7 @@ impl Dump {
         ensures has_feed { self.new.has_feed ≡ self.old.has_feed }
         ensures size { length self.new.ready ≤ length self.old.ready + rows_most }
     {
-        put_entry(&self.entry, &mut self.rows, &mut self.ready);
+        self.entry.put(&mut self.rows, &mut self.ready);
     }
 
     // The line is whole.
@@ -180,20 +166,4 @@ impl Dump {
         self.given = given + count;
         count
     }
-}
-
-/// Takes bytes until some are ready; how many were taken.
-pub(crate) fn pour(dump: &mut Dump, bytes: &[u8]) -> usize
-    requires none { dump.old.ready ≡ [] }
-    ensures shown { (text : List ℕ) → shown dump.new (drop result bytes.now ++ text) ≡ shown dump.old (bytes.now ++ text) }
-    ensures most { result ≤ length bytes.now }
-    ensures all { waiting dump.new ≡ [] → result ≡ length bytes.now }
-{
-    for i in 0..bytes.len() {
-        if dump.ready.len() != 0 {
-            return i;
-        }
-        dump.step(bytes[i]);
-    }
-    bytes.len()
 }

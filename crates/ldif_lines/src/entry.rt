@@ -16,6 +16,9 @@ pub(crate) const ROWS_MOST: usize = 16_384;
 /// The lines of one entry.
 pub(crate) type Rows = Room<ROWS_MOST>;
 
+/// The lines that are ready: at most those of two entries.
+pub(crate) type Ready = Room<32_768>;
+
 /// What was read of an entry.
 #[derive(Drop)]
 pub(crate) struct Entry {
@@ -160,8 +163,8 @@ impl Entry {
         }
     }
 
-    /// Puts the lines of the entry into `rows`.
-    pub fn rows_into(&self, rows: &mut Rows)
+    // Puts the lines of the entry into `rows`.
+    fn rows_into(&self, rows: &mut Rows)
         ensures rows { rows.new ≡ held_rows (held self.now) }
     {
         rows.clear();
@@ -169,5 +172,15 @@ impl Entry {
             rows.clear();
             push_too_long(rows);
         }
+    }
+
+    /// Puts the lines of the entry after those that are ready, by way of `rows`.
+    pub fn put(&self, rows: &mut Rows, ready: &mut Ready)
+        requires room { length ready.old ≤ rows_most }
+        ensures put { ready.new ≡ ready.old ++ held_rows (held self.now) }
+        ensures length { length ready.new ≤ length ready.old + rows_most }
+    {
+        self.rows_into(rows);
+        ready.push_all(rows.as_slice());
     }
 }

@@ -7,6 +7,7 @@
 mod attribute;
 mod dump;
 mod entry;
+mod pour;
 mod reader;
 mod room;
 mod source;

@@ -1,9 +1,10 @@
 //! A dump, in pieces.
 
-ghost use Rattle.std.specs.Prelude.{◌≡◌, ◌≤◌, ◌++◌, [], List, ℕ, length, min, take};
+ghost use Rattle.std.specs.Prelude.{◌≡◌, ◌==◌, ◌≤◌, ◌++◌, [], List, ℕ, length, min, take};
 ghost use Rattle.ldif_lines.specs.Ldif.{dump_text};
 
-use crate::dump::{Dump, pour};
+use crate::dump::Dump;
+use crate::pour::pour;
 use crate::room::Room;
 
 /// The bytes of one read.
