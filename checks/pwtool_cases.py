@@ -414,7 +414,7 @@ DUMPS = [
     # What isn't in the dump, and what no line has.
     ("dn: 1\nuid: ann\nuserPassword:< file:///etc/shadow\nuserPassword:: e0NS!\nuserPassword:: " + padded(b"{CRYPT}" + MD5.encode() + b"\nroot:x") + "\n",
      [("ann", "invalid")] * 3),
-    (f"dn: 1\nuid: ann\nuserPassword: {{CRYPT}}{MD5}:x\n", [("ann", "invalid")]),
+    (f"dn: 1\nuid: ann\nuserPassword: {{CRYPT}}{MD5}:x\nuserPassword: {MD5}:x\nuserPassword: ge:heim\n", [("ann", "form"), ("ann", "form"), ("ann", "clear")]),
     ("dn: 1\nuid: root:x\nuserPassword: {SSHA}x\n", [("", "badline")]),
     (f"dn: 1\nuid: ann\nuserPassword: {'x' * 8189}\nuserPassword: {'x' * 8188}\n", [("", "toolong")]),
     (f"dn: 1\nuid: ann\nuserPassword: {'x' * 8189}\n\ndn: 2\nuid: bob\nuserPassword: {'x' * 8188}\n\n", [("", "toolong"), ("bob", "clear")]),
@@ -423,7 +423,8 @@ DUMPS = [
 ]
 KINDS = {"md5": "md5-crypt\t-\tweak: md5-crypt", "sha1": "-\t-\tunsupported: sha1", "md5 digest": "-\t-\tunsupported: md5",
          "clear": "-\t-\tunsupported: clear text", "badline": "-\t-\tbadline", "toolong": "-\t-\ttoolong", "invalid": "-\t-\tinvalid",
-         "locked": "-\t-\tlocked", "des": "-\t-\tunsupported: descrypt", "empty": "-\t-\tempty"}
+         "locked": "-\t-\tlocked", "des": "-\t-\tunsupported: descrypt", "empty": "-\t-\tempty",
+         "form": "-\t-\tunsupported: foreign text with a fault"}
 
 
 def directories(tool):

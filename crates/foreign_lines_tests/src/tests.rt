@@ -231,7 +231,7 @@ const WITH_COLONS: [(Foreign, &[u8], &[u8]); 5] = [
     (
         Foreign::Ldif,
         b"ann:{CRYPT}$1$abcdefgh$cHJi5PXp/ki/ktXzqlk6I1:x\nbob:{crypt}x\neve:*geh:eim\n",
-        b"ann\tmd5-format\nbob\tlocked\neve\tunsupported-cleartext\n",
+        b"ann\tforeign-form\nbob\tlocked\neve\tunsupported-cleartext\n",
     ),
 ];
 

@@ -7,7 +7,7 @@ use Rattle.foreign_text.specs.Django.{django}
 use Rattle.foreign_text.specs.Dovecot.{dovecot}
 use Rattle.foreign_text.specs.Elasticsearch.{elasticsearch}
 use Rattle.foreign_text.specs.Grub.{grub}
-use Rattle.foreign_text.specs.Ldap.{ldap}
+use Rattle.foreign_text.specs.Ldap.{ldap, ldif}
 use Rattle.foreign_text.specs.MediaWiki.{mediawiki}
 use Rattle.foreign_text.specs.Mosquitto.{mosquitto}
 use Rattle.foreign_text.specs.Passlib.{passlib}
@@ -22,7 +22,7 @@ abbrev pub by_maker : Foreign → List ℕ → Answer
 by_maker of.Django = django
 by_maker of.Werkzeug = werkzeug
 by_maker of.Ldap = ldap
-by_maker of.Ldif = ldap
+by_maker of.Ldif = ldif
 by_maker of.Passlib = passlib
 by_maker of.Dovecot = dovecot
 by_maker of.Spring = spring
@@ -33,12 +33,12 @@ by_maker of.Mosquitto = mosquitto
 by_maker of.MediaWiki = mediawiki
 by_maker of.Grub = grub
 
--- a maker's own texts begin with `$`
+-- a maker's own texts begin with `$`, or those of a dump in LDIF have to be looked at too
 abbrev pub has_own_dollar : Foreign → Bool
 has_own_dollar of.Django = false
 has_own_dollar of.Werkzeug = false
 has_own_dollar of.Ldap = false
-has_own_dollar of.Ldif = false
+has_own_dollar of.Ldif = true
 has_own_dollar of.Passlib = true
 has_own_dollar of.Dovecot = false
 has_own_dollar of.Spring = false

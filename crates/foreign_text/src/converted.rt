@@ -12,7 +12,7 @@ use crate::dovecot::dovecot;
 use crate::elasticsearch::elasticsearch;
 use crate::grub::grub;
 use crate::kdf::MadeText;
-use crate::ldap::ldap;
+use crate::ldap::{ldap, ldif};
 use crate::mediawiki::mediawiki;
 use crate::mosquitto::mosquitto;
 use crate::passlib::passlib;
@@ -29,7 +29,7 @@ pub enum Foreign {
     Werkzeug,
     /// LDAP: `{CRYPT}..`, `{ARGON2}..`, `{BCRYPT}..`, `{PBKDF2-SHA256}ROUNDS$SALT$KEY`, `{PBKDF2-SHA512}..`.
     Ldap,
-    /// The same in the lines of a dump in LDIF (`ldif_lines`): the text goes on to the line's end.
+    /// The same in the lines of a dump in LDIF (`ldif_lines`): the text goes on to the line's end, and a stored text has no colon.
     Ldif,
     /// passlib: `$pbkdf2-sha256$ROUNDS$SALT$KEY`, `$pbkdf2-sha512$..`, and the texts that it shares with others.
     Passlib,
@@ -57,7 +57,7 @@ impl Foreign {
         ensures { result ≡ has_own_dollar self }
     {
         match self {
-            Foreign::Passlib | Foreign::Cisco | Foreign::Mosquitto => true,
+            Foreign::Passlib | Foreign::Cisco | Foreign::Mosquitto | Foreign::Ldif => true,
             _ => false,
         }
     }
@@ -95,7 +95,8 @@ fn by_maker<'a>(
     match foreign {
         Foreign::Django => django(text, made),
         Foreign::Werkzeug => werkzeug(text, made),
-        Foreign::Ldap | Foreign::Ldif => ldap(text, made),
+        Foreign::Ldap => ldap(text, made),
+        Foreign::Ldif => ldif(text, made),
         Foreign::Passlib => passlib(text, made),
         Foreign::Dovecot => dovecot(text),
         Foreign::Spring => spring(text, made),
