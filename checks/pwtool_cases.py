@@ -398,6 +398,69 @@ def brought(tool):
     tool.case(["check", "--crlf"], "x" * 8192 + "\r\n" + "x" * 8193 + "\r\n", "badline\ntoolong\n", 1)
 
 
+# A dump of a directory: its lines, and the rows of a survey of it. Texts in Base64 are Python's.
+DUMPS = [
+    (f"dn: 1\nuid: ann\nuserPassword: {{CRYPT}}{MD5}\n", [("ann", "md5")]),
+    (f"dn: 1\nuserPassword:: {padded(b'{CRYPT}' + MD5.encode())}\nuid: ann\n\ndn: 2\nuid:: {padded('jörg'.encode())}\nuserPassword: {{SSHA}}x\n",
+     [("ann", "md5"), ("jörg", "sha1")]),
+    (f"version: 1\r\n\r\ndn: 1\r\nuid: ann\r\nuserPassword:: {padded(b'{CRYPT}' + MD5.encode())[:20]}\r\n {padded(b'{CRYPT}' + MD5.encode())[20:]}\r\n",
+     [("ann", "md5")]),
+    ("dn: 1\nuserPassword: {SSHA}x\nUID;lang-de: ann\nuserpassword;x-old: geheim\nuid: bob\nUSERPASSWORD: !geheim\n",
+     [("ann", "sha1"), ("ann", "clear"), ("ann", "clear")]),
+    ("# uid: no\ndn: cn=sync,dc=x\nuserPassword: {SSHA}x\n\ndn: 2\nuid: none\ncn: x\n", [("cn=sync,dc=x", "sha1")]),
+    # Entries that no empty line parts, and an entry whose name an empty line parts from its text.
+    ("dn: 1\nuid: ann\nuserPassword: {SSHA}x\ndn: 2\nuserPassword: {SMD5}x\nuid: bob\n", [("ann", "sha1"), ("bob", "md5 digest")]),
+    ("dn: 1\nuid: ann\n\nuserPassword: {SSHA}x\n\ndn: 3\nuid: bob\n", [("", "badline")]),
+    # What isn't in the dump, and what no line has.
+    ("dn: 1\nuid: ann\nuserPassword:< file:///etc/shadow\nuserPassword:: e0NS!\nuserPassword:: " + padded(b"{CRYPT}" + MD5.encode() + b"\nroot:x") + "\n",
+     [("ann", "invalid")] * 3),
+    (f"dn: 1\nuid: ann\nuserPassword: {{CRYPT}}{MD5}:x\nuserPassword: {MD5}:x\nuserPassword: ge:heim\n", [("ann", "form"), ("ann", "form"), ("ann", "clear")]),
+    ("dn: 1\nuid: root:x\nuserPassword: {SSHA}x\n", [("", "badline")]),
+    (f"dn: 1\nuid: ann\nuserPassword: {'x' * 8189}\nuserPassword: {'x' * 8188}\n", [("", "toolong")]),
+    (f"dn: 1\nuid: ann\nuserPassword: {'x' * 8189}\n\ndn: 2\nuid: bob\nuserPassword: {'x' * 8188}\n\n", [("", "toolong"), ("bob", "clear")]),
+    ("dn: 1\nuid: ann\nuserPassword: {CRYPT}!$6$x\nuserPassword: {CRYPT}*\nuserPassword: {crypt}x\nuserPassword: {CRYPT}xx\nuserPassword:\n",
+     [("ann", "locked")] * 3 + [("ann", "des"), ("ann", "empty")]),
+]
+KINDS = {"md5": "md5-crypt\t-\tweak: md5-crypt", "sha1": "-\t-\tunsupported: sha1", "md5 digest": "-\t-\tunsupported: md5",
+         "clear": "-\t-\tunsupported: clear text", "badline": "-\t-\tbadline", "toolong": "-\t-\ttoolong", "invalid": "-\t-\tinvalid",
+         "locked": "-\t-\tlocked", "des": "-\t-\tunsupported: descrypt", "empty": "-\t-\tempty",
+         "form": "-\t-\tunsupported: foreign text with a fault"}
+
+
+def directories(tool):
+    """A dump of a directory, and what LDAP calls a locked account."""
+    for dump, rows in DUMPS:
+        wanted = "".join(f"{user}\t{KINDS[kind]}\n" for user, kind in rows)
+        tool.case(["survey", "--from", "ldif"], dump, lambda got, wanted=wanted: got.startswith(wanted + "\n"), lambda got: got in (0, 1))
+        tool.case(["survey", "--from", "ldif", "--quiet", tool.file("dump", dump)], "", lambda got, wanted=wanted: got.startswith(wanted + "\n"), lambda got: got in (0, 1))
+    with open(os.path.join(TOP, "examples/dump.ldif"), "rb") as file:
+        dump = tool.file("dump", file.read())
+    rows = ("ann\tsha512-crypt\trounds=5000\tweak: 5000 rounds\nbob\t-\t-\tunsupported: sha1\ncarl\t-\t-\tlocked\n"
+            "dora\targon2id\tm=4096,t=3,p=1\tweak: 4096 KiB\neve\t-\t-\tunsupported: clear text\nfrank\t-\t-\tlocked\n"
+            "cn=replicator,dc=example,dc=com\t-\t-\tunsupported: sha1\n\n")
+    tool.case(["survey", "--from", "ldif", dump], "", lambda got: got.startswith(rows), 1)
+    answers = "ann\tmatch\nbob\tunsupported-sha1\ncarl\tlocked\ndora\tmatch\neve\tunsupported-cleartext\nfrank\tlocked\ncn=replicator,dc=example,dc=com\tunsupported-sha1\n"
+    few = tool.file("few", "# c\n\nann:correct horse\ndora:open sesame\nzoe:x\n")
+    many = tool.file("many", "ann:correct horse\ndora:open sesame\nzoe:x\n" + "".join(f"user{n}:x\n" for n in range(500)))
+    for passwords in (few, many):
+        tool.case(["join", "--from", "ldif", dump, passwords], "", answers, 1)
+        tool.case(["join", "--from", "ldif", "--htpasswd", "--crlf", dump, passwords], "", answers, 1)
+    with open(os.path.join(tool.folder, dump), "rb") as file:
+        tool.case(["join", "--from", "ldif", "-", few], file.read(), answers, 1)
+    tool.case(["join", "--no-text", "--htpasswd", "--from", "ldif", dump, few], "", "zoe\tno-text\n", 1)
+    tool.case(["check", "--from", "ldif"], "", "", 64, "pwtool: invalid value 'ldif'")
+    # A clear text isn't locked; a text of MySQL isn't, either.
+    tool.case(["survey", "--from", "ldap"], "ann:!geheim\n", "ann\t-\t-\tunsupported: clear text\n\n1\tunsupported: clear text\n", 1)
+    tool.case(["check", "--from", "ldap"], "x\t{CRYPT}!$6$x\nx\t{crypt}x\nx\t*x\n", "locked\nlocked\nunsupported-cleartext\n", 1)
+    tool.case(["check", "--from", "ldap", "--good", "locked"], "x\t{crypt}x\n", "locked\n", 0)
+    tool.case(["join", "--from", "ldap", tool.file("texts", "ann:{CRYPT}*\nbob:*\n"), few], "", "ann\tlocked\nbob\tunsupported-cleartext\n", 1)
+    mysql = "*" + hashlib.sha1(hashlib.sha1(b"secret").digest()).hexdigest().upper()
+    tool.case(["survey"], f"ann:{mysql}\nbob:{mysql[:-1]}\n", "ann\t-\t-\tunsupported: mysql_native_password\nbob\t-\t-\tlocked\n\n"
+              "1\tunsupported: mysql_native_password\n1\tlocked\n", 1)
+    tool.case(["check"], f"secret\t{mysql}\n", "no-scheme\n", 1)
+    tool.case(["join", tool.file("texts", f"ann:{mysql}\n"), few], "", "ann\tno-scheme\n", 1)
+
+
 def statuses(tool):
     """`--good`: which answers count as good; the options that `join --no-text` doesn't use."""
     lines = f"secret\t{MD5}\nwrong\t{MD5}\nx\t*0\nno tab\n{'x' * 9000}\nsecret\t$1$a\n"
@@ -411,7 +474,7 @@ def statuses(tool):
     tool.case(["check", "--max-bcrypt-cost", "4", "--good", "too-costly"], f"secret\t{BCRYPT_5}\n", "too-costly\n", 0)
     tool.case(["check", "--from", "ldap", "--good", "unsupported"], "x\t{SHA}x\n", "unsupported-sha1\n", 0)
     tool.case(["check", "--from", "ldap", "--good", "invalid"], "x\t{SHA}x\n", "unsupported-sha1\n", 1)
-    tool.case(["check", "--good", "match,locked"], "", "", 64, "pwtool: --good: 'locked' is not one of match, mismatch, no-scheme, ")
+    tool.case(["check", "--good", "match,empty"], "", "", 64, "pwtool: --good: 'empty' is not one of match, mismatch, no-scheme, ")
     tool.case(["check", "--good", ""], "", "", 64, "pwtool: --good: '' is not one of match, ")
     texts = tool.file("texts", f"ann:{MD5}\nbob:\nzoe:!\nmax:{MD5}\n")
     few = tool.file("few", "ann:secret\n")
@@ -530,7 +593,7 @@ def main():
     begin = time.time()
     with tempfile.TemporaryDirectory() as folder:
         tool = Tool(os.path.abspath(program), folder)
-        for part in (checks, joins, surveys, brought, statuses, makes, streams, tables, faults):
+        for part in (checks, joins, surveys, brought, directories, statuses, makes, streams, tables, faults):
             part(tool)
     print("\n".join(f"pwtool_cases.py: {fault}" for fault in tool.faults) or f"pwtool_cases.py: {tool.count} cases, {time.time() - begin:.0f} s")
     return 1 if tool.faults else 0

@@ -1,11 +1,12 @@
 -- What a program over lines gets of a line whose stored text is converted, or what is written in its place.
-use Rattle.std.specs.Prelude.{ℕ, Bool, false, List, [], ◌∷◌, ◌++◌, length, nat_lt, Option, Some, None, Result, Ok, Err}
+use Rattle.std.specs.Prelude.{ℕ, Bool, false, List, [], ◌∷◌, ◌++◌, codes, length, nat_lt, Option, Some, None, Result, Ok, Err}
 use Rattle.std.specs.Prelude.{if◌then◌else◌}
 use Rattle.line_io.specs.Limits.{line_max}
 use Rattle.foreign_text.specs.Converted.{converted}
 use Rattle.foreign_text.specs.Words.{fault_word}
 use Rattle.foreign_text.specs.declared.converted.Foreign.{Foreign}
 use Rattle.foreign_text.specs.declared.fault.ForeignFault.{ForeignFault}
+use Rattle.foreign_text.specs.declared.fault.ForeignFault.TheVariants.{Locked}
 use Rattle.foreign_lines.specs.Parts.{Parts, line_with, parts_in}
 use Rattle.foreign_lines.specs.declared.parts.LineForm.{LineForm}
 use Rattle.foreign_lines.specs.declared.parts.LineForm.TheVariants.{Password, Surveyed, UserPassword, UserText}
@@ -18,13 +19,17 @@ Handed = Result (List ℕ) (List ℕ)
 abbrev pub word_line : ForeignFault → List ℕ
 word_line fault = fault_word fault ++ 10 ∷ []
 
--- Where a text isn't converted, its cause's word is written, behind the user where there is one. A survey gets the word in
--- the text's place, which is of an unsupported form.
+-- in place of a text that isn't converted: of a locked account a locked one, and else its cause's word, which is of an unsupported form
+abbrev pub surveyed_text : ForeignFault → List ℕ
+surveyed_text Locked = codes "!"
+surveyed_text fault = fault_word fault
+
+-- Where a text isn't converted, its cause's word is written, behind the user where there is one. A survey gets a text in its place.
 abbrev pub refused : LineForm → Parts → ForeignFault → Handed
 refused Password p fault = Err (word_line fault)
 refused UserPassword p fault = Err (p.user ++ 9 ∷ word_line fault)
 refused UserText p fault = Err (p.user ++ 9 ∷ word_line fault)
-refused Surveyed p fault = Ok (line_with Surveyed p (fault_word fault))
+refused Surveyed p fault = Ok (line_with Surveyed p (surveyed_text fault))
 
 -- by what the converter says
 abbrev pub by_answer : LineForm → Parts → Result (List ℕ) ForeignFault → Handed

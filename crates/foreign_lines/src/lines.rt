@@ -4,7 +4,7 @@ ghost use Rattle.std.specs.Prelude.{◌≡◌, ◌<◌, ◌≤◌, ◌∷◌, �
 ghost use Rattle.line_io.specs.Limits.{line_max};
 ghost use Rattle.line_io.specs.Output.{Puts};
 ghost use Rattle.foreign_text.specs.Converted.{converted};
-ghost use Rattle.foreign_lines.specs.Handed.{by_answer, by_reply, by_test, handed, refused, word_line};
+ghost use Rattle.foreign_lines.specs.Handed.{by_answer, by_reply, by_test, handed, refused, surveyed_text, word_line};
 ghost use Rattle.foreign_lines.specs.Parts.{line_with};
 ghost use Rattle.foreign_lines.specs.Views.{parts_of};
 ghost use Rattle.foreign_lines.specs.Rules.{by_after};
@@ -98,6 +98,16 @@ fn put_word<K: Sink>(fault: ForeignFault, out: &mut OutputBuffer, sink: &mut K)
     out.put_line(sink, fault.word().as_bytes());
 }
 
+// The text that a survey gets in place of one that isn't converted.
+fn surveyed_text(fault: ForeignFault) -> &'static [u8]
+    ensures { result.now ≡ surveyed_text fault }
+{
+    match fault {
+        ForeignFault::Locked => b"!",
+        _ => fault.word().as_bytes(),
+    }
+}
+
 // Answers a line whose stored text isn't converted.
 fn answer_refused<R: Responder, K: Sink>(
     inner: &mut R,
@@ -126,9 +136,7 @@ fn answer_refused<R: Responder, K: Sink>(
             put_user(out, sink, parts.user, fault.word());
             Ok(false)
         }
-        LineForm::Surveyed => {
-            answer_with(inner, form, parts, fault.word().as_bytes(), out, sink)
-        }
+        LineForm::Surveyed => { answer_with(inner, form, parts, surveyed_text(fault), out, sink) }
     }
 }
 

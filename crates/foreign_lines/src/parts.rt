@@ -2,7 +2,7 @@
 
 ghost use Rattle.std.specs.Prelude.{◌≡◌, MatchOption, false, true};
 ghost use Rattle.std.specs.Str.{is_utf8};
-ghost use Rattle.foreign_lines.specs.Parts.{cut_parts, parts_in, password_parts, text_in, text_parts, user_password_parts, user_text_parts, utf8_parts};
+ghost use Rattle.foreign_lines.specs.Parts.{cut_parts, is_locked_by, parts_in, password_parts, text_in, text_parts, user_password_parts, user_text_parts, utf8_parts};
 ghost use Rattle.foreign_lines.specs.Views.{as_parts};
 
 use foreign_text::Foreign;
@@ -80,11 +80,18 @@ fn utf8_parts<'a>(user: &'a [u8], text: &'a [u8]) -> Option<LineParts<'a>>
     }
 }
 
-// The same for a text that is there and isn't of a locked account.
-fn text_parts<'a>(user: &'a [u8], text: &'a [u8]) -> Option<LineParts<'a>>
-    ensures { as_parts result ≡ text_parts user.now text.now }
+// Whether a text is of a locked account.
+fn is_locked_by(foreign: Foreign, text: &[u8]) -> bool
+    ensures { result ≡ is_locked_by foreign text.now }
 {
-    if text.is_empty() || is_locked(text) {
+    !foreign.has_clear_texts() && is_locked(text)
+}
+
+// The same for a text that is there and isn't of a locked account.
+fn text_parts<'a>(foreign: Foreign, user: &'a [u8], text: &'a [u8]) -> Option<LineParts<'a>>
+    ensures { as_parts result ≡ text_parts foreign user.now text.now }
+{
+    if text.is_empty() || is_locked_by(foreign, text) {
         return None;
     }
     utf8_parts(user, text)
@@ -116,7 +123,7 @@ fn user_text_parts(foreign: Foreign, line: &[u8]) -> Option<LineParts<'_>>
     ensures { as_parts result ≡ user_text_parts foreign line.now }
 {
     match cut_user(line) {
-        Some((user, rest)) => text_parts(user, text_in(foreign, rest)),
+        Some((user, rest)) => text_parts(foreign, user, text_in(foreign, rest)),
         None => None,
     }
 }

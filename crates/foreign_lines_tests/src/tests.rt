@@ -144,13 +144,14 @@ const TEXTS: &[u8] =
     carl:{CRYPT}$1$abcdefgh$cHJi5PXp/ki/ktXzqlk6I1:\n\
     eve:{PBKDF2-SHA1}1$abc$def:\n\
     fay::\n\
-    locked:!{SSHA}x:\n\
+    locked:{CRYPT}!$1$abcdefgh$cHJi5PXp/ki/ktXzqlk6I1:\n\
+    clear:!{SSHA}x\n\
     nobody:{MD5}x\n\
     \n";
 
 const JOINED: &[u8] =
     b"ann\tmatch\nbob\tmismatch\ncarl\tno-password\neve\tunsupported-pbkdf2-sha1\nfay\tempty\n\
-    locked\tlocked\nnobody\tunsupported-md5\nbadline\n";
+    locked\tlocked\nclear\tunsupported-cleartext\nnobody\tunsupported-md5\nbadline\n";
 
 #[test]
 fn users_beside_passwords(rt: HostRuntime) -> Result<(), Fail> {
@@ -205,7 +206,7 @@ fn users_read_first(rt: HostRuntime) -> Result<(), Fail> {
 }
 
 // A user's text goes on to the end of the line where the maker's texts have colons. The keys are hashlib's.
-const WITH_COLONS: [(Foreign, &[u8], &[u8]); 3] = [
+const WITH_COLONS: [(Foreign, &[u8], &[u8]); 5] = [
     (
         Foreign::Werkzeug,
         b"ann:pbkdf2:sha256:7$saltsalt$fdd683fab6b91733300fb18384a4ceff79246d4f1aaa54fd81b44ff5eedb1ed7\nbob:pbkdf2:sha256:7$saltsalt$fdd683fab6b91733300fb18384a4ceff79246d4f1aaa54fd81b44ff5eedb1ed7\n",
@@ -220,6 +221,17 @@ const WITH_COLONS: [(Foreign, &[u8], &[u8]); 3] = [
         Foreign::Mosquitto,
         b"ann:secret:pbkdf2\n",
         b"ann\tunsupported-scheme\n",
+    ),
+    // A text of LDAP ends at a colon; in a line of a dump in LDIF it doesn't.
+    (
+        Foreign::Ldap,
+        b"ann:{CRYPT}$1$abcdefgh$cHJi5PXp/ki/ktXzqlk6I1:x\nbob:{CRYPT}*\n",
+        b"ann\tmatch\nbob\tlocked\n",
+    ),
+    (
+        Foreign::Ldif,
+        b"ann:{CRYPT}$1$abcdefgh$cHJi5PXp/ki/ktXzqlk6I1:x\nbob:{crypt}x\neve:*geh:eim\n",
+        b"ann\tforeign-form\nbob\tlocked\neve\tunsupported-cleartext\n",
     ),
 ];
 
@@ -274,6 +286,7 @@ fn rows_of_a_survey(rt: HostRuntime) {
         eve\t-\t-\tunsupported: pbkdf2-sha1\n\
         fay\t-\t-\tempty\n\
         locked\t-\t-\tlocked\n\
+        clear\t-\t-\tunsupported: clear text\n\
         nobody\t-\t-\tunsupported: md5\n\
         \t-\t-\tbadline\n\
         \n\
@@ -281,6 +294,7 @@ fn rows_of_a_survey(rt: HostRuntime) {
         1\tsha256-crypt ok\n\
         1\tunsupported: pbkdf2-sha1\n\
         1\tunsupported: md5\n\
+        1\tunsupported: clear text\n\
         1\tempty\n\
         1\tlocked\n\
         1\tbadline\n";

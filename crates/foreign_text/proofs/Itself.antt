@@ -1,6 +1,7 @@
 -- What a converter gives converts to itself.
 use Rattle.std.proofs.Common.{◌≡◌, ◌⊎◌, ℕ, Bool, true, false, List, [], ◌∷◌, length, refl, ap, ◌∙◌, sym, inl, inr, Ok, Err}
 use Rattle.std.specs.Prelude.{nat_le, take, drop, codes, ◌==◌, ◌&&◌, Option, Some, None, Result, if◌then◌else◌}
+use Rattle.std.specs.List.{list_any}
 use Rattle.base64ct.specs.Alphabets.{base64, base64_crypt, base64_pbkdf2}
 use Rattle.phc.specs.Record.{record_text}
 use Rattle.pieces.specs.Pieces.{behind, pieces_at}
@@ -15,7 +16,7 @@ use Rattle.foreign_text.specs.Elasticsearch.{elasticsearch}
 use Rattle.foreign_text.specs.Encoded.{either_pbkdf2, encoded_pbkdf2}
 use Rattle.foreign_text.specs.Fields.{field_bytes, five_of, number_of, pbkdf2_cost, plain_hex, scrypt_cost, small_hex, three_of}
 use Rattle.foreign_text.specs.Grub.{grub, grub_fields, grub_pbkdf2}
-use Rattle.foreign_text.specs.Ldap.{ldap, ldap_argon2, ldap_bcrypt, ldap_crypt}
+use Rattle.foreign_text.specs.Ldap.{crypt_fault, is_colon, ldap, ldap_argon2, ldap_bcrypt, ldap_crypt, ldif, whole_text}
 use Rattle.foreign_text.specs.MediaWiki.{if_sized, is_size, mediawiki, mediawiki_cost, mediawiki_fields, mediawiki_pbkdf2}
 use Rattle.foreign_text.specs.Mosquitto.{mosquitto}
 use Rattle.foreign_text.specs.Names.{begins, behind_tag, passlib_unread}
@@ -26,9 +27,8 @@ use Rattle.foreign_text.specs.Werkzeug.{werkzeug, werkzeug_fields, werkzeug_meth
 use Rattle.foreign_text.specs.declared.converted.Foreign.{Foreign}
 use Rattle.foreign_text.specs.declared.converted.Foreign.TheVariants as of
 use Rattle.foreign_text.specs.declared.fault.ForeignFault.{ForeignFault}
-use Rattle.foreign_text.specs.declared.fault.ForeignFault.TheVariants.{Form, Unread}
+use Rattle.foreign_text.specs.declared.fault.ForeignFault.TheVariants.{Form}
 use Rattle.foreign_text.specs.declared.fault.Unread as unread
-use Rattle.foreign_text.specs.declared.fault.Unread.TheVariants.{DesCrypt}
 use Rattle.foreign_text.specs.declared.kdf.Kdf.{Kdf}
 use Rattle.foreign_text.specs.declared.kdf.Kdf.TheVariants.{Pbkdf2, Scrypt}
 use Rattle.foreign_text.specs.declared.kdf.Pbkdf2Hash.{Pbkdf2Hash}
@@ -64,7 +64,7 @@ module _ (text stored : List ℕ) where
   unfolding ldap
   ldap_first =
       by_front ldap_crypt (behind_tag text (codes "{CRYPT}") (codes "{crypt}")) _ stored
-      (λ rest h. signed [] rest stored (Unread DesCrypt) h)
+      (λ rest h. signed [] rest stored (crypt_fault rest) h)
       (by_front ldap_argon2 (behind_tag text (codes "{ARGON2}") (codes "{argon2}")) _ stored
       (λ rest h. signed (codes "argon2") rest stored Form h)
       (by_front ldap_bcrypt (behind_tag text (codes "{BCRYPT}") (codes "{bcrypt}")) _ stored
@@ -91,7 +91,7 @@ module _ (text stored : List ℕ) where
       (by_front (as_it_is (codes "$argon2id$")) (behind_tag text (codes "{ARGON2ID}") (codes "{argon2id}")) _ stored
       (λ rest h. signed (codes "argon2id$") rest stored Form h)
       (by_front ldap_crypt (behind_tag text (codes "{CRYPT}") (codes "{crypt}")) _ stored
-      (λ rest h. signed [] rest stored (Unread DesCrypt) h)
+      (λ rest h. signed [] rest stored (crypt_fault rest) h)
       (λ h. no_ok _ stored h)))))))
 
   spring_fields_made : (rest : List ℕ) → spring_fields rest ≡ Ok stored → First stored
@@ -261,12 +261,31 @@ plain_again read first text stored h =
     by_test (begins text (codes "$")) (Ok text) (read text) stored (held text stored) (first text stored) h in
     rw begun refl
 
+-- ---- a dump's: the text stays, or one without a colon is made
+
+whole_is : (answer : Answer) (stored : List ℕ) → whole_text answer ≡ Ok stored
+    → (answer ≡ Ok stored) × (list_any is_colon stored ≡ false)
+whole_is (Err fault) stored h = no_ok fault stored h
+whole_is (Ok text) stored h = cases (list_any is_colon text) refl where
+  cases : (test : Bool) → list_any is_colon text ≡ test → (Ok text ≡ Ok stored) × (list_any is_colon stored ≡ false)
+  cases true is = no_ok Form stored (rw is at h)
+  cases false is = let kept = rw is at h in (kept, rw (same_ok text stored kept) at is)
+
+ldif_again : (text stored : List ℕ) → ldif text ≡ Ok stored → ldif stored ≡ Ok stored
+unfolding ldif
+ldif_again text stored h =
+    let whole = whole_is (if begins text (codes "$") then Ok text else ldap text) stored h in
+    let begun : First stored =
+    by_test (begins text (codes "$")) (Ok text) (ldap text) stored (held text stored) (ldap_first text stored) whole.0 in
+    rw (begun, whole.1) refl
+
 pub itself : (foreign : Foreign) (text stored : List ℕ) → converted foreign text ≡ Ok stored
     → converted foreign stored ≡ Ok stored
 unfolding converted
 itself of.Django text stored h = plain_again django django_first text stored h
 itself of.Werkzeug text stored h = plain_again werkzeug werkzeug_first text stored h
 itself of.Ldap text stored h = plain_again ldap ldap_first text stored h
+itself of.Ldif text stored h = ldif_again text stored h
 itself of.Passlib text stored h = again passlib passlib_made text stored h (passlib_gives text stored h)
 itself of.Dovecot text stored h = plain_again dovecot dovecot_first text stored h
 itself of.Spring text stored h = plain_again spring spring_first text stored h

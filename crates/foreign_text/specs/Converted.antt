@@ -7,7 +7,7 @@ use Rattle.foreign_text.specs.Django.{django}
 use Rattle.foreign_text.specs.Dovecot.{dovecot}
 use Rattle.foreign_text.specs.Elasticsearch.{elasticsearch}
 use Rattle.foreign_text.specs.Grub.{grub}
-use Rattle.foreign_text.specs.Ldap.{ldap}
+use Rattle.foreign_text.specs.Ldap.{ldap, ldif}
 use Rattle.foreign_text.specs.MediaWiki.{mediawiki}
 use Rattle.foreign_text.specs.Mosquitto.{mosquitto}
 use Rattle.foreign_text.specs.Passlib.{passlib}
@@ -22,6 +22,7 @@ abbrev pub by_maker : Foreign → List ℕ → Answer
 by_maker of.Django = django
 by_maker of.Werkzeug = werkzeug
 by_maker of.Ldap = ldap
+by_maker of.Ldif = ldif
 by_maker of.Passlib = passlib
 by_maker of.Dovecot = dovecot
 by_maker of.Spring = spring
@@ -32,11 +33,12 @@ by_maker of.Mosquitto = mosquitto
 by_maker of.MediaWiki = mediawiki
 by_maker of.Grub = grub
 
--- a maker's own texts begin with `$`
+-- a maker's own texts begin with `$`, or those of a dump in LDIF have to be looked at too
 abbrev pub has_own_dollar : Foreign → Bool
 has_own_dollar of.Django = false
 has_own_dollar of.Werkzeug = false
 has_own_dollar of.Ldap = false
+has_own_dollar of.Ldif = true
 has_own_dollar of.Passlib = true
 has_own_dollar of.Dovecot = false
 has_own_dollar of.Spring = false
@@ -47,11 +49,12 @@ has_own_dollar of.Mosquitto = true
 has_own_dollar of.MediaWiki = false
 has_own_dollar of.Grub = false
 
--- a maker's own texts have colons
+-- A maker's own texts have colons. The lines of a dump in LDIF have LDAP's texts, which are values of bytes and go on to the line's end.
 abbrev pub has_colons : Foreign → Bool
 has_colons of.Django = false
 has_colons of.Werkzeug = true
 has_colons of.Ldap = false
+has_colons of.Ldif = true
 has_colons of.Passlib = false
 has_colons of.Dovecot = false
 has_colons of.Spring = false
@@ -61,6 +64,22 @@ has_colons of.Cisco = false
 has_colons of.Mosquitto = false
 has_colons of.MediaWiki = true
 has_colons of.Grub = false
+
+-- Without a tag a text is the password itself: one that begins with `*` or `!` isn't of a locked account.
+abbrev pub has_clear_texts : Foreign → Bool
+has_clear_texts of.Django = false
+has_clear_texts of.Werkzeug = false
+has_clear_texts of.Ldap = true
+has_clear_texts of.Ldif = true
+has_clear_texts of.Passlib = false
+has_clear_texts of.Dovecot = false
+has_clear_texts of.Spring = false
+has_clear_texts of.Elasticsearch = false
+has_clear_texts of.AspNet = false
+has_clear_texts of.Cisco = false
+has_clear_texts of.Mosquitto = false
+has_clear_texts of.MediaWiki = false
+has_clear_texts of.Grub = false
 
 -- A text that begins with `$` is a stored text already, but where the maker has such texts of its own.
 unfoldable pub converted : Foreign → List ℕ → Answer

@@ -1,15 +1,27 @@
 -- Texts of LDAP's `userPassword`: a tag, and what the module of that name writes.
-use Rattle.std.specs.Prelude.{ℕ, List, Ok, Err, if◌then◌else◌, codes}
+use Rattle.std.specs.Prelude.{ℕ, Bool, ◌||◌, ◌==◌, List, length, nat_lt, Ok, Err, if◌then◌else◌, codes}
+use Rattle.std.specs.List.{list_any}
 use Rattle.foreign_text.specs.Answers.{Answer, as_it_is, or_behind}
+use Rattle.foreign_text.specs.Characters.{colon}
 use Rattle.foreign_text.specs.Encoded.{either_pbkdf2}
 use Rattle.foreign_text.specs.Names.{begins, behind_tag, ldap_unread}
-use Rattle.foreign_text.specs.declared.fault.ForeignFault.TheVariants.{Unread}
+use Rattle.foreign_text.specs.declared.fault.ForeignFault.{ForeignFault}
+use Rattle.foreign_text.specs.declared.fault.ForeignFault.TheVariants.{Form, Locked, Unread}
 use Rattle.foreign_text.specs.declared.fault.Unread.TheVariants.{DesCrypt}
 use Rattle.foreign_text.specs.declared.kdf.Pbkdf2Hash.TheVariants.{Sha256, Sha512}
 
--- `{CRYPT}$6$..`: what crypt(3) takes; without a `$` it is of DES
+-- What is in the place of crypt(3)'s text is of a locked account: it begins with `*` or `!`, as in shadow(5); or it has fewer than two
+-- characters, as the `x` of passwd(5), and then slapd takes no password (OpenLDAP, libraries/liblutil/passwd.c, chk_crypt).
+abbrev pub is_locked_crypt : List ℕ → Bool
+is_locked_crypt rest = begins rest (codes "*") || begins rest (codes "!") || nat_lt (length rest) 2
+
+-- another one without a `$` is of DES
+abbrev pub crypt_fault : List ℕ → ForeignFault
+crypt_fault rest = if is_locked_crypt rest then Locked else Unread DesCrypt
+
+-- `{CRYPT}$6$..`: what crypt(3) takes
 abbrev pub ldap_crypt : List ℕ → Answer
-ldap_crypt rest = if begins rest (codes "$") then Ok rest else Err (Unread DesCrypt)
+ldap_crypt rest = if begins rest (codes "$") then Ok rest else Err (crypt_fault rest)
 
 -- `{ARGON2}$argon2i$..` (OpenLDAP, contrib/slapd-modules/passwd/argon2)
 abbrev pub ldap_argon2 : List ℕ → Answer
@@ -29,3 +41,15 @@ ldap text =
     (or_behind (either_pbkdf2 Sha256) (behind_tag text (codes "{PBKDF2-SHA256}") (codes "{pbkdf2-sha256}"))
     (or_behind (either_pbkdf2 Sha512) (behind_tag text (codes "{PBKDF2-SHA512}") (codes "{pbkdf2-sha512}"))
     (Err (Unread (ldap_unread text)))))))
+
+-- a colon
+abbrev pub is_colon : ℕ → Bool
+is_colon b = b == colon
+
+-- In a dump a text is a value of bytes. A stored text has no colon (crypt(5)): what has one isn't of its scheme.
+abbrev pub whole_text : Answer → Answer
+whole_text (Err fault) = Err fault
+whole_text (Ok stored) = if list_any is_colon stored then Err Form else Ok stored
+
+unfoldable pub ldif : List ℕ → Answer
+ldif text = whole_text (if begins text (codes "$") then Ok text else ldap text)

@@ -19,6 +19,7 @@ unread_word named.Other = codes "unsupported-scheme"
 
 -- of a cause
 abbrev pub fault_word : ForeignFault → List ℕ
+fault_word of.Locked = codes "locked"
 fault_word of.Form = codes "foreign-form"
 fault_word of.Rounds = codes "foreign-rounds"
 fault_word of.Cost = codes "foreign-cost"

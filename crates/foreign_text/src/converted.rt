@@ -1,7 +1,7 @@
 //! Foreign texts converted.
 
 ghost use Rattle.std.specs.Prelude.{◌≡◌};
-ghost use Rattle.foreign_text.specs.Converted.{by_maker, converted, has_colons, has_own_dollar};
+ghost use Rattle.foreign_text.specs.Converted.{by_maker, converted, has_clear_texts, has_colons, has_own_dollar};
 ghost use Rattle.foreign_text.specs.Views.{as_answer};
 
 use crate::ForeignFault;
@@ -12,7 +12,7 @@ use crate::dovecot::dovecot;
 use crate::elasticsearch::elasticsearch;
 use crate::grub::grub;
 use crate::kdf::MadeText;
-use crate::ldap::ldap;
+use crate::ldap::{ldap, ldif};
 use crate::mediawiki::mediawiki;
 use crate::mosquitto::mosquitto;
 use crate::passlib::passlib;
@@ -29,6 +29,8 @@ pub enum Foreign {
     Werkzeug,
     /// LDAP: `{CRYPT}..`, `{ARGON2}..`, `{BCRYPT}..`, `{PBKDF2-SHA256}ROUNDS$SALT$KEY`, `{PBKDF2-SHA512}..`.
     Ldap,
+    /// The same in the lines of a dump in LDIF (`ldif_lines`): the text goes on to the line's end, and a stored text has no colon.
+    Ldif,
     /// passlib: `$pbkdf2-sha256$ROUNDS$SALT$KEY`, `$pbkdf2-sha512$..`, and the texts that it shares with others.
     Passlib,
     /// Dovecot: `{SHA512-CRYPT}$6$..`, `{BLF-CRYPT}$2y$..`, `{ARGON2ID}$argon2id$..` and others of crypt(3) and Argon2.
@@ -55,7 +57,7 @@ impl Foreign {
         ensures { result ≡ has_own_dollar self }
     {
         match self {
-            Foreign::Passlib | Foreign::Cisco | Foreign::Mosquitto => true,
+            Foreign::Passlib | Foreign::Cisco | Foreign::Mosquitto | Foreign::Ldif => true,
             _ => false,
         }
     }
@@ -65,7 +67,18 @@ impl Foreign {
         ensures colons { result ≡ has_colons self }
     {
         match self {
-            Foreign::Werkzeug | Foreign::MediaWiki => true,
+            Foreign::Werkzeug | Foreign::Ldif | Foreign::MediaWiki => true,
+            _ => false,
+        }
+    }
+
+    /// Whether a text of the maker is the password itself where it has no tag, so that none which begins with `*` or `!` is of a locked
+    /// account.
+    pub fn has_clear_texts(self) -> bool
+        ensures clear { result ≡ has_clear_texts self }
+    {
+        match self {
+            Foreign::Ldap | Foreign::Ldif => true,
             _ => false,
         }
     }
@@ -83,6 +96,7 @@ fn by_maker<'a>(
         Foreign::Django => django(text, made),
         Foreign::Werkzeug => werkzeug(text, made),
         Foreign::Ldap => ldap(text, made),
+        Foreign::Ldif => ldif(text, made),
         Foreign::Passlib => passlib(text, made),
         Foreign::Dovecot => dovecot(text),
         Foreign::Spring => spring(text, made),

@@ -49,6 +49,8 @@ impl Unread {
 /// The first cause that a foreign text isn't converted.
 #[derive(Clone, Copy, Debug, PartialEq, Eq)]
 pub enum ForeignFault {
+    /// The maker's own way to say that the account is locked: no password matches.
+    Locked,
     /// It is of a scheme that isn't read.
     Unread(Unread),
     /// It hasn't the fields of its scheme, or what stands in it as it is isn't of that scheme.
@@ -68,12 +70,13 @@ pub enum ForeignFault {
 }
 
 impl ForeignFault {
-    /// The word: `unsupported-` and the scheme, or `foreign-` and the part that has the fault.
+    /// The word: `locked`, `unsupported-` and the scheme, or `foreign-` and the part that has the fault.
     pub fn word(&self) -> &'static str
         ensures word { result.now ≡ fault_word self.now }
         ensures short { length result.now ≤ 25 }
     {
         match self {
+            ForeignFault::Locked => "locked",
             ForeignFault::Unread(scheme) => scheme.word(),
             ForeignFault::Form => "foreign-form",
             ForeignFault::Rounds => "foreign-rounds",

@@ -1,8 +1,9 @@
 //! Texts of LDAP's `userPassword`.
 
-ghost use Rattle.std.specs.Prelude.{◌≡◌, ℕ, List};
+ghost use Rattle.std.specs.Prelude.{◌≡◌, ℕ, List, Ok};
+ghost use Rattle.std.specs.List.{list_any};
 ghost use Rattle.pieces.specs.Pieces.{lent};
-ghost use Rattle.foreign_text.specs.Ldap.{ldap, ldap_crypt};
+ghost use Rattle.foreign_text.specs.Ldap.{crypt_fault, is_colon, is_locked_crypt, ldap, ldap_crypt, ldif, whole_text};
 ghost use Rattle.foreign_text.specs.Names.{behind_tag, is_tagged, ldap_digest, ldap_pbkdf2, ldap_sha2, ldap_unread};
 ghost use Rattle.foreign_text.specs.Views.{as_answer};
 
@@ -81,6 +82,24 @@ pub(crate) fn ldap_unread(text: &str) -> Unread
     ldap_pbkdf2(text)
 }
 
+// Whether a text in the place of crypt(3)'s is of a locked account.
+fn is_locked_crypt(rest: &str) -> bool
+    ensures { result ≡ is_locked_crypt rest.now }
+{
+    begins_with(rest, "*") || begins_with(rest, "!") || rest.len() < 2
+}
+
+// What a text without a `$` in the place of crypt(3)'s is.
+fn crypt_fault(rest: &str) -> ForeignFault
+    ensures { result ≡ crypt_fault rest.now }
+{
+    if is_locked_crypt(rest) {
+        ForeignFault::Locked
+    } else {
+        ForeignFault::Unread(Unread::DesCrypt)
+    }
+}
+
 /// What crypt(3) takes.
 pub(crate) fn ldap_crypt(rest: &str) -> Result<Option<&str>, ForeignFault>
     ensures { (made : List ℕ) → as_answer result made ≡ ldap_crypt rest.now }
@@ -88,7 +107,7 @@ pub(crate) fn ldap_crypt(rest: &str) -> Result<Option<&str>, ForeignFault>
     if begins_with(rest, "$") {
         Ok(Some(rest))
     } else {
-        Err(ForeignFault::Unread(Unread::DesCrypt))
+        Err(crypt_fault(rest))
     }
 }
 
@@ -113,4 +132,48 @@ pub(crate) fn ldap<'a>(text: &'a str, made: &mut MadeText) -> Result<Option<&'a 
         return either_pbkdf2(Pbkdf2Hash::Sha512, rest, made);
     }
     Err(ForeignFault::Unread(ldap_unread(text)))
+}
+
+// A part of a text, which has no colon.
+fn whole_part(part: &str) -> Result<Option<&str>, ForeignFault>
+    ensures { (made : List ℕ) → as_answer result made ≡ whole_text (Ok part.now) }
+{
+    if has_colon(part.as_bytes()) {
+        Err(ForeignFault::Form)
+    } else {
+        Ok(Some(part))
+    }
+}
+
+// Whether a colon is among these bytes.
+fn has_colon(bytes: &[u8]) -> bool
+    ensures { result ≡ list_any is_colon bytes.now }
+{
+    bytes.iter().any(|b| *b == b':')
+}
+
+// A text that was made, which has no colon.
+fn whole_made<'a>(made: &MadeText) -> Result<Option<&'a str>, ForeignFault>
+    ensures { as_answer result made.now ≡ whole_text (Ok made.now) }
+{
+    if has_colon(made.as_slice()) {
+        Err(ForeignFault::Form)
+    } else {
+        Ok(None)
+    }
+}
+
+/// The stored text of a text of LDAP that is a value of bytes.
+#[tactic(auto, unfolding(crate::specs::Ldap::ldif))]
+pub(crate) fn ldif<'a>(text: &'a str, made: &mut MadeText) -> Result<Option<&'a str>, ForeignFault>
+    ensures { as_answer result made.new ≡ ldif text.now }
+{
+    if begins_with(text, "$") {
+        return whole_part(text);
+    }
+    match ldap(text, made) {
+        Ok(Some(part)) => whole_part(part),
+        Ok(None) => whole_made(made),
+        Err(fault) => Err(fault),
+    }
 }

@@ -231,7 +231,7 @@ fn texts_of_makers(rt: HostRuntime) {
 }
 
 // Texts with a fault, the first of those that they have.
-const FAULTS: [(Foreign, &str, ForeignFault); 82] = [
+const FAULTS: [(Foreign, &str, ForeignFault); 93] = [
     (
         Foreign::Django,
         "scrypt$16384$saltsalt$8$1",
@@ -381,6 +381,29 @@ const FAULTS: [(Foreign, &str, ForeignFault); 82] = [
         ForeignFault::Hash,
     ),
     (Foreign::Ldap, "{bcrypt}$6$x", ForeignFault::Form),
+    (Foreign::Ldap, "{CRYPT}!$6$x$y", ForeignFault::Locked),
+    (Foreign::Ldap, "{CRYPT}*", ForeignFault::Locked),
+    (Foreign::Ldap, "{crypt}*LK*", ForeignFault::Locked),
+    (Foreign::Ldap, "{crypt}x", ForeignFault::Locked),
+    (Foreign::Ldap, "{CRYPT}", ForeignFault::Locked),
+    (
+        Foreign::Ldap,
+        "{CRYPT}xx",
+        ForeignFault::Unread(Unread::DesCrypt),
+    ),
+    (
+        Foreign::Ldap,
+        "!geheim",
+        ForeignFault::Unread(Unread::Cleartext),
+    ),
+    (Foreign::Ldap, "*", ForeignFault::Unread(Unread::Cleartext)),
+    (
+        Foreign::Ldif,
+        "!{SSHA}x:y",
+        ForeignFault::Unread(Unread::Cleartext),
+    ),
+    (Foreign::Ldif, "{CRYPT}!", ForeignFault::Locked),
+    (Foreign::Dovecot, "{CRYPT}!!", ForeignFault::Locked),
     (Foreign::Dovecot, "{SHA512-CRYPT}$5$x", ForeignFault::Form),
     (Foreign::Dovecot, "{ARGON2I}$argon2id$x", ForeignFault::Form),
     (Foreign::Dovecot, "{BLF-CRYPT}$1$x", ForeignFault::Form),

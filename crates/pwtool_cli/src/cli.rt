@@ -2,7 +2,7 @@
 
 use crate::make_cli::{make, normalize, unwrap, wrap};
 use crate::options::{
-    file, flag, form, plus, wanted, with_forms, with_from, with_good, with_telling,
+    FILES, MAKERS, file, flag, form, plus, wanted, with_forms, with_from, with_good, with_telling,
 };
 use crate::tables::table;
 use clap::{Arg, Command, value_parser};
@@ -45,7 +45,9 @@ shadow or htpasswd file as it is. A line of PASSWORDS is a user, a colon and a p
 of one user the last counts. Each line of TEXTS is answered, in order, by its user, a tab and a
 word: match, mismatch, empty, locked (the text begins with * or !), no-password (PASSWORDS has no
 line of the user), or a word of 'pwtool check'. With --no-text no password is checked: each line
-of PASSWORDS whose user has no line in TEXTS is answered by its user, a tab and no-text. One of
+of PASSWORDS whose user has no line in TEXTS is answered by its user, a tab and no-text. With
+--from ldif TEXTS is a dump of a directory: each userPassword of an entry is a line, whose user is
+the first uid of the entry, or else its dn. One of
 the two files may be -, standard input. The smaller of two regular files is kept in memory, else
 PASSWORDS, with --no-text TEXTS. Status 0 is for matches alone (--no-text: no answer), 1 for some
 other word; pwtool --help has the rest.";
@@ -57,7 +59,8 @@ htpasswd file as it is. No password is asked for, and nothing is hashed. A row i
 scheme, its costs and a judgement, with tabs between them: ok, weak (with what is weak), locked
 (the text begins with * or !), empty, unsupported (pwtool has no verdict on it; with the name of
 its form), invalid (it has a fault), badline (no user) or toolong. After the rows comes how many
-there are of each. md5-crypt is weak in any case. A control character of a user is shown as ?, in
+there are of each. With --from ldif the file is a dump of a directory: each userPassword of an entry
+is a line, whose user is the first uid of the entry, or else its dn. md5-crypt is weak in any case. A control character of a user is shown as ?, in
 JSON as an escape. Status 0 is for accounts that are ok or locked, 1 for some other;
 pwtool --help has the rest.";
 
@@ -179,13 +182,19 @@ const MOST: &str = "The most that a stored text may ask for (left out: what its 
 /// The heading of the least costs.
 const LEAST: &str = "The least that isn't weak (left out: the number in brackets)";
 
+/// The helps of the option that says whose spelling the texts have, of `check`, and of `join` and `survey`.
+const FROM_MAKER: &str = "The stored texts are spelled as this maker spells them";
+
+const FROM_FILE: &str = "\
+The stored texts are spelled as this maker spells them; ldif: the file is a dump of a directory";
+
 /// The helps of the option that says which answers count as good, of `check`, `join` and `survey`.
 const GOOD_WORDS: &str = "\
 Status 0 is for these answers, with commas between them: match, mismatch, no-scheme, unsupported, \
-too-costly, invalid (any other word), badline, toolong (left out: match)";
+too-costly, invalid (any other word), badline, toolong, locked (left out: match)";
 
 const GOOD_USERS: &str = "\
-Status 0 is for these answers, with commas between them: those of 'pwtool check', empty, locked, \
+Status 0 is for these answers, with commas between them: those of 'pwtool check', empty, \
 no-password (left out: match)";
 
 const GOOD_TEXTS: &str = "\
@@ -209,7 +218,7 @@ fn check<'a>(alloc: Global) -> Result<Command<'a>, AllocError> {
             alloc,
             with_good(
                 alloc,
-                with_forms(alloc, with_from(alloc, command)),
+                with_forms(alloc, with_from(alloc, command, MAKERS, FROM_MAKER)),
                 GOOD_WORDS,
             ),
         ),
@@ -238,7 +247,7 @@ fn join<'a>(alloc: Global) -> Result<Command<'a>, AllocError> {
             alloc,
             with_good(
                 alloc,
-                with_forms(alloc, with_from(alloc, command)),
+                with_forms(alloc, with_from(alloc, command, FILES, FROM_FILE)),
                 GOOD_USERS,
             ),
         ),
@@ -266,7 +275,7 @@ fn survey<'a>(alloc: Global) -> Result<Command<'a>, AllocError> {
             alloc,
             with_good(
                 alloc,
-                with_forms(alloc, with_from(alloc, command)),
+                with_forms(alloc, with_from(alloc, command, FILES, FROM_FILE)),
                 GOOD_TEXTS,
             ),
         ),

@@ -3,12 +3,29 @@
 use clap::{Arg, ArgAction, Command};
 use std::alloc::{AllocError, Global};
 
-/// The makers of foreign texts by their names.
-const MAKERS: &[&str] = &[
+/// The makers of foreign texts by their names, of lines with passwords.
+pub const MAKERS: &[&str] = &[
     "django",
     "werkzeug",
     "passlib",
     "ldap",
+    "elasticsearch",
+    "dovecot",
+    "spring",
+    "aspnet",
+    "cisco",
+    "mosquitto",
+    "mediawiki",
+    "grub",
+];
+
+/// The same of files of users and their texts, one of which is a dump of a directory.
+pub const FILES: &[&str] = &[
+    "django",
+    "werkzeug",
+    "passlib",
+    "ldap",
+    "ldif",
     "elasticsearch",
     "dovecot",
     "spring",
@@ -63,12 +80,14 @@ pub fn flag<'a>(alloc: Global, name: &'static str, help: &'static str) -> Arg<'a
 pub fn with_from<'a>(
     alloc: Global,
     command: Result<Command<'a>, AllocError>,
+    makers: &'static [&'static str],
+    help: &'static str,
 ) -> Result<Command<'a>, AllocError> {
     let from = Arg::new(alloc, "from")
         .long("from")
         .value_name("MAKER")
-        .value_parser(MAKERS)
-        .help("The stored texts are spelled as this maker spells them");
+        .value_parser(makers)
+        .help(help);
     plus(command, from)
 }
 

@@ -1,8 +1,10 @@
 //! Files as people bring them: what of their bytes is left out, and what is told of it.
 
+use crate::from::is_ldif;
 use crate::progress::Watched;
 use crate::reports::called;
 use clap::ArgMatches;
+use ldif_lines::{FileForm, LdifLines};
 use line_filter::{Filtered, LineForms, Noticed};
 use line_io::StdSource;
 use pieces::text::text_of;
@@ -16,12 +18,32 @@ pub fn forms_of(matches: &ArgMatches<'_>) -> LineForms {
     }
 }
 
+/// A dump of a directory has lines that end with a line feed, with or without a carriage return before it, and empty ones between its
+/// entries.
+const OF_DUMP: LineForms = LineForms {
+    crlf: true,
+    htpasswd: false,
+};
+
 /// A source of what a reader gives, without what the command line leaves out.
 pub fn brought<'a, R: Read + Drop>(
     matches: &ArgMatches<'_>,
     reader: Watched<'a, R>,
 ) -> Filtered<Noticed<StdSource<Watched<'a, R>>>> {
     Filtered::new(forms_of(matches), Noticed::new(StdSource::new(reader)))
+}
+
+/// A source of the lines of users and stored texts that a reader gives: the same, or those of a dump of a directory.
+pub fn brought_texts<'a, R: Read + Drop>(
+    matches: &ArgMatches<'_>,
+    reader: Watched<'a, R>,
+) -> LdifLines<Filtered<Noticed<StdSource<Watched<'a, R>>>>> {
+    let source = Noticed::new(StdSource::new(reader));
+    if is_ldif(matches) {
+        LdifLines::new(FileForm::Ldif, Filtered::new(OF_DUMP, source))
+    } else {
+        LdifLines::new(FileForm::Lines, Filtered::new(forms_of(matches), source))
+    }
 }
 
 /// Says what was met in a file that its lines may not be meant to have, where nothing of it was left out.
@@ -41,5 +63,17 @@ pub fn tell_met<R: Read + Drop>(
             let name = called(name);
             let _ = eprintln!(rt; "pwtool: {name}: {words}: try --crlf");
         }
+    }
+}
+
+/// The same of a file of stored texts. A dump of a directory may have lines of both kinds.
+pub fn tell_met_of_texts<R: Read + Drop>(
+    rt: &impl Eprint,
+    matches: &ArgMatches<'_>,
+    name: &str,
+    source: &LdifLines<Filtered<Noticed<StdSource<Watched<'_, R>>>>>,
+) {
+    if !is_ldif(matches) {
+        tell_met(rt, matches, name, source.source());
     }
 }

@@ -3,7 +3,7 @@
 ghost use Rattle.std.specs.Prelude.{◌≡◌, ◌≢◌, ◌≤◌};
 
 use crate::bounds::{bound_of, least_of};
-use crate::brought::{brought, tell_met};
+use crate::brought::{brought, brought_texts, tell_met, tell_met_of_texts};
 use crate::check::{check_lines, check_users};
 use crate::fault::say;
 use crate::foreign::{check_foreign, check_foreign_users, survey_foreign};
@@ -125,12 +125,12 @@ pub fn survey<R: Read + Drop, W: Write + Drop>(
     ensures status { (result ≤ 6) × (result ≢ 2) }
 {
     let reporting = reporting_of(rt, matches);
-    let mut source = brought(matches, watched(rt, reporting, name, size, reader));
+    let mut source = brought_texts(matches, watched(rt, reporting, name, size, reader));
     let mut writer = Noted::new(writer);
     let mut sink = StdSink::new(&mut writer);
     let (status, counts) = survey_given(matches, lines, &mut source, &mut sink);
     let status = told(rt, name, KEY, writer.fault(), status);
-    tell_met(rt, matches, name, &source);
+    tell_met_of_texts(rt, matches, name, &source);
     survey_status(good, &counts, status)
 }
 

@@ -9,7 +9,7 @@ use std::io;
 use std::io::Write;
 
 /// The names of answers of `check`, by their words; `unsupported` is for each word that begins with `unsupported-`, `invalid` for each
-/// that isn't named. Those of `join` are all.
+/// that isn't named, `locked` in `check` for what a maker's texts say so. Those of `join` are all.
 const ANSWERS: [&str; 11] = [
     "match",
     "mismatch",
@@ -19,13 +19,13 @@ const ANSWERS: [&str; 11] = [
     "invalid",
     "badline",
     "toolong",
-    "empty",
     "locked",
+    "empty",
     "no-password",
 ];
 
 // How many of them `check` has.
-const CHECKED: usize = 8;
+const CHECKED: usize = 9;
 
 const UNSUPPORTED: usize = 3;
 

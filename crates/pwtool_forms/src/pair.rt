@@ -1,7 +1,7 @@
 //! The form `join` from its command line on: what of it reaches files and streams.
 
 use crate::bounds::bound_of;
-use crate::brought::{brought, tell_met};
+use crate::brought::{brought, brought_texts, tell_met, tell_met_of_texts};
 use crate::fault::say;
 use crate::foreign::{join_foreign, join_foreign_fewer};
 use crate::from::foreign_of;
@@ -92,7 +92,7 @@ fn join<P: Read + Drop, T: Read + Drop>(
     let passwords = watched(rt, reporting, names.passwords, sizes.passwords, passwords);
     let mut passwords = brought(matches, passwords);
     let texts = watched(rt, reporting, names.texts, sizes.texts, texts);
-    let mut texts = brought(matches, texts);
+    let mut texts = brought_texts(matches, texts);
     let mut sink = StdSink::new(&mut tally);
     let end = if matches.get_flag("no-text") {
         tell_no_text(rt.alloc(), keys, &mut texts, &mut passwords, &mut sink)
@@ -100,7 +100,7 @@ fn join<P: Read + Drop, T: Read + Drop>(
         join_given(rt, matches, keys, &mut passwords, &mut texts, &mut sink)
     };
     let status = names.told(rt, tally.fault(), end);
-    tell_met(rt, matches, names.texts, &texts);
+    tell_met_of_texts(rt, matches, names.texts, &texts);
     tell_met(rt, matches, names.passwords, &passwords);
     summarize(rt, reporting, &tally.counts());
     judging.status(status)
@@ -126,11 +126,11 @@ fn join_small(
     let mut tally = Tally::new(&mut judging);
     let (of_users, of_passwords) = (size_of(&users), size_of(&passwords));
     let users = watched(rt, reporting, names.texts, of_users, users);
-    let mut users = brought(matches, users);
+    let mut users = brought_texts(matches, users);
     let passwords = watched(rt, reporting, names.passwords, of_passwords, passwords);
     let mut passwords = brought(matches, passwords);
     let texts = watched(rt, reporting, names.texts, of_users, texts);
-    let mut texts = brought(matches, texts);
+    let mut texts = brought_texts(matches, texts);
     let mut sink = StdSink::new(&mut tally);
     let end = match foreign_of(matches) {
         Some(foreign) => join_foreign_fewer(
@@ -157,7 +157,7 @@ fn join_small(
         Ok(end) => names.told(rt, tally.fault(), end),
         Err(status) => told(rt, names.texts, "the table of users", tally.fault(), status),
     };
-    tell_met(rt, matches, names.texts, &users);
+    tell_met_of_texts(rt, matches, names.texts, &users);
     tell_met(rt, matches, names.passwords, &passwords);
     summarize(rt, reporting, &tally.counts());
     judging.status(status)

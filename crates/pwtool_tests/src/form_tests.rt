@@ -542,7 +542,7 @@ const NAMES: [(&[&str], bool); 7] = [
         &["pwtool", "check", "--good", "match,invalid,toolong"],
         true,
     ),
-    (&["pwtool", "check", "--good", "match,locked"], false),
+    (&["pwtool", "check", "--good", "match,empty"], false),
     (&["pwtool", "check", "--good", "match,"], false),
     (
         &[

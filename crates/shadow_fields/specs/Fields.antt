@@ -1,6 +1,7 @@
 -- Lines of fields with colons between them, of which the first is a user (passwd(5), shadow(5), htpasswd(1)).
-use Rattle.std.specs.Prelude.{ℕ, Bool, false, ◌&&◌, ◌||◌, ◌==◌, List, [], ◌∷◌, not}
-use Rattle.std.specs.List.{list_any, before_first, after_first}
+use Rattle.std.specs.Prelude.{ℕ, Bool, false, ◌&&◌, ◌||◌, ◌==◌, List, [], ◌∷◌, length, nat_le, not}
+use Rattle.std.specs.Char.{is_ascii_digit}
+use Rattle.std.specs.List.{list_all, list_any, before_first, after_first}
 use Rattle.pieces.specs.Characters.{is_tab}
 
 -- `:`
@@ -30,7 +31,14 @@ has_user line = list_any is_colon line && not (list_any is_tab (user_of line))
 abbrev pub text_of_line : List ℕ → List ℕ
 text_of_line line = first_field (rest_of line)
 
--- what begins with `*` or `!` is no password's text: the account is locked (shadow(5))
+-- 40 hexadecimal digits: after a `*` the text of MySQL's mysql_native_password (MySQL 4.1 to 8, `PASSWORD()`)
+abbrev pub is_hex_digit : ℕ → Bool
+is_hex_digit b = is_ascii_digit b || (nat_le 65 b && nat_le b 70) || (nat_le 97 b && nat_le b 102)
+
+abbrev pub is_mysql_digest : List ℕ → Bool
+is_mysql_digest text = length text == 40 && list_all is_hex_digit text
+
+-- What begins with `*` or `!` is no password's text: the account is locked (shadow(5)). A text of MySQL is a password's.
 abbrev pub is_locked : List ℕ → Bool
 is_locked [] = false
-is_locked (b ∷ text) = (b == 42) || (b == 33)
+is_locked (b ∷ text) = b == 33 || (b == 42 && not (is_mysql_digest text))

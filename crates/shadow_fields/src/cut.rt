@@ -1,10 +1,10 @@
 //! Lines cut at colons.
 
 ghost use Rattle.std.specs.Prelude.{◌≡◌, ◌∷◌, ◌++◌, [], MatchOption, false, true};
-ghost use Rattle.std.specs.List.{after_first, before_first, list_any};
+ghost use Rattle.std.specs.List.{after_first, before_first, list_all, list_any};
 ghost use Rattle.line_io.specs.Output.{Puts};
 ghost use Rattle.pieces.specs.Characters.{is_tab};
-ghost use Rattle.shadow_fields.specs.Fields.{first_field, has_user, is_colon, is_locked, rest_of, user_of};
+ghost use Rattle.shadow_fields.specs.Fields.{first_field, has_user, is_colon, is_hex_digit, is_locked, is_mysql_digest, rest_of, user_of};
 
 use line_io::{OutputBuffer, Sink};
 use pieces::places::first_place;
@@ -54,12 +54,26 @@ pub fn cut_field(rest: &[u8]) -> &[u8]
     }
 }
 
-/// Whether a stored text begins with `*` or `!`, so that the account is locked.
+fn is_hex_digit(b: u8) -> bool
+    ensures { result ≡ is_hex_digit b }
+{
+    b.is_ascii_digit() || (b'A' <= b && b <= b'F') || (b'a' <= b && b <= b'f')
+}
+
+// Whether this stands after the `*` of a text of MySQL.
+fn is_mysql_digest(text: &[u8]) -> bool
+    ensures { result ≡ is_mysql_digest text.now }
+{
+    text.len() == 40 && text.iter().all(|b| is_hex_digit(*b))
+}
+
+/// Whether a stored text begins with `*` or `!`, so that the account is locked. A `*` and 40 hexadecimal digits are a text of MySQL
+/// (`mysql_native_password`), and of no locked account.
 pub fn is_locked(text: &[u8]) -> bool
     ensures locked { result ≡ is_locked text.now }
 {
-    match text.first() {
-        Some(b) => *b == b'*' || *b == b'!',
+    match text.split_first() {
+        Some((b, rest)) => *b == b'!' || (*b == b'*' && !is_mysql_digest(rest)),
         None => false,
     }
 }

@@ -28,12 +28,22 @@ fn users_of_lines(rt: HostRuntime) {
 
 #[test]
 fn locked_texts(rt: HostRuntime) {
-    let rows: [(&[u8], bool); 6] = [
+    let rows: [(&[u8], bool); 15] = [
         (b"!", true),
         (b"!$6$x$y", true),
         (b"*", true),
         (b"*LK*", true),
         (b"$6$!*", false),
+        (b"*NP*", true),
+        (b"!!", true),
+        // MySQL's PASSWORD('secret'), with small letters too; a digit fewer, one more, and none.
+        (b"*14E65567ABDB5135D0CFD9A70B3032C179A49EE7", false),
+        (b"*14e65567abdb5135d0cfd9a70b3032c179a49ee7", false),
+        (b"*14E65567ABDB5135D0CFD9A70B3032C179A49EE", true),
+        (b"*14E65567ABDB5135D0CFD9A70B3032C179A49EE70", true),
+        (b"*14E65567ABDB5135D0CFD9A70B3032C179A49EEG", true),
+        (b"!14E65567ABDB5135D0CFD9A70B3032C179A49EE7", true),
+        (b"14E65567ABDB5135D0CFD9A70B3032C179A49EE7", false),
         (b"", false),
     ];
     for (text, locked) in rows {

@@ -50,6 +50,8 @@ row of.Sha2 = form (codes "sha2") (codes "unsupported-sha2")
 row of.ClearText = form (codes "clear text") (codes "unsupported-cleartext")
 row of.Another = form (codes "another scheme") (codes "unsupported-")
 row of.Faulty = form (codes "foreign text with a fault") (codes "foreign-")
+-- what begins with `*` and isn't locked: MySQL 4.1 to 8, `PASSWORD()`
+row of.MysqlNative = form (codes "mysql_native_password") (codes "*")
 -- every text begins so
 row of.Unknown = form (codes "clear text or unknown") []
 
@@ -59,7 +61,8 @@ abbrev pub forms : List UnsupportedForm
 forms =
     of.Descrypt ∷ of.Bsdicrypt ∷ of.Nt ∷ of.Sunmd5 ∷ of.Sha1crypt ∷ of.GostYescrypt ∷ of.Sm3crypt ∷ of.Sm3Yescrypt
     ∷ of.Phpass ∷ of.BcryptSha256 ∷ of.Pbkdf2Sha1 ∷ of.Scram ∷ of.WordPress ∷ of.LdapSha ∷ of.LdapSsha ∷ of.LdapMd5
-    ∷ of.LdapSmd5 ∷ of.Ldap ∷ of.Sha1 ∷ of.Md5 ∷ of.Sha2 ∷ of.ClearText ∷ of.Another ∷ of.Faulty ∷ of.Unknown ∷ []
+    ∷ of.LdapSmd5 ∷ of.Ldap ∷ of.Sha1 ∷ of.Md5 ∷ of.Sha2 ∷ of.ClearText ∷ of.Another ∷ of.Faulty ∷ of.MysqlNative
+    ∷ of.Unknown ∷ []
 
 -- the place of a form among them
 abbrev pub place : UnsupportedForm → ℕ
@@ -87,7 +90,8 @@ place of.Sha2 = 20
 place of.ClearText = 21
 place of.Another = 22
 place of.Faulty = 23
-place of.Unknown = 24
+place of.MysqlNative = 24
+place of.Unknown = 25
 
 -- ---- which form a text has
 

@@ -20,7 +20,7 @@ pub enum Judgement {
     BadLine,
     /// There is no text.
     Empty,
-    /// The text begins with `*` or `!`.
+    /// The text begins with `*` or `!`, and isn't MySQL's.
     Locked,
     /// No scheme has its identifier, so that it has no verdict.
     Unsupported(UnsupportedForm),

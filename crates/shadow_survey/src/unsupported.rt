@@ -58,12 +58,14 @@ pub enum UnsupportedForm {
     Another,
     /// A maker's text that has a fault.
     Faulty,
+    /// MySQL's, `*` and 40 hexadecimal digits (`PASSWORD()`): what begins with `*` and isn't locked.
+    MysqlNative,
     /// None of these: it may be the password itself.
     Unknown,
 }
 
 /// How many forms there are.
-pub(crate) const FORM_COUNT: usize = 25;
+pub(crate) const FORM_COUNT: usize = 26;
 
 // The forms, in the order in which they are tried and told.
 const FORMS: [UnsupportedForm; FORM_COUNT] = [
@@ -91,6 +93,7 @@ const FORMS: [UnsupportedForm; FORM_COUNT] = [
     UnsupportedForm::ClearText,
     UnsupportedForm::Another,
     UnsupportedForm::Faulty,
+    UnsupportedForm::MysqlNative,
     UnsupportedForm::Unknown,
 ];
 
@@ -176,6 +179,7 @@ impl UnsupportedForm {
             }
             UnsupportedForm::Another => ("another scheme", "unsupported-", "unsupported-"),
             UnsupportedForm::Faulty => ("foreign text with a fault", "foreign-", "foreign-"),
+            UnsupportedForm::MysqlNative => ("mysql_native_password", "*", "*"),
             UnsupportedForm::Unknown => ("clear text or unknown", "", ""),
         }
     }

@@ -275,7 +275,12 @@ fn numbers_as_numbers(rt: HostRuntime) -> Result<(), Fail> {
 
 // Texts of `secret` that libxcrypt 4.4.33 (`crypt`), passlib 1.7.4 and phpass' form of it make, and shapes of those that
 // neither makes, with their form.
-const FORMS: [(&str, UnsupportedForm, &str); 34] = [
+const FORMS: [(&str, UnsupportedForm, &str); 35] = [
+    (
+        "*14E65567ABDB5135D0CFD9A70B3032C179A49EE7",
+        UnsupportedForm::MysqlNative,
+        "mysql_native_password",
+    ),
     ("abNANd1rDfiNc", UnsupportedForm::Descrypt, "descrypt"),
     ("q7R9hlXwfgnuE", UnsupportedForm::Descrypt, "descrypt"),
     (

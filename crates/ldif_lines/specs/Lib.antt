@@ -1,0 +1,7 @@
+pub mod Limits
+pub mod Attributes
+pub mod Entries
+pub mod Ldif
+pub mod Rests
+pub mod Steps
+pub mod Views

@@ -1,0 +1,152 @@
+//! What dumps give, in pieces of every size.
+
+use ldif_lines::{FileForm, LdifLines};
+use line_io::{Failed, MemorySource, Source};
+use std::test::Fail;
+
+// A dump, and the lines of users and texts that it gives. The texts in Base64 were made by base64(1).
+const DUMPS: [(&[u8], &[u8]); 41] = [
+    (b"", b""),
+    (b"\n\n\n", b""),
+    (b"dn: uid=a\nuid: a\nuserPassword: x\n", b"a:x\n"),
+    (b"dn: uid=a\nuid: a\nuserPassword: x", b"a:x\n"),
+    (b"dn: uid=a\nuid: a\nuserPassword: x\n\n", b"a:x\n"),
+    // The password before the name, and all in Base64.
+    (b"dn: uid=a\nuserPassword: x\nuid: a\n", b"a:x\n"),
+    (
+        b"dn:: dWlkPWE=\nuserPassword:: eA==\nuid:: w6TDtg==\n",
+        b"\xC3\xA4\xC3\xB6:x\n",
+    ),
+    // Entries after one another, and what stands between them.
+    (
+        b"version: 1\n\ndn: 1\nuid: a\nuserPassword: x\n\n\n\ndn: 2\nuserPassword: y\nuid: b\n",
+        b"a:x\nb:y\n",
+    ),
+    (
+        b"version: 1\ndn: 1\nuid: a\nuserPassword: x\ndn: 2\nuserPassword: y\nuid: b\n",
+        b"a:x\nb:y\n",
+    ),
+    (
+        b"# c\ndn: 1\n# uid: c\nuid: a\n#userPassword: c\nuserPassword: x\n",
+        b"a:x\n",
+    ),
+    // A comment goes on too.
+    (b"dn: 1\nuid: a\n# c\n userPassword: x\n", b""),
+    // Several texts, several names, and none.
+    (
+        b"dn: 1\nuserPassword: x\nuid: a\nuid: b\nuserPassword: y\nuserPassword: z\n",
+        b"a:x\na:y\na:z\n",
+    ),
+    (b"dn: 1\nuid: a\ncn: x\n", b""),
+    (b"dn: cn=r,dc=d\ncn: r\nuserPassword: x\n", b"cn=r,dc=d:x\n"),
+    (b"cn: r\nuserPassword: x\n", b"\t:x\n"),
+    // The next entry doesn't get the name or the text of the one before.
+    (
+        b"dn: 1\nuid: a\n\nuserPassword: x\n\ndn: 3\nuid: c\n",
+        b"\t:x\n",
+    ),
+    (
+        b"dn: 1\nuserPassword: x\n\nuid: b\n\nuserPassword: z\nuid: c\n",
+        b"1:x\nc:z\n",
+    ),
+    // Names of attributes.
+    (b"DN: 1\nUID: a\nUSERPASSWORD: x\n", b"a:x\n"),
+    (
+        b"dn: 1\nuid;lang-de: a\nuserPassword;x-old: x\nuserPassword;a;b:: eQ==\n",
+        b"a:x\na:y\n",
+    ),
+    (
+        b"dn: 1\nuid: a\nuserPasswords: x\nuserPasswor: y\n userPassword: z\nuidNumber: 7\nuid Number: 8\n",
+        b"",
+    ),
+    (
+        b"dn: 1\nuid: a\nuserPassword\nuserPassword;x\n",
+        b"a:\xFF\n",
+    ),
+    // Folded lines.
+    (
+        b"dn: 1\nuid: a\nuserPassword: {CRYPT}$6$\n salt$\n hash\n",
+        b"a:{CRYPT}$6$salt$hash\n",
+    ),
+    (
+        b"dn: 1\nu\n id: a\nuserPassword:: e0NSWVBUfSQ2JHN\n hbHQkaGFzaA==\n",
+        b"a:{CRYPT}$6$salt$hash\n",
+    ),
+    (b"dn: 1\nuid: a\nuserPassword: x\n  y\n \n z\n", b"a:x yz\n"),
+    (b"dn: 1\nuid: a\nuserPassword: x\n ", b"a:x\n"),
+    // An empty line doesn't go on.
+    (
+        b"dn: 1\nuid: a\nuserPassword: x\n\n uid: b\nuserPassword: y\n",
+        b"a:x\n\t:y\n",
+    ),
+    (b" dn: 1\nuid: a\nuserPassword: x\n", b"a:x\n"),
+    // Spaces before a value, and at its end.
+    (
+        b"dn:1\nuid:a\nuserPassword:   x  \nuserPassword::   eQ==\nuserPassword:\nuserPassword: \n",
+        b"a:x  \na:y\na:\na:\n",
+    ),
+    (
+        b"dn: 1\nuid: a\nuserPassword::\nuserPassword:\tx\n",
+        b"a:\na:\tx\n",
+    ),
+    // What isn't there: an address, and no Base64.
+    (
+        b"dn: 1\nuid: a\nuserPassword:< file:///etc/x\nuserPassword:: eA=\nuserPassword:: eA==x\n",
+        b"a:\xFF\na:\xFF\na:\xFF\n",
+    ),
+    (b"dn: 1\nuid:: eA=\nuserPassword: x\n", b"\t:x\n"),
+    (
+        b"dn: 1\nuid:< file:///x\nuid: a\nuserPassword: x\n",
+        b"\t:x\n",
+    ),
+    (b"dn:: eA=\nuserPassword: x\n", b"\t:x\n"),
+    // Values that no line has: a line feed in a text, a colon, a tab or a line feed in a name.
+    (
+        b"dn: 1\nuid: a\nuserPassword:: eAp5\nuserPassword: z\n",
+        b"a:\xFF\na:z\n",
+    ),
+    (
+        b"dn: 1\nuid: a\nuserPassword: x:y\nuserPassword:: eDp5\n",
+        b"a:x:y\na:x:y\n",
+    ),
+    (b"dn: 1\nuid: a:b\nuserPassword: x\n", b"\t:x\n"),
+    (b"dn: 1\nuid:: YQli\nuserPassword: x\n", b"\t:x\n"),
+    (b"dn: 1\nuid:: YQpi\nuserPassword: x\n", b"\t:x\n"),
+    (b"dn: 1:2\nuserPassword: x\n", b"\t:x\n"),
+    (b"dn: 1\nuid:\nuserPassword: x\n", b":x\n"),
+    // Bytes that are no text.
+    (b"dn: 1\nuid: a\nuserPassword:: AP8N\n", b"a:\x00\xFF\r\n"),
+];
+
+// The bytes of a source, in reads of at most so many; whether it came to its end.
+fn all_of<S: Source>(source: &mut S, room: usize, out: &mut Vec<u8>) -> Result<bool, Fail> {
+    let mut buf = [0; 64];
+    for _ in 0..20_000 {
+        match source.read(&mut buf[..room.min(64)]) {
+            Ok(0) => return Ok(true),
+            Ok(count) => {
+                for b in &buf[..count.min(64)] {
+                    out.push(*b)?;
+                }
+            }
+            Err(Failed) => return Ok(false),
+        }
+    }
+    Ok(false)
+}
+
+#[test]
+fn dumps_in_pieces(rt: HostRuntime) -> Result<(), Fail> {
+    for (dump, given) in DUMPS {
+        for (step, room) in [(1, 7), (2, 1), (5, 64), (999, 3)] {
+            let mut source = LdifLines::new(FileForm::Ldif, MemorySource::new(dump, step, &[]));
+            let mut out = Vec::new(rt.alloc());
+            assert!(rt; all_of(&mut source, room, &mut out)?, "{dump:?}");
+            assert!(rt;
+                out.as_slice() == given,
+                "{dump:?}: {out:?}, {step}, {room}"
+            );
+        }
+    }
+    Ok(())
+}
