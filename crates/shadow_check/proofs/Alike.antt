@@ -13,11 +13,11 @@ module _ (limits : Option SchemeCosts) (texts passwords : List (List ℕ)) (line
   -- a line's output, whether the line is good, and whether memory may be missing
   Alike : Type 0
   Alike = (joined_output limits (wanted_password (has_line texts) passwords) line
-          ≡ joined_output limits (password_of passwords) line)
+      ≡ joined_output limits (password_of passwords) line)
       × (joined_is_good limits (wanted_password (has_line texts) passwords) line
-          ≡ joined_is_good limits (password_of passwords) line)
+      ≡ joined_is_good limits (password_of passwords) line)
       × (joined_may_lack limits (wanted_password (has_line texts) passwords) line
-          ≡ joined_may_lack limits (password_of passwords) line)
+      ≡ joined_may_lack limits (password_of passwords) line)
 
   by_cases : (long user : Bool) → nat_lt 8192 (length line) ≡ long → has_user line ≡ user
       → (long ≡ false → user ≡ true → has_line texts (user_of line) ≡ true) → Alike

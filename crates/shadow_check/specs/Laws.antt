@@ -11,8 +11,8 @@ abbrev pub FewerAnswersAlike : Type 0
 FewerAnswersAlike = (limits : Option SchemeCosts) (texts passwords : List (List ℕ)) (i : ℕ) (line : List ℕ)
     → slice_get texts i ≡ Some line
     → (joined_output limits (wanted_password (has_line texts) passwords) line
-        ≡ joined_output limits (password_of passwords) line)
+    ≡ joined_output limits (password_of passwords) line)
     × (joined_is_good limits (wanted_password (has_line texts) passwords) line
-        ≡ joined_is_good limits (password_of passwords) line)
+    ≡ joined_is_good limits (password_of passwords) line)
     × (joined_may_lack limits (wanted_password (has_line texts) passwords) line
-        ≡ joined_may_lack limits (password_of passwords) line)
+    ≡ joined_may_lack limits (password_of passwords) line)

@@ -1,5 +1,7 @@
+use Rattle.std.proofs.Common.{sym, ◌∙◌}
 use Rattle.line_filter.proofs.Noticing.{none_found}
 use Rattle.line_filter.proofs.noticed.has_return.Goals as goal
 
 pub returns : goal.returns
-returns c = record { free = λ none. none_found c.args.bytes.now c.memchr.result c.memchr.ensures none }
+returns c =
+    record { free = λ none. none_found c.args.bytes.now c.memchr.result c.memchr.ensures (sym c.is_some.ensures ∙ none) }
