@@ -126,6 +126,29 @@ if has pwstore; then
   pwstore table compact
   same 'made anew' "$(cut -d: -f1 shadow)" "$(grep ^set table | cut -f2)"
   same 'and checked again' match "$(printf 'check\told\tlegacy\n' | pwstore table)"
+  # the block of docs/RECIPES.md as it is there
+  sed -n '/^    cat > accounts.py/,/^    PYTHON$/p' "$top/docs/RECIPES.md" | sed 's/^    //' > block.sh
+  bash block.sh
+  same 'a login service over a table' 'True False ok 1' "$(python3 -c '
+from accounts import Accounts
+accounts = Accounts("table")
+print(accounts.check("Joe", "pass word"), accounts.check("Joe", "other"), accounts.set("ann", "*"), accounts.close())')"
+  same 'where another process has the table' 'ok 75 refused' "$(python3 2>/dev/null -c '
+from accounts import Accounts, Stopped
+first, second = Accounts("table"), Accounts("table")
+print(first.set("ann", "*"), end=" ")
+try:
+    print(second.ask("list"))
+except Stopped as stopped:
+    print(stopped, end=" ")
+print(first.ask("set", "ann", "a\nset\tbob\tx"))')"
+  printf 'set\tnew\t*\n' | pwstore table > replies
+  printf 'list\n' | pwstore table | sed 's/^set\t\([^\t]*\)\t/\1:/' > texts.back
+  awk -F: -v OFS=: 'NR == FNR { text[$1] = $2; next } $1 in text { $2 = text[$1] } { print }' texts.back shadow > shadow.back
+  cut -d: -f1 shadow | LC_ALL=C sort > users.old
+  same 'back to a shadow file' new "$(cut -d: -f1 texts.back | LC_ALL=C sort | LC_ALL=C comm -13 users.old -)"
+  same 'its fields' "$(cut -d: -f1,3- shadow)" "$(cut -d: -f1,3- shadow.back)"
+  same 'its texts' "$(printf 'list\n' | pwstore table | grep -v '^set.new' | cut -f3)" "$(cut -d: -f2 shadow.back)"
 else
   skipped 'a table' pwstore
 fi
