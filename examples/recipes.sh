@@ -1,5 +1,5 @@
 #!/usr/bin/env bash
-# Runs the recipes of docs/RECIPES.md, and compares what is printed. The files are made by the system's own tools:
+# Runs the blocks for a shell of docs/GUIDE.md, tries the words of each tool's texts, and compares what is printed. The files are made by the system's own tools:
 # a shadow file by chpasswd (in a folder of its own, which wants root), else by mkpasswd; htpasswd files by htpasswd.
 #
 #     examples/recipes.sh      (the programs are those on PATH, else crates/*/out/*)
@@ -52,19 +52,6 @@ elif by_mkpasswd; then echo 'shadow file: by mkpasswd'
 else echo 'recipes.sh: neither chpasswd (as root) nor mkpasswd is here: skipped'; exit 77; fi
 printf 'root:x\nann:Hello world!\nweb_adm:wrong\nJoe:pass word\nbob:with:colons:\nold:legacy\n' > passwords
 
-# ---- joined by user
-cut -d: -f1,2 shadow | LC_ALL=C sort -t: -k1,1 > texts.sorted
-LC_ALL=C sort -t: -k1,1 passwords > passwords.sorted
-LC_ALL=C join -t: -j1 passwords.sorted texts.sorted > joined
-cut -d: -f1 joined > users
-same 'joined by user' \
-  "$(printf '%s\t%s\n' Joe phc-salt-short ann match bob match old phc-salt-short root mcf-delimiter web_adm mismatch)" \
-  "$(sed 's/^[^:]*://; s/:\([^:]*\)$/\t\1/' joined | pwcheck check | paste users -)"
-
-# ---- schemes counted
-same 'schemes counted' "$(printf '%s\n' '1 $1$' '1 $5$' '1 $y$' '1 none' '2 $6$')" \
-  "$(cut -d: -f2 shadow | sed 's/^\(\$[^$]*\$\).*/\1/; /^\$/!s/.*/none/' | sort | uniq -c | sort -rn | sed 's/^ *//' | LC_ALL=C sort)"
-
 # ---- the table of words: one text of each tool
 if has mkpasswd && has htpasswd; then
   {
@@ -92,28 +79,6 @@ same 'normalized' "$(sed 's/^\(ann:\$5\$\)/\1rounds=5000$/' shadow)" "$(cat shad
 same 'verdicts before and after' 'sha-format match' "$(for file in earlier shadow.new; do
     printf 'Hello world!\t%s\n' "$(sed -n 's/^ann:\([^:]*\):.*/\1/p' "$file")"; done | pwcheck check | paste -sd ' ')"
 
-# ---- migration to scrypt
-migrate() { # PASSWORD
-  cut -d: -f1,2 shadow > texts
-  grep -E '^[a-z0-9-]{1,32}:\$' texts > taken
-  grep -vE '^[a-z0-9-]{1,32}:\$' texts | cut -d: -f1 > left-out
-  {
-    sed 's/:/\t/; s/^/set\t/' taken
-    printf 'upgrade\tann\t%s\t%s\n' "$(head -c 16 /dev/urandom | base64 | tr -d '=')" "$1"
-    printf 'list\n'
-  } | pwfile > replies || { echo "pwfile ended with $?: nothing is made"; return 1; }
-  sed -n 's/^set\t\([^\t]*\)\t/\1:/p' replies > texts.new
-  sed 's/$/: stays in the old file alone/' left-out
-}
-same 'left out' "$(printf '%s: stays in the old file alone\n' root web_adm Joe)" "$(migrate 'Hello world!')"
-same 'upgraded' "$(printf 'ann:$scrypt$ln=14,r=8,p=1$\n'; grep -E '^(bob|old):' texts)" \
-  "$(sed 's/^\(ann:.*p=1\$\).*/\1/' texts.new)"
-same 'upgraded text' match "$(printf 'Hello world!\t%s\n' "$(sed -n 's/^ann://p' texts.new)" | pwcheck check)"
-rm texts.new
-same 'a wrong password stops it' 'pwfile ended with 1: nothing is made' "$(migrate wrong)"
-same 'and nothing is made' 'none' "$(ls texts.new 2>/dev/null || echo none)"
-same 'the old file' "$ann" "$(sed -n 's/^ann:\([^:]*\):.*/\1/p' shadow)"
-
 # ---- a password table for a service
 if has pwstore; then
   cut -d: -f1,2 shadow | grep -v ':$' | sed 's/:/\t/; s/^/set\t/' | pwstore table > replies || cat replies
@@ -126,8 +91,8 @@ if has pwstore; then
   pwstore table compact
   same 'made anew' "$(cut -d: -f1 shadow)" "$(grep ^set table | cut -f2)"
   same 'and checked again' match "$(printf 'check\told\tlegacy\n' | pwstore table)"
-  # the block of docs/RECIPES.md as it is there
-  sed -n '/^    cat > accounts.py/,/^    PYTHON$/p' "$top/docs/RECIPES.md" | sed 's/^    //' > block.sh
+  # the block of docs/GUIDE.md as it is there
+  sed -n '/^    cat > accounts.py/,/^    PYTHON$/p' "$top/docs/GUIDE.md" | sed 's/^    //' > block.sh
   bash block.sh
   same 'a login service over a table' 'True False ok 1' "$(python3 -c '
 from accounts import Accounts
@@ -155,7 +120,7 @@ fi
 
 # ---- htpasswd
 if has htpasswd; then
-  same 'htpasswd' match "$(printf '%s\t%s\n' 'secret' "$(htpasswd -nb ann secret | sed -n 's/^ann://p')" | pwlegacy)"
+  same 'htpasswd' match "$(printf '%s\t%s\n' 'secret' "$(htpasswd -nb ann secret | sed -n 's/^ann://p')" | pwtool check --quiet)"
 else
   skipped htpasswd htpasswd
 fi
