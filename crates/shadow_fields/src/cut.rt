@@ -60,11 +60,18 @@ fn is_hex_digit(b: u8) -> bool
     b.is_ascii_digit() || (b'A' <= b && b <= b'F') || (b'a' <= b && b <= b'f')
 }
 
-// Whether this stands after the `*` of a text of MySQL.
+// Whether these bytes are hexadecimal digits.
+fn are_hex_digits(text: &[u8]) -> bool
+    ensures { result ≡ list_all is_hex_digit text.now }
+{
+    text.iter().all(|b| is_hex_digit(*b))
+}
+
+// Whether this follows the `*` of a text of MySQL.
 fn is_mysql_digest(text: &[u8]) -> bool
     ensures { result ≡ is_mysql_digest text.now }
 {
-    text.len() == 40 && text.iter().all(|b| is_hex_digit(*b))
+    text.len() == 40 && are_hex_digits(text)
 }
 
 /// Whether a stored text begins with `*` or `!`, so that the account is locked. A `*` and 40 hexadecimal digits are a text of MySQL
