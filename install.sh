@@ -1,6 +1,6 @@
 #!/usr/bin/env bash
-# Installs the programs, the C library and libpwcrypt (crypt(3)), the header and pkg-config file, the manual pages and the licences
-# under a prefix.
+# Installs the programs, the C library and libpwcrypt (crypt(3)), the header and pkg-config files, the manual pages, the pages of docs/
+# and the licences under a prefix.
 #
 #     ./install.sh [PREFIX]      (/usr/local if left out; DESTDIR is put before it; PREFIX may be relative)
 #     ./install.sh --help
@@ -103,8 +103,12 @@ done
 for page in "$top"/man/*.[135]; do
   put 644 "$page" "share/man/man${page##*.}"
 done
-for text in LICENSE-MIT LICENSE-APACHE NOTICE; do
+for text in README.md SECURITY.md CHANGELOG.md LICENSE-MIT LICENSE-APACHE NOTICE; do
   put 644 "$top/$text" share/doc/pwcheck
+done
+for text in "$top"/docs/*.md "$top"/docs/*.svg "$top"/docs/internals/*.md; do
+  text=${text#"$top"/}
+  put 644 "$top/$text" "share/doc/pwcheck/$(dirname "$text")"
 done
 
 # What a program needs to find the libraries: the loader's list made anew where it has the folder, and else the two lines.

@@ -13,6 +13,10 @@ case ${1:-} in
     echo "uninstall.sh: $1 is no option and no PREFIX (a folder of that name is ./$1); uninstall.sh --help says more" >&2
     exit 1 ;;
 esac
+[ $# -le 1 ] || {
+  echo "uninstall.sh: one PREFIX at most" >&2
+  exit 1
+}
 root=${DESTDIR:-}$(realpath -m -- "${1:-/usr/local}")
 
 take() { # FILE
@@ -28,8 +32,11 @@ for file in bin/pwcheck bin/pwtool bin/wrapstream bin/pwkdf bin/pwlegacy bin/pwf
   lib/libpwcrypt.so lib/libpwcrypt.so.1 lib/libpwcrypt.so.1.0; do
   take "$file"
 done
-for text in LICENSE-MIT LICENSE-APACHE NOTICE; do
+for text in README.md SECURITY.md CHANGELOG.md LICENSE-MIT LICENSE-APACHE NOTICE; do
   take "share/doc/pwcheck/$text"
+done
+for text in "$top"/docs/*.md "$top"/docs/*.svg "$top"/docs/internals/*.md; do
+  take "share/doc/pwcheck/${text#"$top"/}"
 done
 for page in "$top"/man/*.[135]; do
   take "share/man/man${page##*.}/$(basename "$page")"

@@ -1,13 +1,14 @@
 #!/usr/bin/env python3
-"""Real programs with libpwcrypt preloaded: Perl, Python's crypt, mkpasswd, htpasswd, a program that was linked long ago, and pamtester
-over a real shadow entry.
+"""Real programs with libpwcrypt: Perl, Python's crypt, mkpasswd, htpasswd, Dovecot, a program that was linked long ago, pamtester
+over a real shadow entry, and su in the place of whose libcrypt.so.1 the library is. PHP has a crypt of its own and calls no library.
 
     bench/crypt_clients.py LIBRARY      (libpwcrypt.so.1)
 
 Each is asked about the right password and a wrong one, with each method that it calls crypt for; a program that is not installed is
-named and left out. That the library answered, and not the system's, is seen by the loader (LD_DEBUG=bindings). The part of PAM needs
-root: it works in a mount namespace of its own, so that the machine's own /etc is not touched. It ends with 1 where an answer is
-another one.
+named and left out. That the library answered, and not the system's, is seen by the loader (LD_DEBUG=bindings). The loader preloads
+nothing for su, which has another user's rights: there libpwcrypt is mounted in the place of the system's library, and a user
+whose text libpwcrypt alone refuses shows which one answers. The parts of PAM and su need root: they work in a mount namespace of
+their own, so that the machine's own files are not touched. It ends with 1 where an answer is another one.
 """
 import glob
 import os
@@ -22,7 +23,9 @@ TEXTS = {
     "$1$": "$1$saltsalt$6SNdNaZLKst2LlSm7oPPL1",
     "$5$": "$5$rounds=1000$saltsaltsaltsalt$b70IZgXpYBdEyQ9arjbSW5KAXdl57mX1OCyvh8WRHNC",
     "$6$": "$6$rounds=1000$saltsaltsaltsalt$4x9kufhwkJaKtf4seIqE/TZk6G/DqOFk3orVgpNzyiLnBpKBJ14TokK23FWMAFQcK07nQ3huf2NpOJsQOFudB/",
+    "$2a$": "$2a$04$abcdefghijklmnopqrstuuyvPXIbu7xe6/CED2DzX8z6Si09MlzlW",
     "$2b$": "$2b$04$abcdefghijklmnopqrstuuyvPXIbu7xe6/CED2DzX8z6Si09MlzlW",
+    "$2y$": "$2y$04$abcdefghijklmnopqrstuuyvPXIbu7xe6/CED2DzX8z6Si09MlzlW",
     "$7$": "$7$4/..../....saltsalt$Z/4xy7iP6BmJW9gLqd81LpC5qU1GP4WZHNIq28Q/Ma5",
     "$y$": "$y$j/.$saltsaltsaltsalt$0QK5vjXWIOINdNK61h/g1nAOvWo0exKNSvV/Cie1u4D",
 }
@@ -111,6 +114,16 @@ def htpasswd():
             wrong, _ = preloaded("htpasswd", "-vb", name, "user", "pW")
             need(right.returncode == 0 and wrong.returncode == 3 and bound, f"htpasswd {prefix}: {right.stderr} {wrong.stderr} {bound}")
     print(f"htpasswd -v: $1$, $5$, $6$, right and wrong; bound {bound}")
+
+
+def dovecot():
+    if not there("doveadm"):
+        return
+    for text in TEXTS.values():
+        right, bound = preloaded("doveadm", "pw", "-t", "{CRYPT}" + text, "-p", "pw")
+        wrong, _ = preloaded("doveadm", "pw", "-t", "{CRYPT}" + text, "-p", "pW")
+        need("(verified)" in right.stdout and "(verified)" not in wrong.stdout and bound, f"doveadm {text}: {right} {wrong} {bound}")
+    print(f"doveadm pw -t: {len(TEXTS)} methods, right and wrong; bound {bound}")
 
 
 # As a program that was linked against the GNU C library's own libcrypt: it asks for crypt@GLIBC_2.2.5 and crypt_r@GLIBC_2.2.5.
@@ -230,12 +243,61 @@ def pam():
     print(f"pamtester, pam_unix: {len(TEXTS)} methods, an unknown one and a locked user, right and wrong; bound {bound}")
 
 
+# The same with the library in the place of the system's, and su, which an ordinary user calls.
+SU = r"""
+set -e; T=$(mktemp -d); mount --make-rprivate /
+cp -a /etc/passwd /etc/shadow "$T"
+cat "$1" >> "$T/passwd"; cat "$2" >> "$T/shadow"; chmod 640 "$T/shadow"
+mount --bind "$T/passwd" /etc/passwd; mount --bind "$T/shadow" /etc/shadow
+[ -z "$3" ] || mount --bind "$3" "$4"
+set +e
+while read -r user password; do
+  if printf '%s\n' "$password" | timeout 60 setpriv --reuid 65534 --regid 65534 --clear-groups su -s /bin/true "$user" >/dev/null 2>&1
+  then echo "$user $password in"; else echo "$user $password out"; fi
+done
+[ -z "$3" ] || umount "$4"
+umount /etc/passwd /etc/shadow; rm -rf "$T"
+"""
+
+
+def su():
+    if os.geteuid() or not all(map(there, ("su", "unshare", "setpriv"))):
+        print("su: not root, or no su, unshare, setpriv: left out")
+        return
+    listed = subprocess.run(["ldconfig", "-p"], capture_output=True, text=True, check=False).stdout
+    system = os.path.realpath(re.search(r"libcrypt\.so\.1 .*x86-64.*=> (\S+)", listed).group(1))
+    users = {f"sutry{i}": text for i, text in enumerate(TEXTS.values())}
+    # A text of DES, which libxcrypt takes and libpwcrypt refuses.
+    users["sutrydes"], users["sutrylock"] = "abzlUXK5ed5rs", "!" + TEXTS["$6$"]
+    answers = []
+    for library in (LIBRARY, ""):
+        with tempfile.TemporaryDirectory() as folder:
+            os.chmod(folder, 0o755)
+            passwd, shadow, copy = (os.path.join(folder, name) for name in ("passwd", "shadow", "libpwcrypt"))
+            with open(passwd, "w", encoding="utf-8") as file:
+                file.writelines(f"{user}:x:{6100 + i}:{6100 + i}::/nonexistent:/bin/sh\n" for i, user in enumerate(users))
+            with open(shadow, "w", encoding="utf-8") as file:
+                file.writelines(f"{user}:{text}:20000:0:99999:7:::\n" for user, text in users.items())
+            if library:
+                shutil.copy(library, copy)
+                os.chmod(copy, 0o755)
+            asked = "".join(f"{user} {password}\n" for user in users for password in ("pw", "pW"))
+            done = subprocess.run(["unshare", "-m", "bash", "-c", SU, "su", passwd, shadow, copy if library else "", system], input=asked,
+                                  capture_output=True, text=True, check=False)
+        answers.append(done.stdout.splitlines())
+    lines = [f"{user} {password}" for user in users for password in ("pw", "pW")]
+    wanted = [f"{line} {'in' if line.endswith(' pw') and not line.startswith(('sutrydes', 'sutrylock')) else 'out'}" for line in lines]
+    need(answers[0] == wanted, f"su: {answers[0]} {done.stderr}")
+    need(answers[1] == [line.replace("sutrydes pw out", "sutrydes pw in") for line in wanted], f"su with libxcrypt: {answers[1]}")
+    print(f"su, as an ordinary user: {len(TEXTS)} methods and a locked user, right and wrong; a text of DES is taken with libxcrypt alone")
+
+
 def main():
     global LIBRARY
     if len(sys.argv) != 2:
         sys.exit(__doc__)
     LIBRARY = os.path.realpath(sys.argv[1])
-    for client in (perl, python, mkpasswd, htpasswd, old_program, no_random, pam):
+    for client in (perl, python, mkpasswd, htpasswd, dovecot, old_program, no_random, pam, su):
         client()
     return 1 if FAULTS else 0
 

@@ -2,7 +2,7 @@
 # The repository's own checks, after the prover's. Each ends with a status that isn't 0 where it finds a fault.
 #
 #     checks/run.sh quick    the numbers of the header and of the bindings, what the pages name, the blocks of README and GUIDE, the layers, the pictures, dist/ and its
-#                            comparison; and of what the gate built (dist/ where nothing is built) the faces in C, pwtool over each form and
+#                            comparison; and of what the gate built (dist/ where nothing is built) the faces in C, their binary interface, a release and its README, pwtool over each form and
 #                            option, and what crashes leave of a table of pwstore. In a minute or two, without any proof: for each push; it
 #                            needs strace
 #     checks/run.sh          that, and the C library, its callers, a run under sanitizers, the installation, the programs of README.md
@@ -38,6 +38,8 @@ else
   echo "run.sh: tried is dist/, since not everything was built here: $(tail -n 1 "$work/log")"
 fi
 checks/c_faces.sh "$made"
+python3 checks/abi.py "$made" changed
+checks/release_try.sh "$made"
 python3 checks/pwtool_cases.py "$made/pwtool"
 python3 checks/blocks.py "$made"
 command -v strace >/dev/null 2>&1 || apt-get install -y strace >/dev/null 2>&1 || true

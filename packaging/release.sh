@@ -20,7 +20,8 @@ trap 'rm -rf "$work"' EXIT
 PWCHECK_PC_PREFIX='${pcfiledir}/../..' DESTDIR=$work/tree "$top/install.sh" /usr >&2
 mkdir "$work/$name"
 mv "$work"/tree/usr/* "$work/$name"
-cp "$top"/{README.md,CHANGELOG.md,SECURITY.md,LICENSE-MIT,LICENSE-APACHE,NOTICE} "$work/$name"
+cp "$top"/{CHANGELOG.md,SECURITY.md,LICENSE-MIT,LICENSE-APACHE,NOTICE} "$work/$name"
+sed "s/@VERSION@/$version/" "$top/packaging/README.release.md" > "$work/$name/README.md"
 cp "$top/examples/passwords.txt" "$work/$name"
 python3 "$top/packaging/sources.py" > "$work/$name/SOURCES"
 chmod -R u=rwX,go=rX "$work/$name"

@@ -41,6 +41,25 @@ c_library "$work/first"
 lines=$work/first/usr/passwords.txt
 answers "$work/first" "$lines"
 echo "try.sh: $name: the programs run in an empty root"
+(
+  cd "$work/first/usr"
+  # What the README names is there, its commands print what it says, and its C program is built wherever the folder is.
+  for named in $(grep -o '`[^`]*`' README.md | tr -d '`' | grep -E '^[A-Za-z./-]+(/|\.[a-z]+)$|^[A-Z0-9]+$'; grep -oE '\b[A-Z-]+\.md\b|\bLICENSE-[A-Z]+\b' README.md); do
+    case $named in packaging/*) continue ;; GUIDE.md) named=share/doc/pwcheck/docs/GUIDE.md ;; esac
+    [ -e "$named" ] || fail "the README names $named, which isn't in $name"
+  done
+  sed -n '/^```console$/,/^```$/{/^```/d; p}' README.md > "$work/block"
+  grep '^\$ ' "$work/block" | cut -c3- > "$work/commands"
+  [ -s "$work/commands" ] || fail "the README has no commands"
+  while read -r line; do echo "\$ $line"; bash -c "$line" || true; done < "$work/commands" > "$work/answers" 2>/dev/null
+  cmp -s "$work/block" "$work/answers" || fail "the commands of the README print something else: $(diff "$work/block" "$work/answers" | head -n 4)"
+  if command -v gcc >/dev/null 2>&1 && command -v pkg-config >/dev/null 2>&1; then
+    awk '$0 == "```" { inside = 0 } inside { print } $0 == "```c" { inside = 1 }' share/doc/pwcheck/README.md > "$work/login.c"
+    eval "gcc -o $work/login $work/login.c $(PKG_CONFIG_PATH=$PWD/lib/pkgconfig pkg-config --cflags --libs pwcheck)"
+    [ "$("$work/login")" = match ] || fail "the C program, built over the unpacked folder, does not print match"
+  fi
+)
+echo "try.sh: $name: its README names what is there, and its commands and the C program run"
 for package in "$folder"/*.deb; do
   [ -e "$package" ] || continue
   if command -v lintian >/dev/null 2>&1; then
