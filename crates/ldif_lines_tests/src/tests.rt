@@ -17,7 +17,7 @@ const DUMPS: [(&[u8], &[u8]); 41] = [
         b"dn:: dWlkPWE=\nuserPassword:: eA==\nuid:: w6TDtg==\n",
         b"\xC3\xA4\xC3\xB6:x\n",
     ),
-    // Entries after one another, and what stands between them.
+    // Entries after one another, and what is between them.
     (
         b"version: 1\n\ndn: 1\nuid: a\nuserPassword: x\n\n\n\ndn: 2\nuserPassword: y\nuid: b\n",
         b"a:x\nb:y\n",

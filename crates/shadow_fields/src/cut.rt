@@ -60,7 +60,7 @@ fn is_hex_digit(b: u8) -> bool
     b.is_ascii_digit() || (b'A' <= b && b <= b'F') || (b'a' <= b && b <= b'f')
 }
 
-// Whether this stands after the `*` of a text of MySQL.
+// Whether this is what a text of MySQL has after its `*`.
 fn is_mysql_digest(text: &[u8]) -> bool
     ensures { result ≡ is_mysql_digest text.now }
 {
