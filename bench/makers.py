@@ -111,6 +111,7 @@ def as_it_is(text, sign):
 
 
 def crypts(text):
+    need(text.startswith("$") or (not text.startswith(("*", "!")) and len(text) >= 2), "locked")
     need(text.startswith("$"), "unsupported-des-crypt")
     return text
 

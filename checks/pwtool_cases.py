@@ -436,7 +436,7 @@ def directories(tool):
     with open(os.path.join(TOP, "examples/dump.ldif"), "rb") as file:
         dump = tool.file("dump", file.read())
     rows = ("ann\tsha512-crypt\trounds=5000\tweak: 5000 rounds\nbob\t-\t-\tunsupported: sha1\ncarl\t-\t-\tlocked\n"
-            "dora\targon2id\tm=4096,t=3,p=1\tweak: 4096 KiB\neve\t-\t-\tunsupported: clear text\nfrank\t-\t-\tlocked\n"
+            "dora\targon2i\tm=4096,t=3,p=1\tweak: 4096 KiB\neve\t-\t-\tunsupported: clear text\nfrank\t-\t-\tlocked\n"
             "cn=replicator,dc=example,dc=com\t-\t-\tunsupported: sha1\n\n")
     tool.case(["survey", "--from", "ldif", dump], "", lambda got: got.startswith(rows), 1)
     answers = "ann\tmatch\nbob\tunsupported-sha1\ncarl\tlocked\ndora\tmatch\neve\tunsupported-cleartext\nfrank\tlocked\ncn=replicator,dc=example,dc=com\tunsupported-sha1\n"

@@ -267,9 +267,11 @@ whole_is : (answer : Answer) (stored : List ℕ) → whole_text answer ≡ Ok st
     → (answer ≡ Ok stored) × (list_any is_colon stored ≡ false)
 whole_is (Err fault) stored h = no_ok fault stored h
 whole_is (Ok text) stored h = cases (list_any is_colon text) refl where
-  cases : (test : Bool) → list_any is_colon text ≡ test → (Ok text ≡ Ok stored) × (list_any is_colon stored ≡ false)
+  cases : (test : Bool) → list_any is_colon text ≡ test → (given text ≡ Ok stored) × (list_any is_colon stored ≡ false)
   cases true is = no_ok Form stored (rw is at h)
-  cases false is = let kept = rw is at h in (kept, rw (same_ok text stored kept) at is)
+  cases false is =
+      let kept : given text ≡ Ok stored = rw is at h in
+      (kept, rw (same_ok text stored kept) at is)
 
 ldif_again : (text stored : List ℕ) → ldif text ≡ Ok stored → ldif stored ≡ Ok stored
 unfolding ldif

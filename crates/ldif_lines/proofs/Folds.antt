@@ -40,7 +40,7 @@ some_clipped x p = no_zero (length (clipped (x ∷ p))) (omega (arith, length-ta
 
 -- ---- a text before lines
 
-front : List ℕ → List (List ℕ) → List (List ℕ)
+abbrev front : List ℕ → List (List ℕ) → List (List ℕ)
 front p [] = p ∷ []
 front p (line ∷ more) = (p ++ line) ∷ more
 
@@ -63,7 +63,7 @@ lines_front b (c ∷ p) text free =
 
 -- ---- lines of which the first begins with a space
 
-spaced : List (List ℕ) → Bool
+abbrev spaced : List (List ℕ) → Bool
 spaced [] = false
 spaced (line ∷ more) = begins_with_space line
 
@@ -97,9 +97,9 @@ empty_next [] = refl
 empty_next (next ∷ more) = refl
 
 not_joined : (line : List ℕ) (ls : List (List ℕ)) → spaced ls ≡ false → with_next line ls ≡ line ∷ ls
-not_joined line [] no = refl
-not_joined [] (next ∷ more) no = refl
-not_joined (b ∷ line) (next ∷ more) no = let other : begins_with_space next ≡ false = no in rw other refl
+not_joined line [] is = refl
+not_joined [] (next ∷ more) is = refl
+not_joined (b ∷ line) (next ∷ more) is = let other : begins_with_space next ≡ false = is in rw other refl
 
 joined_with : (b : ℕ) (p line : List ℕ) (ls : List (List ℕ))
     → with_next (b ∷ p) (with_next (32 ∷ line) ls) ≡ with_next (b ∷ (p ++ line)) ls
@@ -154,12 +154,12 @@ ends : (q : List ℕ) (b : ℕ) (text : List ℕ) → (length q == 0) ≡ false 
     → rest_lines true q (b ∷ text) ≡ q ∷ rest_after b text
 ends q b text some other = rw (some, other) refl
 
-after_feed : Bool → List ℕ → List ℕ
+abbrev after_feed : Bool → List ℕ → List ℕ
 after_feed true text = 10 ∷ text
 after_feed false text = text
 
 -- what holds of each line so far before a text
-Rests : List ℕ → Type 0
+abbrev Rests : List ℕ → Type 0
 Rests text = (has_feed : Bool) (p : List ℕ) → NoFeed p
     → rest_lines has_feed (clipped p) text ≡ map clipped (undone (p ++ after_feed has_feed text))
 
@@ -188,13 +188,16 @@ next_byte b text rests p free = cases (b == 10) refl where
       ∙ rests false (p ++ b ∷ []) (free_more p b free e)
       ∙ ap (λ t. map clipped (undone t)) (append_assoc p (b ∷ []) text))
 
+other_after : (b : ℕ) (text : List ℕ) → (b == 10) ≡ false → rest_after b text ≡ rest_lines false (b ∷ []) text
+other_after b text e = rw e refl
+
 next_line : (b : ℕ) (text : List ℕ) → Rests text → rest_after b text ≡ map clipped (undone (b ∷ text))
 next_line b text rests = cases (b == 10) refl where
   cases : (test : Bool) → (b == 10) ≡ test → rest_after b text ≡ map clipped (undone (b ∷ text))
   cases true e = let same : b ≡ 10 = eqb-true b 10 e in rw same (rests true [] refl)
   cases false e =
       let free : NoFeed (b ∷ []) = free_more [] b refl e in
-      rw e (rests false (b ∷ []) free)
+      other_after b text e ∙ rests false (b ∷ []) free
 
 after_one : (b : ℕ) (text : List ℕ) → Rests text → (p : List ℕ) → NoFeed p
     → rest_lines true (clipped p) (b ∷ text) ≡ map clipped (undone (p ++ 10 ∷ b ∷ text))
@@ -214,7 +217,8 @@ after_one b text rests (x ∷ p) free = cases (b == 32) refl where
       ∙ ap (λ ls. clipped (x ∷ p) ∷ ls) (next_line b text rests)
       ∙ ap (λ ls. map clipped ls) (sym (ends_some (x ∷ p) b text free e))
 
-rests : (text : List ℕ) → Rests text
+rests : (text : List ℕ) (has_feed : Bool) (p : List ℕ) → NoFeed p
+    → rest_lines has_feed (clipped p) text ≡ map clipped (undone (p ++ after_feed has_feed text))
 rests [] false p free = at_end p free
 rests [] true p free = ap (λ ls. map clipped ls) (sym (ends_last p free))
 rests (b ∷ text) false p free = next_byte b text (rests text) p free

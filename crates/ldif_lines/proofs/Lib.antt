@@ -1,3 +1,4 @@
+mod Sources
 mod Given
 mod Folds
 mod Rows

@@ -52,11 +52,11 @@ uid_alone (a ∷ b ∷ line) is =
 abbrev with_parts : Bool → List ℕ → Option (List ℕ) → Held
 with_parts has_uid name texts = record { has_uid = has_uid; name = name; texts = texts }
 
-after_lines : Held → List (List ℕ) → Held
+abbrev after_lines : Held → List (List ℕ) → Held
 after_lines e [] = e
 after_lines e (line ∷ more) = after_lines (with_line e line) more
 
-name_of : Bool → List ℕ → List (List ℕ) → List ℕ
+abbrev name_of : Bool → List ℕ → List (List ℕ) → List ℕ
 name_of true name ls = name
 name_of false name ls = uid_name name ls
 
@@ -86,7 +86,7 @@ name_after : (ls : List (List ℕ)) (e : Held) → (after_lines e ls).name ≡ n
 name_after [] e = sym (no_lines_name e.has_uid e.name)
 name_after (line ∷ more) e = name_after more (with_line e line) ∙ name_step e.has_uid e.name e.texts line more
 
-texts_then : Option (List ℕ) → List (List ℕ) → Option (List ℕ)
+abbrev texts_then : Option (List ℕ) → List (List ℕ) → Option (List ℕ)
 texts_then texts [] = texts
 texts_then texts (line ∷ more) = texts_then (if is_password line then with_text texts (line_text line) else texts) more
 
@@ -236,16 +236,21 @@ named_rows : (line : List ℕ) (entry : List (List ℕ)) → is_dn line ≡ true
     → held_rows (after_lines (named line) entry) ≡ entry_rows (line ∷ entry)
 named_rows line entry is =
     rows_after (line_name line) entry
-    ∙ rw (is, no_uid line is, no_password line is) refl
+    ∙ sym (by_tests (is_dn line) (is_uid line) (is_password line) is (no_uid line is) (no_password line is)) where
+      by_tests : (dn uid password : Bool) → dn ≡ true → uid ≡ false → password ≡ false
+          → fitting (flat_map (row (if uid then line_name line else uid_name (if dn then line_name line else no_name) entry))
+          (map line_text (if password then line ∷ filter is_password entry else filter is_password entry)))
+          ≡ fitting (flat_map (row (uid_name (line_name line) entry)) (entry_texts entry))
+      by_tests dn uid password d u p = rw (d, u, p) refl
 
 -- ---- all entries
 
-first_entry : List (List ℕ) → List (List ℕ)
+abbrev first_entry : List (List ℕ) → List (List ℕ)
 first_entry [] = []
 first_entry (line ∷ more) =
     if length line == 0 then [] else if is_dn line then [] else line ∷ first_entry more
 
-other_entries : List (List ℕ) → List (List (List ℕ))
+abbrev other_entries : List (List ℕ) → List (List (List ℕ))
 other_entries [] = []
 other_entries (line ∷ more) =
     if length line == 0 then first_entry more ∷ other_entries more

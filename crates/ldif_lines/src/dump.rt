@@ -1,6 +1,6 @@
 //! A dump, byte by byte.
 
-ghost use Rattle.std.specs.Prelude.{◌≡◌, ◌==◌, ◌≤◌, ◌+◌, ◌++◌, ◌∷◌, [], List, ℕ, drop, false, length, min, take};
+ghost use Rattle.std.specs.Prelude.{◌≡◌, ◌==◌, ◌&&◌, ◌||◌, ◌≤◌, ◌+◌, ◌++◌, ◌∷◌, [], List, ℕ, not, true, drop, false, length, min, take};
 ghost use Rattle.ldif_lines.specs.Limits.{rows_most};
 ghost use Rattle.ldif_lines.specs.Rests.{fresh, given_lines, grown, held_rows};
 
@@ -30,6 +30,20 @@ fn grow(line: &mut Room<LINE_MOST>, b: u8)
     if line.len() < LINE_MOST {
         line.push(b);
     }
+}
+
+// Whether a line goes on with a byte after its line feed.
+fn goes_on(line: &Room<LINE_MOST>, b: u8) -> bool
+    ensures { result ≡ (not (length line.now == 0) && (b == 32)) }
+{
+    line.len() != 0 && b == b' '
+}
+
+// Whether there is a line at the end of a dump.
+fn has_line(has_feed: bool, line: &Room<LINE_MOST>) -> bool
+    ensures { result ≡ (has_feed || not (length line.now == 0)) }
+{
+    has_feed || line.len() != 0
 }
 
 impl Dump {
@@ -92,12 +106,15 @@ impl Dump {
         if self.line.len() == 0 {
             self.close();
             self.entry.clear();
-        } else if is_dn(self.line.as_slice()) {
+            return;
+        }
+        if is_dn(self.line.as_slice()) {
             self.close();
             self.entry.begin(self.line.as_slice());
-        } else {
-            self.entry.take(self.line.as_slice());
+            self.line.clear();
+            return;
         }
+        self.entry.take(self.line.as_slice());
         self.line.clear();
     }
 
@@ -113,19 +130,44 @@ impl Dump {
         }
     }
 
+    // The next byte after a line feed: a space with which the line goes on, or the first of the next line.
+    fn take_after(&mut self, b: u8)
+        requires none { self.old.ready ≡ [] }
+        requires has_feed { self.old.has_feed ≡ true }
+        ensures shown { (text : List ℕ) → shown self.new text ≡ shown self.old (b ∷ text) }
+    {
+        self.has_feed = false;
+        if goes_on(&self.line, b) {
+            return;
+        }
+        self.end_line();
+        self.take(b);
+    }
+
     /// The next byte.
     pub fn step(&mut self, b: u8)
         requires none { self.old.ready ≡ [] }
         ensures shown { (text : List ℕ) → shown self.new text ≡ shown self.old (b ∷ text) }
     {
         if self.has_feed {
+            self.take_after(b);
+        } else {
+            self.take(b);
+        }
+    }
+
+    // No byte follows the line.
+    fn end_last(&mut self)
+        requires room { length self.old.ready ≤ rows_most }
+        ensures given { waiting self.new ++ held_rows (held self.new.entry) ≡ shown self.old [] }
+        ensures line { self.new.line ≡ [] }
+        ensures has_feed { self.new.has_feed ≡ false }
+        ensures size { length self.new.ready ≤ length self.old.ready + rows_most }
+    {
+        if has_line(self.has_feed, &self.line) {
             self.has_feed = false;
-            if b == b' ' && self.line.len() != 0 {
-                return;
-            }
             self.end_line();
         }
-        self.take(b);
     }
 
     /// The dump has ended: all that is left of it is ready.
@@ -134,10 +176,7 @@ impl Dump {
         ensures shown { shown self.new [] ≡ shown self.old [] }
         ensures waiting { waiting self.new ≡ shown self.old [] }
     {
-        if self.has_feed || self.line.len() != 0 {
-            self.has_feed = false;
-            self.end_line();
-        }
+        self.end_last();
         self.close();
         self.entry.clear();
     }

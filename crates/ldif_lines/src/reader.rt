@@ -47,7 +47,6 @@ impl Reader {
         ensures shown { (text : List ℕ) → shown_by self.new text ≡ shown_by self.old text }
         ensures all { waiting self.new.dump ≡ [] → pending self.new ≡ [] }
     {
-        self.dump.clear();
         let count = pour(&mut self.dump, &self.piece.as_slice()[self.at..]);
         self.at += count;
     }

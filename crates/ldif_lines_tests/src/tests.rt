@@ -17,7 +17,7 @@ const DUMPS: [(&[u8], &[u8]); 41] = [
         b"dn:: dWlkPWE=\nuserPassword:: eA==\nuid:: w6TDtg==\n",
         b"\xC3\xA4\xC3\xB6:x\n",
     ),
-    // Entries after one another, and what stands between them.
+    // Entries after one another, and what is between them.
     (
         b"version: 1\n\ndn: 1\nuid: a\nuserPassword: x\n\n\n\ndn: 2\nuserPassword: y\nuid: b\n",
         b"a:x\nb:y\n",
@@ -148,5 +148,122 @@ fn dumps_in_pieces(rt: HostRuntime) -> Result<(), Fail> {
             );
         }
     }
+    Ok(())
+}
+
+// Pushes so many of a byte.
+fn push_many(dump: &mut Vec<u8>, b: u8, count: usize) -> Result<(), Fail> {
+    for _ in 0..count {
+        dump.push(b)?;
+    }
+    Ok(())
+}
+
+fn push_bytes(dump: &mut Vec<u8>, bytes: &[u8]) -> Result<(), Fail> {
+    for b in bytes {
+        dump.push(*b)?;
+    }
+    Ok(())
+}
+
+// The bytes and the lines that a dump gives with a text of so many bytes, and a short entry after that.
+fn sizes_with(rt: &HostRuntime, front: &[u8], count: usize) -> Result<(usize, usize), Fail> {
+    let mut dump = Vec::new(rt.alloc());
+    push_bytes(&mut dump, front)?;
+    push_many(&mut dump, b'A', count)?;
+    push_bytes(&mut dump, b"\n\nuid: b\nuserPassword: y\n")?;
+    let mut source = LdifLines::new(
+        FileForm::Ldif,
+        MemorySource::new(dump.as_slice(), 4_096, &[]),
+    );
+    let mut out = Vec::new(rt.alloc());
+    if !all_of(&mut source, 64, &mut out)? {
+        return Ok((0, 0));
+    }
+    let mut lines: usize = 0;
+    for b in &out {
+        if *b == b'\n' {
+            lines = lines.saturating_add(1);
+        }
+    }
+    Ok((out.len(), lines))
+}
+
+// How a text begins, how many bytes more it has, and how many bytes and lines the dump gives; `b:y` is always the last one.
+const SIZES: [(&[u8], usize, usize, usize); 9] = [
+    (b"uid: a\nuserPassword: ", 16_381, 12_281, 2),
+    (
+        b"uid: a\nuserPassword: x\nuserPassword: ",
+        12_274,
+        12_285,
+        3,
+    ),
+    (b"uid: a\nuserPassword: x\nuserPassword: ", 4, 15, 3),
+    (
+        b"uid: a\nuserPassword: x\nuserPassword: z\nuserPassword: ",
+        8_192,
+        8_207,
+        4,
+    ),
+    // 12,288 bytes of a line count: 14 of the name, and 12,274 of the text.
+    (b"uid: a\nuserPassword: ", 12_274, 12_281, 2),
+    (b"uid: a\nuserPassword: ", 99_999, 12_281, 2),
+    // Base64 of 9,204 bytes, and of more than count, whose end is lost.
+    (b"uid: a\nuserPassword:: ", 12_272, 9_211, 2),
+    (b"uid: a\nuserPassword:: ", 12_280, 8, 2),
+    (b"uid: a\ndescription: ", 99_999, 4, 1),
+];
+
+#[test]
+fn long_dumps(rt: HostRuntime) -> Result<(), Fail> {
+    for (front, count, bytes, lines) in SIZES {
+        let given = sizes_with(&rt, front, count)?;
+        assert!(rt; given == (bytes, lines), "{front:?}, {count}: {given:?}");
+    }
+    Ok(())
+}
+
+// An entry whose lines have as many bytes as fit, and one byte more.
+#[test]
+fn full_entries(rt: HostRuntime) -> Result<(), Fail> {
+    for (count, bytes) in [(8_184, 16_384 + 4), (8_185, 8_194 + 4)] {
+        let mut dump = Vec::new(rt.alloc());
+        push_bytes(&mut dump, b"userPassword: ")?;
+        push_many(&mut dump, b'x', 8_189)?;
+        push_bytes(&mut dump, b"\nuid: a\nuserPassword: 12\nuserPassword: ")?;
+        push_many(&mut dump, b'y', count)?;
+        push_bytes(&mut dump, b"\n\nuid: b\nuserPassword: y\n")?;
+        let mut source = LdifLines::new(
+            FileForm::Ldif,
+            MemorySource::new(dump.as_slice(), 4_096, &[]),
+        );
+        let mut out = Vec::new(rt.alloc());
+        assert!(rt; all_of(&mut source, 64, &mut out)?, "{count}");
+        assert!(rt; out.len() == bytes, "{count}: {}", out.len());
+        assert!(rt; out.as_slice().ends_with(b"\nb:y\n"), "{count}");
+    }
+    Ok(())
+}
+
+#[test]
+fn reads_that_fail(rt: HostRuntime) -> Result<(), Fail> {
+    let dump = b"dn: 1\nuid: a\nuserPassword: x\n\nuid: b\nuserPassword: y\n";
+    let mut source = LdifLines::new(FileForm::Ldif, MemorySource::new(dump, 16, &[1, 2]));
+    let mut out = Vec::new(rt.alloc());
+    assert!(rt; !all_of(&mut source, 8, &mut out)?);
+    assert!(rt; !all_of(&mut source, 8, &mut out)?);
+    assert!(rt; out.is_empty());
+    assert!(rt; all_of(&mut source, 8, &mut out)?);
+    assert!(rt; out.as_slice() == b"a:x\nb:y\n".as_slice());
+    Ok(())
+}
+
+#[test]
+fn lines_as_they_are(rt: HostRuntime) -> Result<(), Fail> {
+    let text = b"uid: a\nuserPassword: x\n\n y\n";
+    let mut source = LdifLines::new(FileForm::Lines, MemorySource::new(text, 5, &[]));
+    let mut out = Vec::new(rt.alloc());
+    assert!(rt; all_of(&mut source, 7, &mut out)?);
+    assert!(rt; out.as_slice() == text.as_slice());
     Ok(())
 }

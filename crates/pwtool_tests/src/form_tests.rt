@@ -130,7 +130,20 @@ const TEXTS_OF_LDAP: &[u8] =
     b"eve:{CRYPT}$5$abcdefgh$gruCpC7VkOTspMQTTSAR8mtlO9Upms.fwqE5y16JVM.\n";
 
 // The words of `survey`, the input, what is written for it, and the status.
-const SURVEYS: [(&[&str], &[u8], &[u8], u8); 9] = [
+const SURVEYS: [(&[&str], &[u8], &[u8], u8); 11] = [
+    // A dump of a directory, with lines of both ends; --htpasswd leaves its empty lines.
+    (
+        &["pwtool", "survey", "--from", "ldif", "--htpasswd"],
+        b"dn: 1\r\nuserPassword:: e0NSWVBUfSEk\r\n Ng==\r\nuid: ann\r\n\r\nuserPassword: !x\nuid: bob\n",
+        b"ann\t-\t-\tlocked\nbob\t-\t-\tunsupported: clear text\n\n1\tunsupported: clear text\n1\tlocked\n",
+        1,
+    ),
+    (
+        &["pwtool", "survey"],
+        b"ann:*14E65567ABDB5135D0CFD9A70B3032C179A49EE7\n",
+        b"ann\t-\t-\tunsupported: mysql_native_password\n\n1\tunsupported: mysql_native_password\n",
+        1,
+    ),
     (
         &[
             "pwtool",
