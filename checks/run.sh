@@ -67,5 +67,6 @@ fi
 PWSTORE="$work/first/bin/pwstore" python3 bench/pwstore_hostile.py
 PWSTORE="$work/first/bin/pwtool table" python3 bench/pwstore_hostile.py
 checks/use_from.sh "$work/first"
+checks/packages.sh "$work/first"
 checks/other_languages.sh "$work/first"
 PWCHECK_AS_BUILT=1 checks/prefixes.sh "$work/prefixes"
