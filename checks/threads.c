@@ -43,15 +43,22 @@ static void *calls(void *ignored)
 {
     uint8_t text[PWCHECK_TEXT_MAX];
     size_t len;
+    int32_t status;
     (void)ignored;
     for (size_t i = 0; i < sizeof ROWS / sizeof *ROWS; i++)
         NEED(pwcheck_check_login(PASSWORD, 2, (const uint8_t *)ROWS[i].text, strlen(ROWS[i].text)) == ROWS[i].answer);
-    made(pwcheck_bcrypt_text(PASSWORD, 2, SALT, sizeof SALT, 4, text, sizeof text, &len), text, len);
-    made(pwcheck_yescrypt_text(PASSWORD, 2, SALT, sizeof SALT, 2, 1, 0, text, sizeof text, &len), text, len);
-    made(pwcheck_argon2id_text(PASSWORD, 2, SALT, sizeof SALT, 64, 2, 3, text, sizeof text, &len), text, len);
-    made(pwcheck_pbkdf2_sha256_text(PASSWORD, 2, SALT, sizeof SALT, 3, text, sizeof text, &len), text, len);
-    made(pwcheck_scrypt_text(PASSWORD, 2, SALT, sizeof SALT, 4, 2, 3, text, sizeof text, &len), text, len);
-    made(pwcheck_sha256_crypt_text(PASSWORD, 2, (const uint8_t *)"salt", 4, 1000, text, sizeof text, &len), text, len);
+    status = pwcheck_bcrypt_text(PASSWORD, 2, SALT, sizeof SALT, 4, text, sizeof text, &len);
+    made(status, text, len);
+    status = pwcheck_yescrypt_text(PASSWORD, 2, SALT, sizeof SALT, 2, 1, 0, text, sizeof text, &len);
+    made(status, text, len);
+    status = pwcheck_argon2id_text(PASSWORD, 2, SALT, sizeof SALT, 64, 2, 3, text, sizeof text, &len);
+    made(status, text, len);
+    status = pwcheck_pbkdf2_sha256_text(PASSWORD, 2, SALT, sizeof SALT, 3, text, sizeof text, &len);
+    made(status, text, len);
+    status = pwcheck_scrypt_text(PASSWORD, 2, SALT, sizeof SALT, 4, 2, 3, text, sizeof text, &len);
+    made(status, text, len);
+    status = pwcheck_sha256_crypt_text(PASSWORD, 2, (const uint8_t *)"salt", 4, 1000, text, sizeof text, &len);
+    made(status, text, len);
     NEED(pwcheck_needs_remake(text, len));
     return NULL;
 }
