@@ -1,7 +1,7 @@
 #!/usr/bin/env bash
 # The repository's own checks, after the prover's. Each ends with a status that isn't 0 where it finds a fault.
 #
-#     checks/run.sh quick    the numbers of the header and of the bindings, what the pages name, the blocks of README and GUIDE, the layers, the pictures, dist/ and its
+#     checks/run.sh quick    the numbers of the header and of the bindings, what the pages name, the blocks of README and GUIDE, the examples of the manual pages, the layers, the pictures, dist/ and its
 #                            comparison; and of what the gate built (dist/ where nothing is built) the faces in C, their binary interface, a release and its README, pwtool over each form and
 #                            option, and what crashes leave of a table of pwstore. In a minute or two, without any proof: for each push; it
 #                            needs strace
@@ -42,6 +42,7 @@ python3 checks/abi.py "$made" changed
 checks/release_try.sh "$made"
 python3 checks/pwtool_cases.py "$made/pwtool"
 python3 checks/blocks.py "$made"
+python3 checks/man_examples.py "$made"
 command -v strace >/dev/null 2>&1 || apt-get install -y strace >/dev/null 2>&1 || true
 PWSTORE=$made/pwstore python3 bench/crashes.py quick
 PWCHECK_DIST=1 ./install.sh "$work/dist" >/dev/null
