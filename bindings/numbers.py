@@ -8,8 +8,8 @@ version where it stands.
 An enumerator's number is the place of its answer in the table `answers` of pwcheck_c/specs/Answers, its status in
 specs/Statuses, or the place of its alphabet in specs/Coder; a #define is a length that the definitions give, or a cost that
 any_make recommends. Each name
-of the header has to be known here, and each answer, status and alphabet there has to have a name. It ends with 1 where
-two differ.
+of the header has to be known here, and each answer, status and alphabet there has to have a name. The parameters of each proved call
+are compared with the face in C, the header and pwcheck(3), by type and name in order. It ends with 1 where two differ.
 """
 import os
 import re
@@ -243,6 +243,78 @@ def login_limits_agree(header, wanted):
         need(found == of_header, f"{name} has other limits of a login: {found}")
 
 
+C_TYPES = {"u32": "uint32_t", "u64": "uint64_t", "i32": "int32_t", "usize": "size_t"}
+
+
+def c_parameters(name, kind):
+    """The parameters in C of one of a proved call."""
+    if kind in ("&[u8]", "&mut [u8]"):
+        return [f"{'const ' if kind == '&[u8]' else ''}uint8_t *{name}", f"size_t {name}_len"]
+    if kind == "&mut usize":
+        return [f"size_t *{name}"]
+    if kind == "&Limits":
+        return [f"const struct pwcheck_limits *{name}"]
+    return [] if kind == "Global" else [f"{C_TYPES[kind]} {name}"]
+
+
+def proved_parameters():
+    """The parameters in C of each proved call."""
+    folder, found = os.path.join("crates", "pwcheck_c", "src"), {}
+    for file in sorted(os.listdir(os.path.join(TOP, folder))):
+        for name, listed in re.findall(r'^pub extern "C" fn (\w+)\(([^)]*)\)', read(folder, file), re.M):
+            pairs = [map(str.strip, one.split(":")) for one in listed.split(",") if one.strip()]
+            found[name] = [text for pair in pairs for text in c_parameters(*pair)]
+    return found
+
+
+def listed_in(text):
+    return [" ".join(one.split()) for one in text.split(",")]
+
+
+def face_parameters():
+    """The parameters and the arguments of each call that the face in C hands on."""
+    text = read("face", "pwcheck.c")
+    short = dict(re.findall(r"^#define ([A-Z]+) (.*)$", text, re.M))
+    for name, *lists in re.findall(r"^WIPED\((\w+), \((.*)\), \((.*)\)\)$", text, re.M):
+        yield name, *([one.replace("bytes_in ", "const uint8_t *") for part in listed_in(row) for one in listed_in(short.get(part, part))]
+                      for row in lists)
+
+
+def parameters_agree(header):
+    """Each call has the same parameters, by type and name in order, where it is proved, in the face, the header and the manual page."""
+    proved = proved_parameters()
+    header = re.sub(r"/\*.*?\*/", "", header, flags=re.S)
+    declared = {name: listed_in(text) for name, text in re.findall(r"^\w+ (pwcheck_\w+)\(([^)]*)\);", header, re.M)}
+    need(not set(proved) - set(declared), f"the header lacks {' '.join(set(proved) - set(declared))}")
+    for name, listed in proved.items():
+        need(declared[name] == listed, f"the header has {name}({', '.join(declared[name])}), and proved is ({', '.join(listed)})")
+    for name, parameters, arguments in face_parameters():
+        need(parameters == declared["pwcheck_" + name], f"the face has {name}({', '.join(parameters)})")
+        need(arguments == [re.search(r"\w+$", one).group() for one in parameters], f"the face hands on {name}({', '.join(arguments)})")
+    synopsis = read("man", "pwcheck.3").partition(".Sh SYNOPSIS\n")[2].partition(".Sh DESCRIPTION\n")[0]
+    page = {name: re.findall(r'"([^"]*)"', text) for name, text in re.findall(r"^\.Fo (\w+)\n(.*?)^\.Fc$", synopsis, re.M | re.S)}
+    page.update((name, re.findall(r'"([^"]*)"', text)) for name, text in re.findall(r"^\.Fn (\w+) (.*)$", synopsis, re.M))
+    left = {name for name in declared if name not in page and name.replace("sha512", "sha256") not in page}
+    need(page and not left, f"pwcheck(3) lacks {' '.join(sorted(left))}")
+    for name, listed in page.items():
+        need(listed == declared.get(name), f"pwcheck(3) has {name}({', '.join(listed)})")
+    print(f"numbers.py: the parameters of {len(proved)} proved calls are those of the face, the header and pwcheck(3)")
+
+
+def try_parameters(header):
+    """Two parameters of one call exchanged in the header are found, whichever they are."""
+    tried, proved = 0, proved_parameters()
+    for name, text in re.findall(r"^\w+ (pwcheck_\w+)\(([^)]*)\);", re.sub(r"/\*.*?\*/", "", header, flags=re.S), re.M):
+        listed = listed_in(text)
+        for k in range(len(listed)):
+            for i in range(k):
+                other = listed[:]
+                other[i], other[k] = other[k], other[i]
+                need(name not in proved or other != proved[name], f"two parameters of {name} can be exchanged")
+                tried += 1
+    print(f"numbers.py: two parameters exchanged in the header are found, {tried} of {tried} times")
+
+
 def wanted_numbers():
     return {**answers(), **statuses(), **FACE, **lengths(), **recommended(),
             **places(ALPHABETS, entries(specs("pwcheck_c", "Coder"), "alphabets")), **versions()}
@@ -316,7 +388,9 @@ def main():
     print(f"numbers.py: {len(wanted)} numbers of the header are those of the definitions")
     bindings_agree(wanted)
     limits_agree(header)
+    parameters_agree(header)
     if swaps:
+        try_parameters(header)
         try_swaps(wanted, header)
 
 

@@ -4,8 +4,8 @@
 #
 #     checks/c_faces.sh [FOLDER]      (the folder that packaging/dist.sh made; dist/ if left out)
 #
-# 1. The exports of libpwcheck; its calls over exact buffers, with numbers that differ (checks/c_calls.c); its callers in C, Python and
-#    Rust (bindings/try.py).
+# 1. The exports of libpwcheck; its calls over exact buffers, with numbers that differ (checks/c_calls.c); what memory they take, and what
+#    they answer without any (checks/memory.c); its callers in C, Python and Rust (bindings/try.py).
 # 2. crypt3/pwcrypt.c, compiled here over libpwcrypt_c.a, and libpwcrypt.so.1.0: crypt3/try.c, and calls beside libxcrypt.
 # 3. libpwcheck.a made anew from libpwcheck_c.a and face/, libpwcheck.so.1.1 from that, and libpwcrypt.so.1.0 from crypt3/pwcrypt.c and
 #    libpwcrypt_c.a, are the same bytes, where the compiler and the linker are those that COMPILER names.
@@ -33,6 +33,9 @@ python3 "$work/tree/bindings/library.py" "$work/lib"
 python3 "$top/checks/exports.py" "$work/lib"
 gcc -std=c99 -O1 -Wall -Wextra -Werror -I "$work/lib/include" "$top/checks/c_calls.c" "$work/lib/lib/libpwcheck.a" -o "$work/c_calls"
 "$work/c_calls" "$top/crates/pwtool/data/lines.txt" "$top/crates/pwtool/stdout" short
+gcc -std=gnu99 -O1 -Wall -Wextra -Werror -I "$work/lib/include" "$top/checks/memory.c" "$work/lib/lib/libpwcheck.a" \
+  -Wl,--wrap=malloc,--wrap=mmap -o "$work/memory"
+"$work/memory"
 python3 "$work/tree/bindings/try.py" "$work/try"
 
 if [ -e /usr/include/crypt.h ]; then

@@ -1,14 +1,16 @@
 #!/usr/bin/env bash
 # The repository's own checks, after the prover's. Each ends with a status that isn't 0 where it finds a fault.
 #
-#     checks/run.sh quick    the numbers of the header and of the bindings, what the pages name, the blocks of README and GUIDE, the layers, the pictures, dist/ and its
+#     checks/run.sh quick    the numbers of the header and of the bindings, what the pages name, the blocks of README and GUIDE, the examples of the manual pages, the layers, the pictures, dist/ and its
 #                            comparison; and of what the gate built (dist/ where nothing is built) the faces in C, their binary interface, a release and its README, pwtool over each form and
 #                            option, and what crashes leave of a table of pwstore. In a minute or two, without any proof: for each push; it
 #                            needs strace
-#     checks/run.sh          that, and the C library, its callers, a run under sanitizers, the installation, the programs of README.md
+#     checks/run.sh          that, and the C library, its callers, runs under sanitizers and valgrind, the installation, the packages of Python and
+#                            Rust, the programs of README.md and GUIDE
 #
 # The second needs gcc, binutils and pkg-config, and builds the library and the programs by rt, which proves what no
-# check in this clone has proved. It is for releases and for changes of pwcheck_c, bindings, include or install.sh.
+# check in this clone has proved; with PWCHECK_DIST=1 it tries what dist/ holds and builds nothing. It is for releases and for changes of
+# pwcheck_c, bindings, face, crypt3, include or install.sh.
 set -eu
 cd "$(dirname "$0")/.."
 export PYTHONDONTWRITEBYTECODE=1
@@ -42,25 +44,20 @@ python3 checks/abi.py "$made" changed
 checks/release_try.sh "$made"
 python3 checks/pwtool_cases.py "$made/pwtool"
 python3 checks/blocks.py "$made"
+python3 checks/man_examples.py "$made"
 command -v strace >/dev/null 2>&1 || apt-get install -y strace >/dev/null 2>&1 || true
 PWSTORE=$made/pwstore python3 bench/crashes.py quick
 PWCHECK_DIST=1 ./install.sh "$work/dist" >/dev/null
 ("$work/dist/bin/pwcheck" check --count <examples/passwords.txt || true) | cmp - crates/pwcheck/stdout
 echo "install.sh: what dist/ holds, installed, answers as the stored run"
 [ "${1:-}" = quick ] && exit 0
+[ -z "${PWCHECK_DIST:-}" ] || export PWCHECK=$PWD/dist/pwcheck
 python3 bindings/library.py "$work/lib"
 python3 checks/exports.py "$work/lib"
 python3 bindings/try.py "$work/try"
-gcc -std=c99 -g -O1 -Wall -Wextra -Werror -fsanitize=address,undefined -fno-sanitize-recover=all \
-  -I "$work/lib/include" checks/c_calls.c "$work/lib/lib/libpwcheck.a" -o "$work/c_calls"
-"$work/c_calls" crates/pwtool/data/lines.txt crates/pwtool/stdout
+checks/sanitizers.sh "$made"
 if [ -e /usr/include/crypt.h ]; then
   python3 crypt3/library.py "$work/crypt"
-  # pwcrypt.c is compiled for the sanitizers with the program that calls it. Its null pointers are meant.
-  gcc -std=c11 -D_GNU_SOURCE -g -O1 -Wall -Wextra -Werror -fsanitize=address,undefined -fno-sanitize=nonnull-attribute \
-    -fno-sanitize-recover=all -I face crypt3/try.c crypt3/pwcrypt.c face/wipe.c ${LIBPWCRYPT_C:-crates/pwcrypt_c/out/libpwcrypt_c.a} \
-    "${KIT:-$(dirname "$(rt doc)")}/c/liblibc_c.a" -o "$work/crypt_try" -lpthread
-  "$work/crypt_try"
   python3 bench/crypt_differ.py "$work/crypt/lib/libpwcrypt.so.1" 2000
   python3 bench/crypt_clients.py "$work/crypt/lib/libpwcrypt.so.1"
 fi
@@ -69,5 +66,6 @@ fi
 PWSTORE="$work/first/bin/pwstore" python3 bench/pwstore_hostile.py
 PWSTORE="$work/first/bin/pwtool table" python3 bench/pwstore_hostile.py
 checks/use_from.sh "$work/first"
+checks/packages.sh "$work/first"
 checks/other_languages.sh "$work/first"
 PWCHECK_AS_BUILT=1 checks/prefixes.sh "$work/prefixes"

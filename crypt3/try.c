@@ -16,7 +16,7 @@
 #include <unistd.h>
 
 /* Sanitizers take address space and stack of their own. */
-#ifdef __SANITIZE_ADDRESS__
+#if defined __SANITIZE_ADDRESS__ || defined __SANITIZE_THREAD__
 enum { SANITIZED = 1 };
 #else
 enum { SANITIZED = 0 };

@@ -154,9 +154,10 @@ _cost = [c.c_uint32, c.c_uint32, c.c_uint32]
 
 
 def _export(name: str, result: Any, *arguments: Any) -> Callable[..., int]:
-    call = getattr(_lib, "pwcheck_" + name)
+    call: Any = getattr(_lib, "pwcheck_" + name)
     call.restype, call.argtypes = result, list(arguments)
-    return call
+    entry: Callable[..., int] = call
+    return entry
 
 
 _check = _export("check", c.c_int32, *_bytes, *_bytes)
@@ -228,7 +229,7 @@ LIMITS_LOGIN = Limits(sha_rounds=5248000, bcrypt_cost=15, yescrypt_ln=15, yescry
                       scrypt_r=32, scrypt_p=10, argon2_memory=262144, argon2_passes=8, argon2_lanes=8)
 
 
-def _of(calls: dict, bits: int) -> Any:
+def _of(calls: Dict[int, Any], bits: int) -> Any:
     """The entry of SHA-256-crypt or SHA-512-crypt."""
     if bits not in calls:
         raise ValueError(f"{bits} is neither 256 nor 512")

@@ -1,0 +1,154 @@
+/* How much memory the calls of libpwcheck take: none where pwcheck.h says so, none for a text above its limit, and where a request is
+ * refused the answer says it and nothing was written. To be linked with --wrap=malloc,--wrap=mmap, which the library calls by these names. */
+#include <pwcheck.h>
+#include <stdio.h>
+#include <stdlib.h>
+#include <string.h>
+#include <sys/mman.h>
+#include <time.h>
+
+static int requests, refused = -1;
+
+void *__real_malloc(size_t size);
+void *__wrap_malloc(size_t size);
+void *__real_mmap(void *at, size_t size, int protection, int flags, int file, off_t place);
+void *__wrap_mmap(void *at, size_t size, int protection, int flags, int file, off_t place);
+
+void *__wrap_malloc(size_t size)
+{
+    return requests++ == refused || refused == -2 ? NULL : __real_malloc(size);
+}
+
+void *__wrap_mmap(void *at, size_t size, int protection, int flags, int file, off_t place)
+{
+    if (refused == -2)
+        return MAP_FAILED;
+    requests++;
+    return __real_mmap(at, size, protection, flags, file, place);
+}
+
+#define NEED(condition)                                                                       \
+    do {                                                                                      \
+        if (!(condition)) {                                                                   \
+            printf("memory.c:%d: %s (%d requests)\n", __LINE__, #condition, requests);        \
+            exit(1);                                                                          \
+        }                                                                                     \
+    } while (0)
+/* A call that answers so, and asks for memory so often. */
+#define TAKES(count, wanted, call) (requests = 0, NEED_ANSWER((call) == (wanted)), NEED_ANSWER(requests == (count)), calls++)
+#define NEED_ANSWER(condition) ((condition) ? (void)0 : (printf("memory.c:%d: %s (%d requests)\n", __LINE__, #condition, requests), exit(1)))
+
+static int calls;
+static const uint8_t PASSWORD[] = "pw", SALT[PWCHECK_SALT_SIZE] = "0123456789abcde";
+static const struct pwcheck_limits NONE = PWCHECK_LIMITS_NONE;
+static uint8_t out[PWCHECK_TEXT_MAX];
+static size_t len;
+
+static int32_t any(const char *text)
+{
+    return pwcheck_check_any(PASSWORD, 2, (const uint8_t *)text, strlen(text), &NONE);
+}
+
+static int32_t login(const char *text)
+{
+    return pwcheck_check_login(PASSWORD, 2, (const uint8_t *)text, strlen(text));
+}
+
+static const char SHA256[] = "$5$rounds=1000$saltsaltsaltsalt$b70IZgXpYBdEyQ9arjbSW5KAXdl57mX1OCyvh8WRHNC";
+static const char YESCRYPT[] = "$y$j/.$saltsaltsaltsalt$0QK5vjXWIOINdNK61h/g1nAOvWo0exKNSvV/Cie1u4D";
+static const char SCRYPT_CRYPT[] = "$7$4/..../....saltsalt$Z/4xy7iP6BmJW9gLqd81LpC5qU1GP4WZHNIq28Q/Ma5";
+
+static void without_memory(void)
+{
+    TAKES(0, PWCHECK_MATCH, any(SHA256));
+    TAKES(0, PWCHECK_MATCH, login(SHA256));
+    TAKES(0, PWCHECK_MATCH, pwcheck_check(PASSWORD, 2, (const uint8_t *)SHA256, sizeof SHA256 - 1));
+    TAKES(0, PWCHECK_MATCH, pwcheck_sha256_check(PASSWORD, 2, (const uint8_t *)SHA256, sizeof SHA256 - 1));
+    TAKES(0, PWCHECK_MATCH, any("$6$rounds=1000$saltsaltsaltsalt$4x9kufhwkJaKtf4seIqE/TZk6G/DqOFk3orVgpNzyiLnBpKBJ14TokK23FWMAFQcK07nQ3huf2NpOJsQOFudB/"));
+    TAKES(0, PWCHECK_MATCH, any("$1$saltsalt$6SNdNaZLKst2LlSm7oPPL1"));
+    TAKES(0, PWCHECK_MATCH, any("$2b$04$abcdefghijklmnopqrstuuyvPXIbu7xe6/CED2DzX8z6Si09MlzlW"));
+    TAKES(0, PWCHECK_MISMATCH, any("$pbkdf2-sha256$i=3,l=32$c2FsdHNhbHRzYWx0$sVaWem31qy3rw+Ldi3plA/XzhMSNi9/XHnnD1Ytj05o"));
+    TAKES(0, PWCHECK_NO_SCHEME, any("$9$x"));
+    TAKES(0, PWCHECK_YESCRYPT_FORMAT, any("$y$j/.$salt$x"));
+    TAKES(0, PWCHECK_SCRYPT_FORMAT, any("$7$4/..../...."));
+    TAKES(0, PWCHECK_PHC_SALT_SHORT, any("$scrypt$ln=4$short"));
+    TAKES(0, PWCHECK_DONE, pwcheck_bcrypt_text(PASSWORD, 2, SALT, sizeof SALT, 4, out, sizeof out, &len));
+    TAKES(0, PWCHECK_DONE, pwcheck_pbkdf2_sha256_text(PASSWORD, 2, SALT, sizeof SALT, 3, out, sizeof out, &len));
+    TAKES(0, PWCHECK_DONE, pwcheck_sha256_crypt_text(PASSWORD, 2, (const uint8_t *)"salt", 4, 1000, out, sizeof out, &len));
+    TAKES(0, PWCHECK_DONE, pwcheck_sha512_crypt_text(PASSWORD, 2, (const uint8_t *)"salt", 4, 1000, out, sizeof out, &len));
+    TAKES(0, PWCHECK_OUT_OF_RANGE, pwcheck_argon2id_text(PASSWORD, 2, SALT, 15, 64, 1, 1, out, sizeof out, &len));
+    TAKES(0, PWCHECK_REFUSED_ZERO, pwcheck_yescrypt_text((const uint8_t *)"p\0w", 3, SALT, sizeof SALT, 2, 1, 0, out, sizeof out, &len));
+    TAKES(0, true, pwcheck_needs_remake((const uint8_t *)YESCRYPT, sizeof YESCRYPT - 1));
+    TAKES(0, true, pwcheck_same_bytes(PASSWORD, 2, PASSWORD, 2));
+    TAKES(0, PWCHECK_DONE, pwcheck_base64_encode(PWCHECK_BASE64, SALT, 15, out, sizeof out, &len));
+    TAKES(0, PWCHECK_DONE, pwcheck_base64_decode(PWCHECK_BASE64, (const uint8_t *)"AAAA", 4, out, sizeof out, &len));
+}
+
+/* Texts above a limit of a login: each would take memory, or time that the clock shows. */
+static void above_a_limit(void)
+{
+    static const char *const DEAR[] = {
+        "$5$rounds=5248001$abcdefgh$qXUmNmbLEOn5YPWvewYoPCAAHp5vzLn73xcpCUC256C",
+        "$6$rounds=5248001$saltsaltsaltsalt$4x9kufhwkJaKtf4seIqE/TZk6G/DqOFk3orVgpNzyiLnBpKBJ14TokK23FWMAFQcK07nQ3huf2NpOJsQOFudB/",
+        "$2b$16$abcdefghijklmnopqrstuu2r9OfJnfCsdneAXAGHnS4UpFFP8WIrW",
+        "$2y$31$abcdefghijklmnopqrstuu2r9OfJnfCsdneAXAGHnS4UpFFP8WIrW",
+        "$pbkdf2-sha256$i=4800001,l=32$c2FsdHNhbHRzYWx0$sVaWem31qy3rw+Ldi3plA/XzhMSNi9/XHnnD1Ytj05o",
+        "$scrypt$ln=18,r=8,p=1$c2FsdHNhbHRzYWx0$09/untC+3Bg44eiJQ8bqhTXgE2ali+ykLaojkJZlF9U",
+        "$scrypt$ln=4,r=33,p=1$c2FsdHNhbHRzYWx0$09/untC+3Bg44eiJQ8bqhTXgE2ali+ykLaojkJZlF9U",
+        "$argon2id$v=19$m=262145,t=1,p=1$c2FsdHNhbHRzYWx0$Sm3MnLdCFk0Af+croKgebRoqqmhbKd88iiW3yUOXn78",
+        "$argon2i$v=19$m=96,t=9,p=1$c2FsdHNhbHRzYWx0$Sm3MnLdCFk0Af+croKgebRoqqmhbKd88iiW3yUOXn78",
+        "$argon2d$v=19$m=96,t=1,p=9$c2FsdHNhbHRzYWx0$Sm3MnLdCFk0Af+croKgebRoqqmhbKd88iiW3yUOXn78",
+        "$y$jD5$saltsaltsaltsalt$0QK5vjXWIOINdNK61h/g1nAOvWo0exKNSvV/Cie1u4D",
+        "$7$G6..../....saltsalt$Z/4xy7iP6BmJW9gLqd81LpC5qU1GP4WZHNIq28Q/Ma5",
+    };
+    for (size_t i = 0; i < sizeof DEAR / sizeof *DEAR; i++) {
+        clock_t start = clock();
+        TAKES(0, PWCHECK_OVER_COST, login(DEAR[i]));
+        NEED(clock() - start < CLOCKS_PER_SEC / 4);
+    }
+    const char *scrypt = DEAR[5], *sha512 = DEAR[1];
+    clock_t start = clock();
+    TAKES(0, PWCHECK_OVER_COST, pwcheck_check_limited(PASSWORD, 2, (const uint8_t *)scrypt, strlen(scrypt), UINT32_MAX, 1 << 24));
+    TAKES(0, PWCHECK_OVER_COST, pwcheck_check_limited(PASSWORD, 2, (const uint8_t *)sha512, strlen(sha512), 5248000, UINT64_MAX));
+    NEED(clock() - start < CLOCKS_PER_SEC / 4);
+}
+
+/* With each request refused in turn, and with all of them. */
+static void refused_memory(void)
+{
+    for (refused = -2; refused < 8; refused++) {
+        if (refused == -1)
+            continue;
+        requests = 0;
+        int32_t y = login(YESCRYPT);
+        NEED(y == (refused == -2 || refused < requests ? PWCHECK_OUT_OF_MEMORY : PWCHECK_MATCH));
+        requests = 0;
+        int32_t s = any(SCRYPT_CRYPT);
+        NEED(s == (refused == -2 || refused < requests ? PWCHECK_OUT_OF_MEMORY : PWCHECK_MATCH));
+        memset(out, 'x', sizeof out);
+        len = 77;
+        requests = 0;
+        int32_t made = refused == -2 ? pwcheck_make(PASSWORD, 2, out, sizeof out, &len)
+                                     : pwcheck_argon2id_text(PASSWORD, 2, SALT, sizeof SALT, 64, 2, 3, out, sizeof out, &len);
+        NEED(made == (refused == -2 || refused < requests ? PWCHECK_NO_MEMORY : PWCHECK_DONE));
+        NEED(made == PWCHECK_DONE || (len == 77 && out[0] == 'x' && !memcmp(out, out + 1, sizeof out - 1)));
+        requests = 0;
+        uint8_t key[32] = {7};
+        int32_t derived = pwcheck_scrypt(PASSWORD, 2, SALT, 4, 4, 3, 2, key, sizeof key);
+        NEED(derived == (refused == -2 || refused < requests ? PWCHECK_NO_MEMORY : PWCHECK_DONE));
+        NEED(derived == PWCHECK_DONE || (key[0] == 7 && key[1] == 0 && !memcmp(key + 1, key + 2, sizeof key - 2)));
+        calls += 4;
+    }
+    refused = -1;
+}
+
+int main(void)
+{
+    requests = 0;
+    NEED(login(YESCRYPT) == PWCHECK_MATCH && requests > 0);
+    without_memory();
+    above_a_limit();
+    refused_memory();
+    printf("memory.c: %d calls take the memory that pwcheck.h says\n", calls);
+    return 0;
+}
