@@ -11,7 +11,7 @@ use Rattle.shadow_check.specs.Laws.{FewerAnswersAlike}
 
 module _ (limits : Option SchemeCosts) (texts passwords : List (List ℕ)) (line : List ℕ) where
   -- a line's output, whether the line is good, and whether memory may be missing
-  Alike : Type 0
+  abbrev Alike : Type 0
   Alike = (joined_output limits (wanted_password (has_line texts) passwords) line
       ≡ joined_output limits (password_of passwords) line)
       × (joined_is_good limits (wanted_password (has_line texts) passwords) line
