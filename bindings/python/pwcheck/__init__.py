@@ -219,7 +219,7 @@ def _data(*data: Data) -> List[Any]:
     words: List[Any] = []
     for one in data:
         if not isinstance(one, (bytes, bytearray, memoryview)):
-            raise TypeError(f"a bytes-like object is wanted, not {type(one).__name__}")
+            raise TypeError(f"a bytes-like object is needed, not {type(one).__name__}")
         words += [bytes(one), len(bytes(one))]
     return words
 
