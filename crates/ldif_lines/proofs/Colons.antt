@@ -27,8 +27,8 @@ pub no_colon : (line : List ℕ) → ((k : ℕ) → k < length line → get_or l
 no_colon [] none = refl
 no_colon (b ∷ line) none = rw (not_colon b (none 0 (omega arith))) (no_colon line (λ k h. none (suc k) (omega arith)))
 
--- what stands behind a place
-pub behind : (line : List ℕ) (n : ℕ) → take (length line - n) (drop n line) ≡ drop n line
-behind line n =
+-- what comes after a place
+pub after_place : (line : List ℕ) (n : ℕ) → take (length line - n) (drop n line) ≡ drop n line
+after_place line n =
     let count = length-drop n line in
     take_all (length line - n) (drop n line) (omega (arith, count))

@@ -1,6 +1,6 @@
 use Rattle.std.proofs.Common.{◌≡◌, ◌∙◌, ◌+◌, ap, refl, List, ℕ}
 use Rattle.ldif_lines.specs.Attributes.{value, value_in}
-use Rattle.ldif_lines.proofs.Colons.{behind, first_colon, no_colon}
+use Rattle.ldif_lines.proofs.Colons.{after_place, first_colon, no_colon}
 use Rattle.ldif_lines.proofs.attribute.value.Goals as goal
 
 pub returns-in-None : goal.returns-in-None
@@ -14,4 +14,4 @@ returns-in-Some c =
     let t = first_colon c.args.line.now c.in-Some.at place.0 place.1 place.2 in
     rw t.0
     (c.value_in.ensures
-    ∙ ap (λ (text : List ℕ). value_in text) (behind c.args.line.now (c.in-Some.at + 1) ∙ t.2))
+    ∙ ap (λ (text : List ℕ). value_in text) (after_place c.args.line.now (c.in-Some.at + 1) ∙ t.2))
