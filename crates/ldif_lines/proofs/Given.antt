@@ -1,8 +1,11 @@
 -- Bytes that are given of those that are ready, and what is ready at the beginning and at the end.
 use Rattle.std.proofs.Common.{◌≡◌, ◌≢◌, ℕ, ◌+◌, ◌≤◌, ◌<◌, Bool, true, false, List, [], ◌∷◌, ◌++◌, drop, length, take, refl, sym, ap, ◌∙◌, drop-drop, length-append, length-take-le, take-append-drop, append_assoc, arith}
 use Rattle.std.specs.Prelude.{◌==◌, ◌&&◌, ◌||◌, not}
+use Rattle.std.proofs.lemmas.Bool.{le-ltb, lt-ltb}
 use Rattle.std.proofs.Math.Seq.{take-append_seam}
-use Rattle.ldif_lines.specs.Attributes.{is_dn}
+use Rattle.std.proofs.lemmas.List.{length-drop}
+use Rattle.ldif_lines.specs.Attributes.{is_dn, is_named, no_name}
+use Rattle.ldif_lines.specs.Entries.{fitting, too_long}
 use Rattle.ldif_lines.specs.Limits.{rows_most}
 use Rattle.ldif_lines.specs.Rests.{Held, fresh, given_lines, held_rows, named, rest_lines, row_begin, rows_from, with_line}
 
@@ -70,3 +73,33 @@ nothing_last true line is = absurd (cc)
 nothing_last false [] is = (refl, refl)
 nothing_last false (b ∷ line) is =
     let some = no_test (length (b ∷ line)) 0 (λ none. absurd (omega (arith, none))) in absurd (let e = rw some at is in cc)
+
+-- ---- names of attributes
+
+nothing_named : (name left : List ℕ) → length left ≡ 0 → 0 < length name → is_named name left ≡ false
+nothing_named [] left none some = absurd (omega (arith, some))
+nothing_named (c ∷ name) [] none some = refl
+nothing_named (c ∷ name) (b ∷ left) none some = absurd (omega (arith, none))
+
+pub named_none : (name line left : List ℕ) (at : ℕ) → length left ≡ 0 → at < length name
+    → is_named (drop at name) left ≡ is_named name line → false ≡ is_named name line
+named_none name line left at none inside is =
+    sym (nothing_named (drop at name) left none (omega (arith, inside, length-drop at name))) ∙ is
+
+-- ---- lines that fit, and nothing
+
+pub fits : (rows : List ℕ) → length rows ≤ rows_most → fitting rows ≡ rows
+unfolding fitting
+fits rows short = rw (le-ltb rows_most (length rows) short) refl
+
+pub fits_not : (rows : List ℕ) → rows_most < length rows → fitting rows ≡ too_long
+unfolding fitting
+fits_not rows long = rw (lt-ltb rows_most (length rows) long) refl
+
+pub nothing_held : held_rows fresh ≡ []
+unfolding fitting
+nothing_held = refl
+
+pub nothing_dropped : (xs : List ℕ) (n : ℕ) → n ≡ length xs → drop n xs ≡ []
+nothing_dropped [] n is = rw is refl
+nothing_dropped (x ∷ xs) n is = rw is (nothing_dropped xs (length xs) refl)

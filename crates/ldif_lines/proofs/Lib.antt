@@ -1,4 +1,5 @@
 mod Sources
+mod Colons
 mod Given
 mod Folds
 mod Rows

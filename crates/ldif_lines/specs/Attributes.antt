@@ -47,18 +47,19 @@ value_in [] = Some []
 value_in (b ∷ rest) =
     if b == 58 then decoding base64 (without_fill rest) else if b == 60 then None else Some (without_fill (b ∷ rest))
 
-abbrev pub is_colon : ℕ → Bool
-is_colon b = b == 58
+-- the colon after the name
+abbrev pub begins_value : ℕ → Bool
+begins_value b = b == 58
 
 -- the value of an attribute's line; none where it isn't there
 unfoldable pub value : List ℕ → Option (List ℕ)
-value line = if list_any is_colon line then value_in (after_first is_colon line) else None
+value line = if list_any begins_value line then value_in (after_first begins_value line) else None
 
 -- ---- values in a line of a user, a colon and a text
 
 -- What no name of a user in such a line has: a colon, a tab, a line feed.
 abbrev pub ends_name : ℕ → Bool
-ends_name b = is_colon b || is_tab b || is_feed b
+ends_name b = b == 58 || is_tab b || is_feed b
 
 -- In place of a user's name that isn't there or that no line can have is a tab, which no user's name has.
 abbrev pub no_name : List ℕ

@@ -70,7 +70,8 @@ pub(crate) fn is_password(line: &[u8]) -> bool
 
 // The text without the spaces at its beginning.
 fn without_fill(text: &[u8]) -> &[u8]
-    ensures { result.now ≡ without_fill text.now }
+    ensures text { result.now ≡ without_fill text.now }
+    ensures short { length result.now ≤ length text.now }
 {
     let mut left = text;
     for _ in 0..text.len() {

@@ -168,10 +168,17 @@ impl Entry {
         ensures rows { rows.new ≡ held_rows (held self.now) }
     {
         rows.clear();
-        if self.is_long || !push_rows(rows, self.name.as_slice(), self.texts.as_slice()) {
+        if self.is_long {
+            push_too_long(rows);
+            return;
+        }
+        if !push_rows(rows, self.name.as_slice(), self.texts.as_slice()) {
             rows.clear();
             push_too_long(rows);
+            return;
         }
+        // That they fit is known by their length.
+        let _count = rows.len();
     }
 
     /// Puts the lines of the entry after those that are ready, by way of `rows`.

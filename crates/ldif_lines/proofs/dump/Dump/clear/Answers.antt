@@ -4,8 +4,8 @@ use Rattle.ldif_lines.proofs.dump.Dump.clear.Goals as goal
 
 pub returns-clause-shown : goal.returns-clause-shown
 unfolding shown waiting
-returns-clause-shown c text = rw (c.clear-self.ensures.none, c.requires.given) refl
+returns-clause-shown c text = rw (c.clear.ensures.none, c.requires.given) refl
 
 pub returns-clause-waiting : goal.returns-clause-waiting
 unfolding waiting
-returns-clause-waiting c = rw c.clear-self.ensures.none refl
+returns-clause-waiting c = rw c.clear.ensures.none refl
