@@ -13,13 +13,21 @@ fn is_converted(foreign: Foreign, text: &str, stored: &str) -> bool {
     }
 }
 
-// The fault, if there is one.
+// The fault, if there is one, and nothing was put into the buffer that was lent.
 fn fault_of(foreign: Foreign, text: &str) -> Option<ForeignFault> {
-    stored_text(foreign, text, &mut MadeText::new()).err()
+    let mut made = MadeText::from_slice(b"as it was");
+    let fault = stored_text(foreign, text, &mut made).err();
+    if made.as_slice() == b"as it was".as_slice() {
+        fault
+    } else {
+        None
+    }
 }
 
 // Foreign texts, and the stored texts for them.
-const CONVERTED: [(Foreign, &str, &str); 40] = [
+const CONVERTED: [(Foreign, &str, &str); 42] = [
+    (Foreign::Ldif, "{CRYPT}$6$x$y", "$6$x$y"),
+    (Foreign::Ldif, "$6$x$y", "$6$x$y"),
     (
         Foreign::Django,
         "scrypt$16384$lgiNaacDB4gkm0jyI8OXVk$8$1$KRciSWCDMNIhzIGrogpgPe9QbDu1CWAGKOqwqrVxJt0PKDXuf5NqmfuZcvBccejXVstG2VUBGNE5t+pHyMR5Yg==",
@@ -231,7 +239,9 @@ fn texts_of_makers(rt: HostRuntime) {
 }
 
 // Texts with a fault, the first of those that they have.
-const FAULTS: [(Foreign, &str, ForeignFault); 93] = [
+const FAULTS: [(Foreign, &str, ForeignFault); 95] = [
+    (Foreign::Ldif, "{CRYPT}$6$x$y:", ForeignFault::Form),
+    (Foreign::Ldif, "$6$x:y", ForeignFault::Form),
     (
         Foreign::Django,
         "scrypt$16384$saltsalt$8$1",

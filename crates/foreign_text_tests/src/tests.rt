@@ -13,9 +13,15 @@ fn is_converted(foreign: Foreign, text: &str, stored: &str) -> bool {
     }
 }
 
-// The fault, if there is one.
+// The fault, if there is one, and nothing was put into the buffer that was lent.
 fn fault_of(foreign: Foreign, text: &str) -> Option<ForeignFault> {
-    stored_text(foreign, text, &mut MadeText::new()).err()
+    let mut made = MadeText::from_slice(b"as it was");
+    let fault = stored_text(foreign, text, &mut made).err();
+    if made.as_slice() == b"as it was".as_slice() {
+        fault
+    } else {
+        None
+    }
 }
 
 // Foreign texts, and the stored texts for them.

@@ -4,7 +4,7 @@ use Rattle.std.specs.Prelude.{◌==◌, ◌&&◌, ◌||◌, not}
 use Rattle.std.proofs.lemmas.Bool.{le-ltb, lt-ltb}
 use Rattle.std.proofs.Math.Seq.{take-append_seam}
 use Rattle.std.proofs.lemmas.List.{length-drop}
-use Rattle.ldif_lines.specs.Attributes.{is_dn, is_named, no_name}
+use Rattle.ldif_lines.specs.Attributes.{is_dn, is_named}
 use Rattle.ldif_lines.specs.Entries.{fitting, too_long}
 use Rattle.ldif_lines.specs.Limits.{rows_most}
 use Rattle.ldif_lines.specs.Rests.{Held, fresh, given_lines, held_rows, named, rest_lines, row_begin, rows_from, with_line}

@@ -3,13 +3,13 @@ use Rattle.std.proofs.Common.{◌≡◌, ℕ, ◌+◌, ◌≤◌, ◌<◌, Bool,
 use Rattle.std.specs.Prelude.{◌==◌, ◌&&◌, codes, drop, map, nat_lt, if◌then◌else◌}
 use Rattle.std.specs.List.{filter, flat_map, list_any, onto_first}
 use Rattle.std.proofs.lemmas.List.{length-append}
-use Rattle.std.proofs.lemmas.Bool.{eqb-true, lt-ltb, ltb-false, ltb-true, or_parts}
+use Rattle.std.proofs.lemmas.Bool.{eqb-true, lt-ltb, ltb-true, or_parts}
 use Rattle.line_io.specs.Lines.{NoFeed, is_feed}
 use Rattle.ldif_lines.specs.Attributes.{is_dn, is_named, is_password, is_uid, line_name, line_text, no_name, small, text_by, value}
 use Rattle.ldif_lines.specs.Entries.{dn_name, entries, entry_rows, entry_texts, fitting, row, too_long, uid_name}
 use Rattle.ldif_lines.specs.Ldif.{dump_lines, dump_text}
 use Rattle.ldif_lines.specs.Limits.{rows_most}
-use Rattle.ldif_lines.specs.Rests.{Held, fresh, given_lines, held_rows, named, rest_lines, row_begin, rows_from, rows_of, with_line, with_text}
+use Rattle.ldif_lines.specs.Rests.{Held, fresh, given_lines, held_rows, named, rest_lines, rows_from, rows_of, with_line, with_text}
 use Rattle.ldif_lines.proofs.Folds.{lines_of_dump}
 
 -- ---- no line is of two names

@@ -1,5 +1,5 @@
 -- What is still to be given of a dump, by what was read before it.
-use Rattle.std.specs.Prelude.{ℕ, ◌+◌, Bool, true, false, ◌&&◌, ◌||◌, ◌==◌, List, [], ◌∷◌, ◌++◌, length, nat_le, nat_lt, not, Option, Some, None, if◌then◌else◌}
+use Rattle.std.specs.Prelude.{ℕ, ◌+◌, Bool, true, false, ◌&&◌, ◌==◌, List, [], ◌∷◌, ◌++◌, length, nat_lt, not, Option, Some, None, if◌then◌else◌}
 use Rattle.ldif_lines.specs.Attributes.{is_dn, is_password, is_uid, line_name, line_text, no_name}
 use Rattle.ldif_lines.specs.Entries.{fitting, too_long}
 use Rattle.ldif_lines.specs.Limits.{line_most, rows_most}

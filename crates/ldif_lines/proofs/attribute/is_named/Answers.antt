@@ -1,4 +1,4 @@
-use Rattle.std.proofs.Common.{◌≡◌, ◌<◌, ℕ, length, rules}
+use Rattle.std.proofs.Common.{◌≡◌, ◌<◌, length, rules}
 use Rattle.ldif_lines.proofs.Given.{named_none}
 use Rattle.ldif_lines.proofs.attribute.is_named.Goals as goal
 

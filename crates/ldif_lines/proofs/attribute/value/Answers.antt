@@ -1,4 +1,4 @@
-use Rattle.std.proofs.Common.{◌≡◌, ◌∙◌, ◌+◌, ap, refl, List, ℕ}
+use Rattle.std.proofs.Common.{◌∙◌, ◌+◌, ap, refl, List, ℕ}
 use Rattle.ldif_lines.specs.Attributes.{value, value_in}
 use Rattle.ldif_lines.proofs.Colons.{after_place, first_colon, no_colon}
 use Rattle.ldif_lines.proofs.attribute.value.Goals as goal

@@ -1,4 +1,4 @@
-use Rattle.std.proofs.Common.{◌++◌, ◌∙◌, arith, length-append}
+use Rattle.std.proofs.Common.{◌++◌, arith, length-append}
 use Rattle.line_io.proofs.Moved.{consumes_more}
 use Rattle.ldif_lines.proofs.Sources.{keeps_on}
 use Rattle.ldif_lines.proofs.source.fill.Goals as goal

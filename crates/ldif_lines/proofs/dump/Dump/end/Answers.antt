@@ -1,6 +1,6 @@
-use Rattle.std.proofs.Common.{◌≡◌, ◌∙◌, ◌++◌, [], ap, append-nil, List, ℕ}
+use Rattle.std.proofs.Common.{◌∙◌, ◌++◌, [], ap, append-nil, List, ℕ}
 use Rattle.ldif_lines.specs.Rests.{fresh, held_rows}
-use Rattle.ldif_lines.specs.Steps.{held, shown, waiting}
+use Rattle.ldif_lines.specs.Steps.{shown, waiting}
 use Rattle.ldif_lines.proofs.Given.{nothing_held}
 use Rattle.ldif_lines.proofs.dump.Dump.end.Goals as goal
 

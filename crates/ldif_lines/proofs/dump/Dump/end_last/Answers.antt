@@ -1,4 +1,4 @@
-use Rattle.std.proofs.Common.{◌≡◌, ◌∙◌, ◌++◌, [], ap, refl, sym, List, ℕ}
+use Rattle.std.proofs.Common.{◌∙◌, ◌++◌, [], ap, refl, sym, List, ℕ}
 use Rattle.ldif_lines.specs.Rests.{given_lines}
 use Rattle.ldif_lines.specs.Steps.{held, shown, waiting}
 use Rattle.ldif_lines.proofs.Given.{last_is, nothing_last}

@@ -1,4 +1,4 @@
-use Rattle.std.proofs.Common.{◌≡◌, ◌∙◌, ◌++◌, ap, sym, List, ℕ}
+use Rattle.std.proofs.Common.{◌∙◌, ◌++◌, ap, sym, List, ℕ}
 use Rattle.ldif_lines.specs.Attributes.{is_dn}
 use Rattle.ldif_lines.specs.Rests.{fresh, given_lines, named}
 use Rattle.ldif_lines.specs.Steps.{held, waiting}

@@ -1,4 +1,4 @@
-use Rattle.std.proofs.Common.{◌≡◌, ◌∙◌, ◌++◌, ◌∷◌, [], ap, false, sym, true, List, ℕ}
+use Rattle.std.proofs.Common.{◌≡◌, ◌∙◌, ◌++◌, ◌∷◌, [], ap, false, sym, List, ℕ}
 use Rattle.ldif_lines.specs.Rests.{given_lines, rest_lines}
 use Rattle.ldif_lines.specs.Steps.{held, shown, waiting}
 use Rattle.ldif_lines.proofs.Given.{line_joined, line_whole}

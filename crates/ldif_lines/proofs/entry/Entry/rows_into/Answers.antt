@@ -1,4 +1,4 @@
-use Rattle.std.proofs.Common.{◌≡◌, ◌≤◌, ◌<◌, ◌∙◌, ap, arith, false, length, refl, rules, sym, true, List, ℕ}
+use Rattle.std.proofs.Common.{◌≡◌, ◌≤◌, ◌<◌, ◌∙◌, false, length, rules, sym, true}
 use Rattle.ldif_lines.specs.Limits.{rows_most}
 use Rattle.ldif_lines.specs.Rests.{rows_from}
 use Rattle.ldif_lines.specs.Steps.{held}

@@ -1,4 +1,4 @@
-use Rattle.std.proofs.Common.{◌≡◌, ◌∙◌, []}
+use Rattle.std.proofs.Common.{◌∙◌, []}
 use Rattle.ldif_lines.specs.Steps.{pending, shown_by}
 use Rattle.ldif_lines.proofs.reader.Reader.end.Goals as goal
 

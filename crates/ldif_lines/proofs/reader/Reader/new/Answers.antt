@@ -1,4 +1,3 @@
-use Rattle.std.proofs.Common.{refl}
 use Rattle.ldif_lines.specs.Steps.{pending, shown_by}
 use Rattle.ldif_lines.proofs.reader.Reader.new.Goals as goal
 

@@ -1,4 +1,4 @@
-use Rattle.std.proofs.Common.{◌≡◌, ◌∙◌, ◌++◌, ap, drop, drop-drop, sym, List, ℕ}
+use Rattle.std.proofs.Common.{◌∙◌, ◌++◌, ap, drop, drop-drop, sym, List, ℕ}
 use Rattle.ldif_lines.specs.Steps.{pending, shown, shown_by}
 use Rattle.ldif_lines.proofs.Colons.{after_place}
 use Rattle.ldif_lines.proofs.Given.{nothing_dropped}

@@ -1,4 +1,4 @@
-use Rattle.std.proofs.Common.{◌≡◌, ◌∙◌, refl}
+use Rattle.std.proofs.Common.{◌∙◌, refl}
 use Rattle.ldif_lines.specs.Steps.{pending, shown_by}
 use Rattle.ldif_lines.proofs.reader.Reader.take.Goals as goal
 
