@@ -356,7 +356,7 @@ def compare_python(lib):
     need(len({pwcheck.word(answer) for answer in pwcheck.Answer}) == 37, "not the words of the header")
     print("Python: scrypt, Base64 and SHA-crypt as its own library has them")
     compare_memory(pwcheck)
-    print("Python: want of memory is told")
+    print("Python: out of memory is answered")
 
 
 def main():

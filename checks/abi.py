@@ -12,6 +12,7 @@ A line of the list that doesn't hold any more is a fault, and so is what isn't i
 """
 import os
 import re
+import shutil
 import subprocess
 import sys
 import tempfile
@@ -113,6 +114,10 @@ def changed():
 
 def main():
     need(len(sys.argv) in (2, 3), "usage: abi.py FOLDER [--write|changed]")
+    lacking = [name for name in ("gcc", "nm", "readelf") if not shutil.which(name)]
+    if lacking:
+        print(f"abi.py: no {lacking[0]}, so nothing was compared")
+        return
     lines = of_folder(sys.argv[1])
     if sys.argv[2:] == ["--write"]:
         with open(KEPT, "w", encoding="utf-8") as file:

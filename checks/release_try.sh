@@ -9,6 +9,9 @@ folder=$(cd "${1:-$top/dist}" && pwd)
 work=$(mktemp -d)
 trap 'rm -rf "$work"' EXIT
 [ "$(id -u)" = 0 ] || { echo "release_try.sh: not root, so nothing was tried"; exit 0; }
+for command in gcc strip ldd; do
+  command -v "$command" >/dev/null 2>&1 || { echo "release_try.sh: no $command, so nothing was tried"; exit 0; }
+done
 mkdir "$work/top"
 cp -r "$top"/{packaging,include,bindings,crypt3,face,man,docs,examples,crates.txt,install.sh,uninstall.sh} "$work/top"
 cp "$top"/{README.md,CHANGELOG.md,SECURITY.md,LICENSE-MIT,LICENSE-APACHE,NOTICE} "$work/top"
