@@ -7,7 +7,7 @@ use Rattle.base64ct.specs.Alphabets.{base64_sha_crypt}
 use Rattle.base64ct.specs.Decoding.{decoding}
 use Rattle.base64ct.proofs.DecodingLaws.{length-decodable}
 use Rattle.yescrypt_plain.specs.Field.{hash_bytes, salt_bytes}
-use Rattle.yescrypt_plain.specs.Numbers.{class_for, class_text, digits_text, five_text, number_text}
+use Rattle.yescrypt_plain.specs.Numbers.{class_for, digits_text, five_text, number_text}
 use Rattle.yescrypt_plain.specs.Params.{scrypt_params, scrypt_params_text, time_text, yescrypt_params, yescrypt_params_text}
 use Rattle.yescrypt_plain.specs.Text.{ScryptFields, ScryptMeaning, YescryptFields, YescryptMeaning, is_scrypt_salt, pieces_behind}
 use Rattle.yescrypt_plain.specs.Text.{scrypt_by_hash, scrypt_by_params, scrypt_fields, scrypt_of, scrypt_text}
@@ -15,7 +15,6 @@ use Rattle.yescrypt_plain.specs.Text.{yescrypt_by_hash, yescrypt_by_params, yesc
 use Rattle.yescrypt_plain.specs.Text.{yescrypt_text}
 use Rattle.yescrypt_plain.specs.declared.error.TextFault.{TextFault}
 use Rattle.yescrypt_plain.specs.declared.error.TextFault.TheVariants as fault
-use Rattle.yescrypt_plain.specs.declared.number.Class.{Class}
 use Rattle.yescrypt_plain.specs.declared.params.ScryptParams.{ScryptParams}
 use Rattle.yescrypt_plain.specs.declared.params.YescryptParams.{YescryptParams}
 
@@ -26,33 +25,23 @@ unfolding digits_text
 digits_size zero v = refl
 digits_size (suc n) v = ap suc (digits_size n v)
 
-class_size : (k : Class) (v : ℕ) → k.more ≤ 5 → length (class_text k v) ≤ 6
-class_size k v most = let size = digits_size k.more v in omega (arith, size, most)
-
--- a class by its tests
-abbrev tested : Bool → Bool → Bool → Bool → Bool → Class
-tested a b c d e =
-    if a then record { start = 0; more = 0; base = 0 }
-    else (if b then record { start = 48; more = 1; base = 48 }
-    else (if c then record { start = 56; more = 2; base = 560 }
-    else (if d then record { start = 60; more = 3; base = 16944 }
-    else (if e then record { start = 62; more = 4; base = 541232 }
-    else record { start = 63; more = 5; base = 17318448 }))))
-
-most_of : (a b c d e : Bool) → (tested a b c d e).more ≤ 5
-most_of true b c d e = omega arith
-most_of false true c d e = omega arith
-most_of false false true d e = omega arith
-most_of false false false true e = omega arith
-most_of false false false false true = omega arith
-most_of false false false false false = omega arith
-
-class_most : (v : ℕ) → (class_for v).more ≤ 5
-class_most v = most_of (nat_lt v 48) (nat_lt v 560) (nat_lt v 16944) (nat_lt v 541232) (nat_lt v 17318448)
+-- by the tests of a number's class
+class_most : (v : ℕ) (a b c d e : Bool) → nat_lt v 48 ≡ a → nat_lt v 560 ≡ b → nat_lt v 16944 ≡ c → nat_lt v 541232 ≡ d
+    → nat_lt v 17318448 ≡ e → (class_for v).more ≤ 5
+class_most v true b c d e of_a of_b of_c of_d of_e = rw of_a (omega arith)
+class_most v false true c d e of_a of_b of_c of_d of_e = rw (of_a, of_b) (omega arith)
+class_most v false false true d e of_a of_b of_c of_d of_e = rw (of_a, of_b, of_c) (omega arith)
+class_most v false false false true e of_a of_b of_c of_d of_e = rw (of_a, of_b, of_c, of_d) (omega arith)
+class_most v false false false false true of_a of_b of_c of_d of_e = rw (of_a, of_b, of_c, of_d, of_e) (omega arith)
+class_most v false false false false false of_a of_b of_c of_d of_e = rw (of_a, of_b, of_c, of_d, of_e) (omega arith)
 
 number_size : (v : ℕ) → length (number_text v) ≤ 6
 unfolding number_text
-number_size v = class_size (class_for v) (v - (class_for v).base) (class_most v)
+number_size v =
+    let size = digits_size (class_for v).more (v - (class_for v).base) in
+    let most = class_most v (nat_lt v 48) (nat_lt v 560) (nat_lt v 16944) (nat_lt v 541232) (nat_lt v 17318448)
+    refl refl refl refl refl in
+    omega (arith, size, most)
 
 time_size : (t : ℕ) → length (time_text t) ≤ 12
 time_size t = by_zero (t == 0) where

@@ -239,9 +239,7 @@ fn texts_of_makers(rt: HostRuntime) {
 }
 
 // Texts with a fault, the first of those that they have.
-const FAULTS: [(Foreign, &str, ForeignFault); 95] = [
-    (Foreign::Ldif, "{CRYPT}$6$x$y:", ForeignFault::Form),
-    (Foreign::Ldif, "$6$x:y", ForeignFault::Form),
+const FAULTS: [(Foreign, &str, ForeignFault); 82] = [
     (
         Foreign::Django,
         "scrypt$16384$saltsalt$8$1",
@@ -391,29 +389,6 @@ const FAULTS: [(Foreign, &str, ForeignFault); 95] = [
         ForeignFault::Hash,
     ),
     (Foreign::Ldap, "{bcrypt}$6$x", ForeignFault::Form),
-    (Foreign::Ldap, "{CRYPT}!$6$x$y", ForeignFault::Locked),
-    (Foreign::Ldap, "{CRYPT}*", ForeignFault::Locked),
-    (Foreign::Ldap, "{crypt}*LK*", ForeignFault::Locked),
-    (Foreign::Ldap, "{crypt}x", ForeignFault::Locked),
-    (Foreign::Ldap, "{CRYPT}", ForeignFault::Locked),
-    (
-        Foreign::Ldap,
-        "{CRYPT}xx",
-        ForeignFault::Unread(Unread::DesCrypt),
-    ),
-    (
-        Foreign::Ldap,
-        "!geheim",
-        ForeignFault::Unread(Unread::Cleartext),
-    ),
-    (Foreign::Ldap, "*", ForeignFault::Unread(Unread::Cleartext)),
-    (
-        Foreign::Ldif,
-        "!{SSHA}x:y",
-        ForeignFault::Unread(Unread::Cleartext),
-    ),
-    (Foreign::Ldif, "{CRYPT}!", ForeignFault::Locked),
-    (Foreign::Dovecot, "{CRYPT}!!", ForeignFault::Locked),
     (Foreign::Dovecot, "{SHA512-CRYPT}$5$x", ForeignFault::Form),
     (Foreign::Dovecot, "{ARGON2I}$argon2id$x", ForeignFault::Form),
     (Foreign::Dovecot, "{BLF-CRYPT}$1$x", ForeignFault::Form),
@@ -587,6 +562,42 @@ fn first_faults(rt: HostRuntime) {
         assert!(rt; fault_of(foreign, text) == Some(fault), "{text}");
     }
     assert!(rt; ForeignFault::Cost.word() == "foreign-cost");
+}
+
+// The same of directories: locked accounts, clear texts, and texts of a dump with a colon.
+const OF_DIRECTORIES: [(Foreign, &str, ForeignFault); 13] = [
+    (Foreign::Ldif, "{CRYPT}$6$x$y:", ForeignFault::Form),
+    (Foreign::Ldif, "$6$x:y", ForeignFault::Form),
+    (Foreign::Ldap, "{CRYPT}!$6$x$y", ForeignFault::Locked),
+    (Foreign::Ldap, "{CRYPT}*", ForeignFault::Locked),
+    (Foreign::Ldap, "{crypt}*LK*", ForeignFault::Locked),
+    (Foreign::Ldap, "{crypt}x", ForeignFault::Locked),
+    (Foreign::Ldap, "{CRYPT}", ForeignFault::Locked),
+    (
+        Foreign::Ldap,
+        "{CRYPT}xx",
+        ForeignFault::Unread(Unread::DesCrypt),
+    ),
+    (
+        Foreign::Ldap,
+        "!geheim",
+        ForeignFault::Unread(Unread::Cleartext),
+    ),
+    (Foreign::Ldap, "*", ForeignFault::Unread(Unread::Cleartext)),
+    (
+        Foreign::Ldif,
+        "!{SSHA}x:y",
+        ForeignFault::Unread(Unread::Cleartext),
+    ),
+    (Foreign::Ldif, "{CRYPT}!", ForeignFault::Locked),
+    (Foreign::Dovecot, "{CRYPT}!!", ForeignFault::Locked),
+];
+
+#[test]
+fn first_faults_of_directories(rt: HostRuntime) {
+    for (foreign, text, fault) in OF_DIRECTORIES {
+        assert!(rt; fault_of(foreign, text) == Some(fault), "{text}");
+    }
 }
 
 // Texts of schemes that are not read.
