@@ -3,6 +3,7 @@ use Rattle.std.proofs.Common.{◌≡◌, ℕ, zero, suc, ◌-◌, ◌≤◌, Boo
 use Rattle.std.proofs.Common.{Option, Some, None, Result, Ok, Err}
 use Rattle.std.specs.Prelude.{◌==◌, codes, nat_lt, if◌then◌else◌}
 use Rattle.std.proofs.lemmas.Bool.Decides.{nat_tests}
+use Rattle.std.proofs.lemmas.List.{length-append}
 use Rattle.base64ct.specs.Alphabets.{base64_sha_crypt}
 use Rattle.base64ct.specs.Decoding.{decoding}
 use Rattle.base64ct.proofs.DecodingLaws.{length-decodable}
@@ -47,7 +48,11 @@ time_size : (t : ℕ) → length (time_text t) ≤ 12
 time_size t = by_zero (t == 0) where
   by_zero : (z : Bool) → length (if z then [] else number_text 1 ++ number_text (t - 1)) ≤ 12
   by_zero true = omega arith
-  by_zero false = let one = number_size 1 in let more = number_size (t - 1) in omega (arith, one, more)
+  by_zero false =
+      let one = number_size 1 in
+      let more = number_size (t - 1) in
+      let both = length-append (number_text 1) (number_text (t - 1)) in
+      omega (arith, one, more, both)
 
 pub params_size : (p : YescryptParams) → length (yescrypt_params_text p) ≤ 30
 unfolding yescrypt_params_text
@@ -56,7 +61,10 @@ params_size p =
     let ln = number_size (p.ln - 1) in
     let r = number_size (p.r - 1) in
     let t = time_size p.t in
-    omega (arith, flavor, ln, r, t)
+    let last = length-append (number_text (p.r - 1)) (time_text p.t) in
+    let lower = length-append (number_text (p.ln - 1)) (number_text (p.r - 1) ++ time_text p.t) in
+    let all = length-append (number_text 47) (number_text (p.ln - 1) ++ (number_text (p.r - 1) ++ time_text p.t)) in
+    omega (arith, flavor, ln, r, t, last, lower, all)
 
 pub scrypt_params_size : (p : ScryptParams) → length (scrypt_params_text p) ≡ 11
 unfolding scrypt_params_text five_text

@@ -1,11 +1,11 @@
 -- The law for texts `$7$`.
-use Rattle.std.proofs.Common.{◌≡◌, ℕ, ◌^◌, ◌≤◌, Bool, true, false, List, [], ◌∷◌, ◌++◌, length, take, refl, sym, ap, ◌∙◌, arith}
+use Rattle.std.proofs.Common.{◌≡◌, ℕ, suc, ◌^◌, ◌≤◌, Bool, true, false, List, [], ◌∷◌, ◌++◌, length, take, refl, sym, ap, ◌∙◌, arith}
 use Rattle.std.proofs.Common.{append_assoc, Some, Ok, Err}
 use Rattle.std.specs.Prelude.{◌↔◌, ◌||◌, codes, nat_le, nat_lt, if◌then◌else◌}
 use Rattle.std.specs.List.{list_all}
 use Rattle.std.proofs.lemmas.Bool.{and_parts}
 use Rattle.std.proofs.lemmas.Bool.Decides.{nat_tests}
-use Rattle.std.proofs.lemmas.List.{append_cancel_left}
+use Rattle.std.proofs.lemmas.List.{append_cancel_left, length-append}
 use Rattle.base64ct.specs.Alphabets.{base64_sha_crypt}
 use Rattle.base64ct.specs.Encoding.{EachBelow}
 use Rattle.base64ct.proofs.Encodings.{encoding_once}
@@ -113,7 +113,11 @@ short_text : (params : ScryptParams) (salt hash : List ℕ) → length salt ≤ 
 short_text params salt hash most size hash_small =
     let of_params = scrypt_params_size params in
     let of_hash = field_len hash hash_small in
-    omega (arith, of_params, of_hash, most, size)
+    let tail = length-append salt (36 ∷ crypt_field hash) in
+    let rest = length-append (scrypt_params_text params) (salt ++ 36 ∷ crypt_field hash) in
+    let all : suc (suc (suc (length (scrypt_params_text params ++ (salt ++ 36 ∷ crypt_field hash))))) ≤ 339 =
+    omega (arith, of_params, of_hash, most, size, tail, rest) in
+    all
 
 -- ---- the answer
 

@@ -1,9 +1,9 @@
 -- The law for texts `$y$`.
-use Rattle.std.proofs.Common.{◌≡◌, ℕ, ◌≤◌, Bool, true, false, List, ◌∷◌, ◌++◌, length, refl, sym, ap, ◌∙◌, arith}
+use Rattle.std.proofs.Common.{◌≡◌, ℕ, suc, ◌≤◌, Bool, true, false, List, ◌∷◌, ◌++◌, length, refl, sym, ap, ◌∙◌, arith}
 use Rattle.std.proofs.Common.{append_assoc, Some, Ok, Err}
 use Rattle.std.specs.Prelude.{◌↔◌, codes, nat_le, nat_lt, if◌then◌else◌}
 use Rattle.std.proofs.lemmas.Bool.Decides.{nat_tests}
-use Rattle.std.proofs.lemmas.List.{append_cancel_left}
+use Rattle.std.proofs.lemmas.List.{append_cancel_left, length-append}
 use Rattle.base64ct.specs.Alphabets.{base64_sha_crypt}
 use Rattle.base64ct.specs.Encoding.{EachBelow}
 use Rattle.base64ct.proofs.DecodingLaws.{decoding-encoding}
@@ -102,7 +102,12 @@ short_text params salt hash most size below hash_small =
     let of_params = params_size params in
     let of_salt = field_len salt below in
     let of_hash = field_len hash hash_small in
-    omega (arith, of_params, of_salt, of_hash, most, size)
+    let tail = length-append (crypt_field salt) (36 ∷ crypt_field hash) in
+    let rest = length-append (yescrypt_params_text params) (36 ∷ (crypt_field salt ++ 36 ∷ crypt_field hash)) in
+    let all :
+    suc (suc (suc (length (yescrypt_params_text params ++ 36 ∷ (crypt_field salt ++ 36 ∷ crypt_field hash))))) ≤ 339 =
+    omega (arith, of_params, of_salt, of_hash, most, size, tail, rest) in
+    all
 
 -- ---- the answer
 
