@@ -2,7 +2,8 @@
 
 use crate::make_cli::{make, normalize, unwrap, wrap};
 use crate::options::{
-    FILES, MAKERS, file, flag, form, plus, wanted, with_forms, with_from, with_good, with_telling,
+    file, flag, form, plus, wanted, with_file_of_maker, with_forms, with_good, with_maker,
+    with_telling,
 };
 use crate::tables::table;
 use clap::{Arg, Command, value_parser};
@@ -182,12 +183,6 @@ const MOST: &str = "The most that a stored text may ask for (left out: what its 
 /// The heading of the least costs.
 const LEAST: &str = "The least that isn't weak (left out: the number in brackets)";
 
-/// The helps of the option that says whose spelling the texts have, of `check`, and of `join` and `survey`.
-const FROM_MAKER: &str = "The stored texts are spelled as this maker spells them";
-
-const FROM_FILE: &str = "\
-The stored texts are spelled as this maker spells them; ldif: the file is a dump of a directory";
-
 /// The helps of the option that says which answers count as good, of `check`, `join` and `survey`.
 const GOOD_WORDS: &str = "\
 Status 0 is for these answers, with commas between them: match, mismatch, no-scheme, unsupported, \
@@ -218,7 +213,7 @@ fn check<'a>(alloc: Global) -> Result<Command<'a>, AllocError> {
             alloc,
             with_good(
                 alloc,
-                with_forms(alloc, with_from(alloc, command, MAKERS, FROM_MAKER)),
+                with_forms(alloc, with_maker(alloc, command)),
                 GOOD_WORDS,
             ),
         ),
@@ -247,7 +242,7 @@ fn join<'a>(alloc: Global) -> Result<Command<'a>, AllocError> {
             alloc,
             with_good(
                 alloc,
-                with_forms(alloc, with_from(alloc, command, FILES, FROM_FILE)),
+                with_forms(alloc, with_file_of_maker(alloc, command)),
                 GOOD_USERS,
             ),
         ),
@@ -275,7 +270,7 @@ fn survey<'a>(alloc: Global) -> Result<Command<'a>, AllocError> {
             alloc,
             with_good(
                 alloc,
-                with_forms(alloc, with_from(alloc, command, FILES, FROM_FILE)),
+                with_forms(alloc, with_file_of_maker(alloc, command)),
                 GOOD_TEXTS,
             ),
         ),

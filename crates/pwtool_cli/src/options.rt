@@ -4,7 +4,7 @@ use clap::{Arg, ArgAction, Command};
 use std::alloc::{AllocError, Global};
 
 /// The makers of foreign texts by their names, of lines with passwords.
-pub const MAKERS: &[&str] = &[
+const MAKERS: &[&str] = &[
     "django",
     "werkzeug",
     "passlib",
@@ -20,7 +20,7 @@ pub const MAKERS: &[&str] = &[
 ];
 
 /// The same of files of users and their texts, one of which is a dump of a directory.
-pub const FILES: &[&str] = &[
+const FILES: &[&str] = &[
     "django",
     "werkzeug",
     "passlib",
@@ -76,19 +76,34 @@ pub fn flag<'a>(alloc: Global, name: &'static str, help: &'static str) -> Arg<'a
         .help(help)
 }
 
-/// A form with the option that says whose spelling the stored texts have.
-pub fn with_from<'a>(
-    alloc: Global,
-    command: Result<Command<'a>, AllocError>,
-    makers: &'static [&'static str],
-    help: &'static str,
-) -> Result<Command<'a>, AllocError> {
-    let from = Arg::new(alloc, "from")
+// The helps of the option that says whose spelling the texts have, of `check`, and of `join` and `survey`.
+const FROM_MAKER: &str = "The stored texts are spelled as this maker spells them";
+
+const FROM_FILE: &str = "\
+The stored texts are spelled as this maker spells them; ldif: the file is a dump of a directory";
+
+// The option that says whose spelling the texts have.
+fn from<'a>(alloc: Global, help: &'static str) -> Arg<'a> {
+    Arg::new(alloc, "from")
         .long("from")
         .value_name("MAKER")
-        .value_parser(makers)
-        .help(help);
-    plus(command, from)
+        .help(help)
+}
+
+/// A form that reads lines of passwords and texts, with the option that says whose spelling the texts have.
+pub fn with_maker<'a>(
+    alloc: Global,
+    command: Result<Command<'a>, AllocError>,
+) -> Result<Command<'a>, AllocError> {
+    plus(command, from(alloc, FROM_MAKER).value_parser(MAKERS))
+}
+
+/// A form that reads files of users and their texts, with the same option, for which a file may be a dump of a directory.
+pub fn with_file_of_maker<'a>(
+    alloc: Global,
+    command: Result<Command<'a>, AllocError>,
+) -> Result<Command<'a>, AllocError> {
+    plus(command, from(alloc, FROM_FILE).value_parser(FILES))
 }
 
 /// A form with the options that say what of a file is left out before it is cut into lines.
