@@ -3,16 +3,17 @@
  *
  * What holds of every call
  * - A slice is a pointer and then a length in bytes, of at most PTRDIFF_MAX. No pointer is null, not even beside the
- *   length 0, and behind each stand so many bytes.
+ *   length 0, and each points to so many bytes.
  * - What is written (`out`, `dst`, `len`) overlaps nothing else that the call is given, and no other thread touches
  *   anything of a call while it runs. Calls with separate memory may run side by side.
  *   No call can check these two points; every other input is answered by a number or a length.
- * - Nothing is kept between calls, nothing is read or written but what is passed, errno is left alone where malloc
- *   leaves it, and no call prints, exits or waits.
- * - Only pwcheck_check, pwcheck_check_limited, pwcheck_scrypt and pwcheck_scrypt_text take memory, by malloc and free,
- *   at most 304 MiB, and give it back; so does pwcheck_check_any, which may take more, as the stored text asks: 2 GiB
- *   for Argon2. Bound it. pwcheck_yescrypt_text and pwcheck_argon2id_text take what the numbers of the call ask for.
- *   They are not for signal handlers, nor for the forked child of a process with threads.
+ * - Nothing is kept between calls, nothing is read or written but what is passed, errno is left alone where malloc and
+ *   getrandom leave it, and no call prints or exits. pwcheck_make alone may wait: getrandom does, early in a boot.
+ * - These calls take memory, by malloc and free, and give it back: pwcheck_check, pwcheck_check_limited, pwcheck_scrypt
+ *   and pwcheck_scrypt_text at most 304 MiB, pwcheck_check_login at most 513 MiB, pwcheck_make 64 MiB. pwcheck_check_any
+ *   takes what the stored text asks for, up to 2 GiB for Argon2: bound it. pwcheck_yescrypt_text and
+ *   pwcheck_argon2id_text take what the numbers of the call ask for. No other call takes memory. These calls are not for
+ *   signal handlers, nor for the forked child of a process with threads.
  * - The stored text sets the time of a check: its rounds, or the parameters of scrypt. SHA-crypt's grows with the
  *   square of the password's length too, so it takes passwords of at most 4,096 bytes. A stored text of another's
  *   choice may ask for hours: bound it by pwcheck_check_limited, or by the limits of pwcheck_check_any.
@@ -50,7 +51,7 @@ extern "C" {
 #endif
 
 /* The version of this interface. In a later one with the same first number each number and each call means the same;
- * new answers get new numbers. pwcheck_version tells that of the library that is linked. */
+ * new answers get new numbers. pwcheck_version gives that of the library that is linked. */
 #define PWCHECK_VERSION "1.1"
 #define PWCHECK_VERSION_MAJOR 1
 #define PWCHECK_VERSION_MINOR 1
@@ -71,13 +72,14 @@ extern "C" {
 #endif
 #endif
 
-/* What the checks answer, a verdict or the first cause that there is none. pwcheck_word tells the word. */
+/* What the checks answer, a verdict or the first cause that there is none. pwcheck_word gives the word. Which call has
+ * which answer is said of pwcheck_check_any for pwcheck_check_login too. */
 enum pwcheck_answer {
     PWCHECK_MATCH = 0,              /* the password is that of the stored text */
     PWCHECK_MISMATCH = 1,           /* the stored text is valid, and of another password */
 
     PWCHECK_NOT_UTF8 = 2,           /* the password or the stored text isn't UTF-8 */
-    PWCHECK_OUT_OF_MEMORY = 3,      /* no verdict: there is no memory for scrypt. Never a mismatch */
+    PWCHECK_OUT_OF_MEMORY = 3,      /* no verdict: there is no memory for the key. Never a mismatch */
     PWCHECK_PASSWORD_TOO_LONG = 4,  /* more than 4,096 bytes, and UTF-8: the whole password is read first */
 
     /* 5 to 8: pwcheck_check and pwcheck_check_limited; all but 6: pwcheck_check_any too */
@@ -88,11 +90,11 @@ enum pwcheck_answer {
 
     /* 10 to 17: identifiers 5 and 6; 9: pwcheck_sha256_check and pwcheck_sha512_check alone */
     PWCHECK_SHA_IDENTIFIER = 9,     /* the text doesn't begin with '$' and the family's identifier, 5 or 6 */
-    PWCHECK_SHA_NO_FIELDS = 10,     /* no field behind the identifier */
-    PWCHECK_SHA_NO_SALT = 11,       /* rounds, and nothing behind them */
-    PWCHECK_SHA_ROUNDS_NOT_NUMBER = 12, /* behind "rounds=" stands no plain decimal below 2^64 */
-    PWCHECK_SHA_NO_HASH = 13,       /* no field behind the salt */
-    PWCHECK_SHA_TRAILING = 14,      /* a field behind the hash field */
+    PWCHECK_SHA_NO_FIELDS = 10,     /* no field after the identifier */
+    PWCHECK_SHA_NO_SALT = 11,       /* rounds, and nothing after them */
+    PWCHECK_SHA_ROUNDS_NOT_NUMBER = 12, /* no plain decimal below 2^64 follows "rounds=" */
+    PWCHECK_SHA_NO_HASH = 13,       /* no field after the salt */
+    PWCHECK_SHA_TRAILING = 14,      /* a field after the hash field */
     PWCHECK_SHA_ROUNDS = 15,        /* rounds outside 1,000 to 999,999,999 */
     PWCHECK_SHA_SALT_TOO_LONG = 16, /* more than 16 bytes */
     PWCHECK_SHA_BASE64 = 17,        /* the hash field is that of no digest */
@@ -108,7 +110,7 @@ enum pwcheck_answer {
     PWCHECK_PHC_B64 = 24,           /* the salt or the hash is the encoding of no bytes */
     PWCHECK_PHC_HASH_LONG = 25,     /* more than 86 characters */
     PWCHECK_PHC_HASH_SHORT = 26,    /* fewer than 10 bytes */
-    PWCHECK_PHC_TRAILING = 27,      /* a field behind the hash */
+    PWCHECK_PHC_TRAILING = 27,      /* a field after the hash */
     PWCHECK_NO_HASH = 28,           /* the record has no salt, or no hash */
     PWCHECK_KDF = 29,               /* the key derivation doesn't take the record: see pwcheck(5) */
 
@@ -135,7 +137,8 @@ enum pwcheck_status {
     PWCHECK_DONE = 0,
     PWCHECK_OUT_OF_RANGE = -1,      /* a number or a length isn't taken; nothing was written */
     PWCHECK_NO_MEMORY = -2,         /* there is no memory for the key; nothing was written */
-    PWCHECK_NO_ROOM = -3,           /* the buffer is too short; nothing was written */
+    PWCHECK_NO_ROOM = -3,           /* the buffer is too short; nothing was written. A maker has hashed before it says
+                                     * so: give it PWCHECK_TEXT_MAX bytes */
     PWCHECK_NOT_BASE64 = -4,        /* the text is the encoding of no bytes */
 
     /* -5 to -7, from version 1.1 on: the password is refused, and nothing was written. Its user may choose another */
@@ -273,7 +276,7 @@ PWCHECK_MUST_USE PWCHECK_NONNULL
 int32_t pwcheck_scrypt(const uint8_t *password, size_t password_len, const uint8_t *salt, size_t salt_len,
                        uint32_t ln, uint32_t r, uint32_t p, uint8_t *out, size_t out_len);
 
-/* The whole text `$scrypt$ln=L,r=R,p=P$salt$key` with a key of 32 bytes, without a zero behind it; `*len` is its
+/* The whole text `$scrypt$ln=L,r=R,p=P$salt$key` with a key of 32 bytes, without a zero after it; `*len` is its
  * length, and is written only with PWCHECK_DONE. The salt is 16 bytes, which the caller draws at random, the
  * password UTF-8 of at most 4,096 bytes, the numbers are those of pwcheck_scrypt. pwcheck_check answers the text
  * with PWCHECK_MATCH. */
@@ -291,7 +294,7 @@ PWCHECK_MUST_USE PWCHECK_NONNULL
 int32_t pwcheck_sha512_crypt(const uint8_t *password, size_t password_len, const uint8_t *salt, size_t salt_len,
                              uint32_t rounds, uint8_t *out, size_t out_len);
 
-/* The hash field of that digest (out_len = 43 and 86), without a zero behind it. */
+/* The hash field of that digest (out_len = 43 and 86), without a zero after it. */
 PWCHECK_MUST_USE PWCHECK_NONNULL
 int32_t pwcheck_sha256_crypt_b64(const uint8_t *password, size_t password_len, const uint8_t *salt, size_t salt_len,
                                  uint32_t rounds, uint8_t *out, size_t out_len);
@@ -299,9 +302,9 @@ PWCHECK_MUST_USE PWCHECK_NONNULL
 int32_t pwcheck_sha512_crypt_b64(const uint8_t *password, size_t password_len, const uint8_t *salt, size_t salt_len,
                                  uint32_t rounds, uint8_t *out, size_t out_len);
 
-/* The whole text, `$5$[rounds=N$]salt$hash` and the same with 6, without a zero behind it; `*len` is its length, and
+/* The whole text, `$5$[rounds=N$]salt$hash` and the same with 6, without a zero after it; `*len` is its length, and
  * is written only with PWCHECK_DONE. The salt has 1 to 16 characters of [./0-9A-Za-z] (this library's own choice),
- * which the caller draws at random; the password is UTF-8 of at most 4,096 bytes. `rounds=N$` stands there for other
+ * which the caller draws at random; the password is UTF-8 of at most 4,096 bytes. `rounds=N$` is written for other
  * rounds than 5,000. The check of the family and pwcheck_check answer the text with PWCHECK_MATCH. */
 PWCHECK_MUST_USE PWCHECK_NONNULL
 int32_t pwcheck_sha256_crypt_text(const uint8_t *password, size_t password_len, const uint8_t *salt, size_t salt_len,
@@ -322,7 +325,7 @@ int32_t pwcheck_make(const uint8_t *password, size_t password_len, uint8_t *out,
 PWCHECK_MUST_USE PWCHECK_NONNULL
 bool pwcheck_needs_remake(const uint8_t *stored, size_t stored_len);
 
-/* The whole text of bcrypt, yescrypt, Argon2id and PBKDF2 with SHA-256, without a zero behind it; `*len` is its length,
+/* The whole text of bcrypt, yescrypt, Argon2id and PBKDF2 with SHA-256, without a zero after it; `*len` is its length,
  * and is written only with PWCHECK_DONE. The salt is 16 bytes, which the caller draws at random; a key has 32 bytes.
  * A salt of another length and a number that isn't taken are PWCHECK_OUT_OF_RANGE, whatever the password is; then the
  * password is refused by the first of PWCHECK_REFUSED_LENGTH, _UTF8 and _ZERO, this one by bcrypt and yescrypt alone.
@@ -369,7 +372,7 @@ PWCHECK_MUST_USE PWCHECK_NONNULL
 int32_t pwcheck_base64_decode(uint32_t alphabet, const uint8_t *src, size_t src_len, uint8_t *dst, size_t dst_len,
                               size_t *len);
 
-/* Encodes to the front of `dst`, without a zero behind it, and sets `*len`, with PWCHECK_DONE alone, to the number of
+/* Encodes to the front of `dst`, without a zero after it, and sets `*len`, with PWCHECK_DONE alone, to the number of
  * characters. More than SIZE_MAX / 4 bytes are PWCHECK_NO_ROOM too, another alphabet is PWCHECK_OUT_OF_RANGE. */
 PWCHECK_MUST_USE PWCHECK_NONNULL
 int32_t pwcheck_base64_encode(uint32_t alphabet, const uint8_t *src, size_t src_len, uint8_t *dst, size_t dst_len,
