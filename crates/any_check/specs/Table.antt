@@ -190,7 +190,7 @@ scrypt_word of_text.Memory = codes "scrypt-cost"
 scrypt_word of_text.Cost = codes "scrypt-cost"
 scrypt_word fault = codes "scrypt-format"
 
--- those of `check_stored`, and a few for each further scheme; want of memory has none
+-- those of `check_stored`, and a few for each further scheme; nothing is out of memory there
 abbrev pub any_word : Result Bool AnyError → List ℕ
 any_word (Ok b) = word (Ok b)
 any_word (Err (cause.Stored e)) = word (Err e)

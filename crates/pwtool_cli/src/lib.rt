@@ -4,6 +4,7 @@
 mod cli;
 mod make_cli;
 mod options;
+mod schemes;
 mod tables;
 
 use clap::ArgMatches;
@@ -17,6 +18,7 @@ use pwtool_forms::pair::join_form;
 use pwtool_forms::small_forms::{normalize_form, stream_form};
 use pwtool_forms::status::BAD_WORDS;
 use std::{env, io};
+pub use schemes::help_of_check;
 pub use tables::table_form;
 
 // The words of the command line, or the status.
@@ -111,7 +113,11 @@ pub fn run(rt: &HostRuntime) -> u8 {
         Ok(words) => words,
         Err(status) => return status,
     };
-    let command = match command(rt.alloc()) {
+    let help = match help_of_check(rt.alloc()) {
+        Ok(help) => help,
+        Err(_) => return no_memory(rt),
+    };
+    let command = match command(rt.alloc(), help.as_str()) {
         Ok(command) => command,
         Err(_) => return no_memory(rt),
     };
