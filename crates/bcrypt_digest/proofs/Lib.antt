@@ -1,0 +1,4 @@
+mod FrontTexts
+mod Answers
+mod MadeTexts
+mod Vectors
