@@ -1,4 +1,4 @@
-mod FrontTexts
-mod Answers
+pub mod FrontTexts
+pub mod Answers
 mod MadeTexts
 mod Vectors
