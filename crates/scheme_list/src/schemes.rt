@@ -16,6 +16,8 @@ pub enum Scheme {
     Yescrypt,
     /// scrypt in crypt's own form, `$7$`.
     ScryptCrypt,
+    /// bcrypt of a digest of the password: texts of passlib's `bcrypt_sha256`, of Django's, and of WordPress.
+    BcryptDigest,
     /// scrypt as a record in the PHC string format.
     Scrypt,
     /// PBKDF2 with HMAC-SHA-256, as a record.
@@ -29,7 +31,7 @@ pub enum Scheme {
 }
 
 /// How many schemes there are.
-pub const SCHEME_COUNT: usize = 12;
+pub const SCHEME_COUNT: usize = 13;
 
 /// The schemes, in the order in which they are told.
 pub const SCHEMES: [Scheme; SCHEME_COUNT] = [
@@ -39,6 +41,7 @@ pub const SCHEMES: [Scheme; SCHEME_COUNT] = [
     Scheme::Bcrypt,
     Scheme::Yescrypt,
     Scheme::ScryptCrypt,
+    Scheme::BcryptDigest,
     Scheme::Scrypt,
     Scheme::Pbkdf2Sha256,
     Scheme::Pbkdf2Sha512,
@@ -98,6 +101,7 @@ impl Scheme {
             Scheme::Bcrypt => "bcrypt",
             Scheme::Yescrypt => "yescrypt",
             Scheme::ScryptCrypt => "scrypt-crypt",
+            Scheme::BcryptDigest => "bcrypt-digest",
             Scheme::Scrypt => "scrypt",
             Scheme::Pbkdf2Sha256 => "pbkdf2-sha256",
             Scheme::Pbkdf2Sha512 => "pbkdf2-sha512",
@@ -114,7 +118,7 @@ impl Scheme {
         match self {
             Scheme::Md5Crypt => CostFamily::Md5Crypt,
             Scheme::Sha256Crypt | Scheme::Sha512Crypt => CostFamily::ShaCrypt,
-            Scheme::Bcrypt => CostFamily::Bcrypt,
+            Scheme::Bcrypt | Scheme::BcryptDigest => CostFamily::Bcrypt,
             Scheme::Yescrypt => CostFamily::Yescrypt,
             Scheme::ScryptCrypt | Scheme::Scrypt => CostFamily::Scrypt,
             Scheme::Pbkdf2Sha256 => CostFamily::Pbkdf2Sha256,
@@ -143,14 +147,14 @@ impl Scheme {
             | Scheme::Pbkdf2Sha256
             | Scheme::Pbkdf2Sha512
             | Scheme::Argon2id => true,
-            Scheme::Md5Crypt | Scheme::ScryptCrypt | Scheme::Argon2d | Scheme::Argon2i => false,
+            Scheme::Md5Crypt | Scheme::ScryptCrypt | Scheme::BcryptDigest | Scheme::Argon2d | Scheme::Argon2i => false,
         }
     }
 }
 
 // The scheme of a record's identifier.
 fn record_named(id: &str) -> Option<Scheme>
-    ensures scheme { result ≡ look_up (has_identifier id.now) (drop 6 schemes) }
+    ensures scheme { result ≡ look_up (has_identifier id.now) (drop 7 schemes) }
 {
     match id {
         "scrypt" => Some(Scheme::Scrypt),
@@ -174,6 +178,7 @@ pub fn scheme_named(id: &str) -> Option<Scheme>
         "2a" | "2b" | "2y" | "2" | "2x" => Some(Scheme::Bcrypt),
         "y" => Some(Scheme::Yescrypt),
         "7" => Some(Scheme::ScryptCrypt),
+        "bcrypt-sha256" | "bcrypt-sha256-hex" | "wp" => Some(Scheme::BcryptDigest),
         _ => record_named(id),
     }
 }

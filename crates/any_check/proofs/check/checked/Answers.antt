@@ -27,6 +27,10 @@ returns-in-ScryptCrypt g c =
       | inr lack ↦ inr (ap of_scrypt_check lack.0, lack.1)
     ])
 
+pub returns-in-BcryptDigest : goal.returns-in-BcryptDigest
+returns-in-BcryptDigest g c =
+    rw (c.in-BcryptDigest.is, c.of_bcrypt_check-in-BcryptDigest.ensures) (inl (ap of_bcrypt_check c.digest_check.ensures.answer))
+
 pub returns-in-Sha256Crypt : goal.returns-in-Sha256Crypt
 returns-in-Sha256Crypt g c = elim c.in-Sha256Crypt.is [
   | inl is ↦ rw (is, c.of_stored.ensures)
