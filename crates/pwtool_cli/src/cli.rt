@@ -290,10 +290,7 @@ fn with<'a>(
 }
 
 /// The program's command line, with this help after the options of `check`: see [`crate::help_of_check`].
-pub fn command<'a>(
-    alloc: Global,
-    help_of_check: &'a str,
-) -> Result<Command<'a>, AllocError> {
+pub fn command<'a>(alloc: Global, help_of_check: &'a str) -> Result<Command<'a>, AllocError> {
     let command = with(program(alloc), check(alloc, help_of_check));
     let command = with(command, join(alloc));
     let command = with(command, survey(alloc));

@@ -17,8 +17,8 @@ use pwtool_forms::make::make_form;
 use pwtool_forms::pair::join_form;
 use pwtool_forms::small_forms::{normalize_form, stream_form};
 use pwtool_forms::status::BAD_WORDS;
-use std::{env, io};
 pub use schemes::help_of_check;
+use std::{env, io};
 pub use tables::table_form;
 
 // The words of the command line, or the status.

@@ -147,7 +147,11 @@ impl Scheme {
             | Scheme::Pbkdf2Sha256
             | Scheme::Pbkdf2Sha512
             | Scheme::Argon2id => true,
-            Scheme::Md5Crypt | Scheme::ScryptCrypt | Scheme::BcryptDigest | Scheme::Argon2d | Scheme::Argon2i => false,
+            Scheme::Md5Crypt
+            | Scheme::ScryptCrypt
+            | Scheme::BcryptDigest
+            | Scheme::Argon2d
+            | Scheme::Argon2i => false,
         }
     }
 }

@@ -144,7 +144,11 @@ fn number_weakness(least: &LeastCosts, scheme: Scheme, costs: &Costs) -> Option<
         Scheme::Md5Crypt => None,
         Scheme::Sha256Crypt => below(Weakness::Rounds, costs.rounds, least.sha256_rounds),
         Scheme::Sha512Crypt => below(Weakness::Rounds, costs.rounds, least.sha512_rounds),
-        Scheme::Bcrypt | Scheme::BcryptDigest => below(Weakness::Cost, costs.cost, least.bcrypt_cost),
+        Scheme::Bcrypt | Scheme::BcryptDigest => below(
+            Weakness::Cost,
+            costs.cost,
+            least.bcrypt_cost,
+        ),
         Scheme::Yescrypt => below(
             Weakness::Memory,
             memory(CostFamily::Yescrypt, costs),

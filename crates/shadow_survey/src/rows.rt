@@ -174,12 +174,7 @@ fn put_name<K: Sink>(format: Format, scheme: Scheme, out: &mut OutputBuffer, sin
 }
 
 // Puts the name of a judgement's scheme.
-fn put_scheme<K: Sink>(
-    format: Format,
-    judgement: &Judgement,
-    out: &mut OutputBuffer,
-    sink: &mut K,
-)
+fn put_scheme<K: Sink>(format: Format, judgement: &Judgement, out: &mut OutputBuffer, sink: &mut K)
     ensures puts { Puts (K.written sink.old) (K.written sink.new) (K.faults sink.old) (K.faults sink.new) out.old out.new
         (scheme_cell format (costs_in judgement.now)) }
 {
@@ -195,16 +190,14 @@ fn put_numbers<K: Sink>(format: Format, text: &TextCosts, out: &mut OutputBuffer
     ensures puts { Puts (K.written sink.old) (K.written sink.new) (K.faults sink.old) (K.faults sink.new) out.old out.new
         (numbers_text format (row_of text.now.scheme).family text.now.costs) }
 {
-    out.put(sink, numbers_text(format, text.scheme.family(), &text.costs).as_slice());
+    out.put(
+        sink,
+        numbers_text(format, text.scheme.family(), &text.costs).as_slice(),
+    );
 }
 
 // Puts a judgement's costs.
-fn put_costs<K: Sink>(
-    format: Format,
-    judgement: &Judgement,
-    out: &mut OutputBuffer,
-    sink: &mut K,
-)
+fn put_costs<K: Sink>(format: Format, judgement: &Judgement, out: &mut OutputBuffer, sink: &mut K)
     ensures puts { Puts (K.written sink.old) (K.written sink.new) (K.faults sink.old) (K.faults sink.new) out.old out.new
         (cost_cell format (costs_in judgement.now)) }
 {
