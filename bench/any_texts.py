@@ -176,11 +176,12 @@ def of_passlib():
         print("left out: passlib isn't here")
         return
     rows = [("md5_crypt", {}, VERDICT), ("apr_md5_crypt", {}, VERDICT), ("sha256_crypt", {"rounds": 1000}, VERDICT),
-            ("sha512_crypt", {"rounds": 5000}, VERDICT), ("bcrypt", {"rounds": 5}, VERDICT), ("scrypt", {"rounds": 6}, VERDICT),
+            ("sha512_crypt", {"rounds": 5000}, VERDICT), ("bcrypt", {"rounds": 5}, VERDICT), ("bcrypt_sha256", {"rounds": 5}, VERDICT),
+            ("bcrypt_sha256", {"rounds": 4, "version": 1}, VERDICT), ("scrypt", {"rounds": 6}, VERDICT),
             ("pbkdf2_sha256", {"rounds": 1000}, "phc-salt-short"), ("pbkdf2_sha512", {"rounds": 1000}, "phc-salt-short")]
     rows += [(name, {}, NO_SCHEME) for name in (
         "des_crypt", "bsdi_crypt", "bigcrypt", "sun_md5_crypt", "sha1_crypt", "phpass", "nthash", "bsd_nthash", "ldap_sha1",
-        "ldap_salted_sha1", "ldap_md5", "pbkdf2_sha1", "bcrypt_sha256", "cta_pbkdf2_sha1", "grub_pbkdf2_sha512",
+        "ldap_salted_sha1", "ldap_md5", "pbkdf2_sha1", "cta_pbkdf2_sha1", "grub_pbkdf2_sha512",
         "django_pbkdf2_sha256", "fshp", "mysql41", "hex_sha256", "unix_disabled")]
     for name, settings, wanted in rows:
         def make(password, name=name, settings=settings):
