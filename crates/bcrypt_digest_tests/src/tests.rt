@@ -9,7 +9,7 @@ use bcrypt_plain::{BcryptError, BcryptFault};
 // Whether a text is that of this password among the passwords, and not of the next one.
 fn is_of(at: usize, stored: &str) -> bool {
     let password = PASSWORDS[at % 7];
-    let other = PASSWORDS[(at + 1) % 7];
+    let other = PASSWORDS[(at % 7 + 1) % 7];
     digest_check(password, stored) == Ok(())
         && digest_check(other, stored) == Err(BcryptError::HashMismatch)
         && digest_cost(stored) == Ok(5)
