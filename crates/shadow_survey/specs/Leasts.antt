@@ -4,9 +4,7 @@ use Rattle.scheme_list.specs.Schemes.{row_of}
 use Rattle.scheme_list.specs.declared.schemes.CostFamily.{CostFamily}
 use Rattle.scheme_list.specs.declared.schemes.CostFamily.TheVariants as family
 use Rattle.scheme_list.specs.declared.schemes.Scheme.{Scheme}
-use Rattle.scheme_list.specs.declared.schemes.Scheme.TheVariants.{Argon2d, Argon2i, Argon2id, Bcrypt, BcryptDigest, Md5Crypt}
-use Rattle.scheme_list.specs.declared.schemes.Scheme.TheVariants.{Pbkdf2Sha256, Pbkdf2Sha512, Scrypt, ScryptCrypt, Sha256Crypt, Sha512Crypt}
-use Rattle.scheme_list.specs.declared.schemes.Scheme.TheVariants.{Yescrypt}
+use Rattle.scheme_list.specs.declared.schemes.Scheme.TheVariants.{Sha512Crypt}
 use Rattle.any_check.specs.declared.numbers.Costs.{Costs}
 use Rattle.any_check.specs.declared.numbers.TextCosts.{TextCosts}
 use Rattle.shadow_survey.specs.declared.least.LeastCosts.{LeastCosts}
@@ -54,21 +52,21 @@ argon2_weakness least c =
     if nat_lt (memory family.Argon2 c) least.argon2_memory then Some weak.Memory
     else below weak.Work (work family.Argon2 c) least.argon2_work
 
--- the first number of a text that is below its least
+-- the first number that is below its least, by the scheme's family: of SHA-crypt the rounds with SHA-256
+abbrev pub family_weakness : LeastCosts → CostFamily → Costs → Option Weakness
+family_weakness least family.Md5Crypt c = None
+family_weakness least family.ShaCrypt c = below weak.Rounds c.rounds least.sha256_rounds
+family_weakness least family.Bcrypt c = below weak.Cost c.cost least.bcrypt_cost
+family_weakness least family.Yescrypt c = below weak.Memory (memory family.Yescrypt c) least.yescrypt_memory
+family_weakness least family.Scrypt c = scrypt_weakness least c
+family_weakness least family.Pbkdf2Sha256 c = below weak.Rounds c.rounds least.pbkdf2_sha256_rounds
+family_weakness least family.Pbkdf2Sha512 c = below weak.Rounds c.rounds least.pbkdf2_sha512_rounds
+family_weakness least family.Argon2 c = argon2_weakness least c
+
+-- the same of a text: SHA-512-crypt has a least of its own
 abbrev pub number_weakness : LeastCosts → Scheme → Costs → Option Weakness
-number_weakness least Md5Crypt c = None
-number_weakness least Sha256Crypt c = below weak.Rounds c.rounds least.sha256_rounds
 number_weakness least Sha512Crypt c = below weak.Rounds c.rounds least.sha512_rounds
-number_weakness least Bcrypt c = below weak.Cost c.cost least.bcrypt_cost
-number_weakness least Yescrypt c = below weak.Memory (memory family.Yescrypt c) least.yescrypt_memory
-number_weakness least ScryptCrypt c = scrypt_weakness least c
-number_weakness least BcryptDigest c = below weak.Cost c.cost least.bcrypt_cost
-number_weakness least Scrypt c = scrypt_weakness least c
-number_weakness least Pbkdf2Sha256 c = below weak.Rounds c.rounds least.pbkdf2_sha256_rounds
-number_weakness least Pbkdf2Sha512 c = below weak.Rounds c.rounds least.pbkdf2_sha512_rounds
-number_weakness least Argon2d c = argon2_weakness least c
-number_weakness least Argon2i c = argon2_weakness least c
-number_weakness least Argon2id c = argon2_weakness least c
+number_weakness least scheme c = family_weakness least (row_of scheme).family c
 
 -- what of a text is weak, if something is: the scheme may be, whatever its texts ask for
 abbrev pub weakness_of : LeastCosts → TextCosts → Option Weakness

@@ -2,7 +2,7 @@
 
 ghost use Rattle.std.specs.Prelude.{◌≡◌, ◌^◌};
 ghost use Rattle.scheme_list.specs.Schemes.{row_of};
-ghost use Rattle.shadow_survey.specs.Leasts.{argon2_weakness, below, bytes, memory, number_weakness, power, scrypt_weakness, weakness_of, work};
+ghost use Rattle.shadow_survey.specs.Leasts.{argon2_weakness, below, bytes, family_weakness, memory, number_weakness, power, scrypt_weakness, weakness_of, work};
 
 use any_check::{CostFamily, Costs, Scheme, TextCosts};
 
@@ -136,28 +136,41 @@ fn argon2_weakness(least: &LeastCosts, costs: &Costs) -> Option<Weakness>
     }
 }
 
-// The first number that is below its least.
+// The first number that is below its least, by the scheme's family: of SHA-crypt the rounds with SHA-256.
+fn family_weakness(least: &LeastCosts, family: CostFamily, costs: &Costs) -> Option<Weakness>
+    ensures { result ≡ family_weakness least.now family costs.now }
+{
+    match family {
+        CostFamily::Md5Crypt => None,
+        CostFamily::ShaCrypt => below(Weakness::Rounds, costs.rounds, least.sha256_rounds),
+        CostFamily::Bcrypt => below(Weakness::Cost, costs.cost, least.bcrypt_cost),
+        CostFamily::Yescrypt => below(
+            Weakness::Memory,
+            memory(family, costs),
+            least.yescrypt_memory,
+        ),
+        CostFamily::Scrypt => scrypt_weakness(least, costs),
+        CostFamily::Pbkdf2Sha256 => below(
+            Weakness::Rounds,
+            costs.rounds,
+            least.pbkdf2_sha256_rounds,
+        ),
+        CostFamily::Pbkdf2Sha512 => below(
+            Weakness::Rounds,
+            costs.rounds,
+            least.pbkdf2_sha512_rounds,
+        ),
+        CostFamily::Argon2 => argon2_weakness(least, costs),
+    }
+}
+
+// The first number of a text that is below its least: SHA-512-crypt has a least of its own.
 fn number_weakness(least: &LeastCosts, scheme: Scheme, costs: &Costs) -> Option<Weakness>
     ensures { result ≡ number_weakness least.now scheme costs.now }
 {
     match scheme {
-        Scheme::Md5Crypt => None,
-        Scheme::Sha256Crypt => below(Weakness::Rounds, costs.rounds, least.sha256_rounds),
         Scheme::Sha512Crypt => below(Weakness::Rounds, costs.rounds, least.sha512_rounds),
-        Scheme::Bcrypt | Scheme::BcryptDigest => below(
-            Weakness::Cost,
-            costs.cost,
-            least.bcrypt_cost,
-        ),
-        Scheme::Yescrypt => below(
-            Weakness::Memory,
-            memory(CostFamily::Yescrypt, costs),
-            least.yescrypt_memory,
-        ),
-        Scheme::ScryptCrypt | Scheme::Scrypt => scrypt_weakness(least, costs),
-        Scheme::Pbkdf2Sha256 => below(Weakness::Rounds, costs.rounds, least.pbkdf2_sha256_rounds),
-        Scheme::Pbkdf2Sha512 => below(Weakness::Rounds, costs.rounds, least.pbkdf2_sha512_rounds),
-        Scheme::Argon2d | Scheme::Argon2i | Scheme::Argon2id => argon2_weakness(least, costs),
+        _ => family_weakness(least, scheme.family(), costs),
     }
 }
 
