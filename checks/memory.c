@@ -1,5 +1,5 @@
-/* How much memory the calls of libpwcheck take: none where pwcheck.h says so, none for a text above its limit, and where a request is
- * refused the answer says it and nothing was written. To be linked with --wrap=malloc,--wrap=mmap, which the library calls by these names. */
+/* How much memory the calls of libpwcheck take: none where pwcheck.h says so, none for a text above its limit or for a buffer that is too
+ * short, and where a request is refused the answer says it and nothing was written. To be linked with --wrap=malloc,--wrap=mmap, which the library calls by these names. */
 #include <pwcheck.h>
 #include <stdio.h>
 #include <stdlib.h>
@@ -113,6 +113,28 @@ static void above_a_limit(void)
     NEED(clock() - start < CLOCKS_PER_SEC / 4);
 }
 
+/* Makers with a buffer one byte too short: the texts would take up to 2 GiB, and minutes to hours. None is begun. */
+static void short_buffers(void)
+{
+    static const uint8_t SHA_SALT[] = "saltsaltsaltsal";
+    clock_t start = clock();
+    memset(out, 'x', sizeof out);
+    len = 77;
+    TAKES(0, PWCHECK_NO_ROOM, pwcheck_argon2id_text(PASSWORD, 2, SALT, sizeof SALT, 2097152, 8, 1, out, 98, &len));
+    TAKES(0, PWCHECK_NO_ROOM, pwcheck_make(PASSWORD, 2, out, 96, &len));
+    TAKES(0, PWCHECK_NO_ROOM, pwcheck_yescrypt_text(PASSWORD, 2, SALT, sizeof SALT, 18, 32, 1024, out, 76, &len));
+    TAKES(0, PWCHECK_NO_ROOM, pwcheck_scrypt_text(PASSWORD, 2, SALT, sizeof SALT, 17, 8, 1024, out, 90, &len));
+    TAKES(0, PWCHECK_NO_ROOM, pwcheck_bcrypt_text(PASSWORD, 2, SALT, sizeof SALT, 31, out, 59, &len));
+    TAKES(0, PWCHECK_NO_ROOM, pwcheck_pbkdf2_sha256_text(PASSWORD, 2, SALT, sizeof SALT, 10000000, out, 96, &len));
+    TAKES(0, PWCHECK_NO_ROOM, pwcheck_sha256_crypt_text(PASSWORD, 2, SHA_SALT, 15, 999999999, out, 78, &len));
+    TAKES(0, PWCHECK_NO_ROOM, pwcheck_sha512_crypt_text(PASSWORD, 2, SHA_SALT, 15, 999999999, out, 121, &len));
+    NEED(clock() - start < CLOCKS_PER_SEC / 4);
+    NEED(len == 77 && out[0] == 'x' && !memcmp(out, out + 1, sizeof out - 1));
+    /* A byte more is enough. */
+    TAKES(1, PWCHECK_DONE, pwcheck_argon2id_text(PASSWORD, 2, SALT, sizeof SALT, 64, 2, 3, out, 94, &len));
+    NEED(len == 94);
+}
+
 /* With each request refused in turn, and with all of them. */
 static void refused_memory(void)
 {
@@ -148,6 +170,7 @@ int main(void)
     NEED(login(YESCRYPT) == PWCHECK_MATCH && requests > 0);
     without_memory();
     above_a_limit();
+    short_buffers();
     refused_memory();
     printf("memory.c: %d calls take the memory that pwcheck.h says\n", calls);
     return 0;
