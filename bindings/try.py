@@ -178,7 +178,7 @@ def compare_login(pwcheck):
     for text in texts:
         need(pwcheck.check_login(b"correct horse", text) == pwcheck.Answer.MATCH, "no match of a recommended text")
         need(pwcheck.check_login(b"Correct horse", text) == pwcheck.Answer.MISMATCH, "no mismatch of a recommended text")
-        need(not pwcheck.needs_remake(text) and pwcheck.needs_remake(text[:-1]), "a recommended text isn't one")
+        need(not pwcheck.needs_remake(text) and pwcheck.needs_remake(text[:-2]), "a recommended text isn't one")
         need(pwcheck.check_any(b"correct horse", text, pwcheck.LIMITS_LOGIN) == pwcheck.Answer.MATCH, "above the limits of a login")
     for text in ANY:
         need(pwcheck.check_login(b"secret", text) == pwcheck.Answer.MATCH, f"no match for {text}")
