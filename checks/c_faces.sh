@@ -34,7 +34,7 @@ python3 "$top/checks/exports.py" "$work/lib"
 gcc -std=c99 -O1 -Wall -Wextra -Werror -I "$work/lib/include" "$top/checks/c_calls.c" "$work/lib/lib/libpwcheck.a" -o "$work/c_calls"
 "$work/c_calls" "$top/crates/pwtool/data/lines.txt" "$top/crates/pwtool/stdout" short
 gcc -std=gnu99 -O1 -Wall -Wextra -Werror -I "$work/lib/include" "$top/checks/memory.c" "$work/lib/lib/libpwcheck.a" \
-  -Wl,--wrap=malloc,--wrap=mmap -o "$work/memory"
+  -Wl,--wrap=malloc,--wrap=mmap,--wrap=munmap,--wrap=madvise -o "$work/memory"
 "$work/memory"
 python3 "$work/tree/bindings/try.py" "$work/try"
 

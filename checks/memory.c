@@ -1,5 +1,7 @@
 /* How much memory the calls of libpwcheck take: none where pwcheck.h says so, none for a text above its limit or for a buffer that is too
- * short, and where a request is refused the answer says it and nothing was written. To be linked with --wrap=malloc,--wrap=mmap, which the library calls by these names. */
+ * short, and where a request is refused the answer says it and nothing was written; which tables are on huge pages, and that each goes back
+ * whole. To be linked with --wrap=malloc,--wrap=mmap,--wrap=munmap,--wrap=madvise, which the library calls by these names. */
+#include <errno.h>
 #include <pwcheck.h>
 #include <stdio.h>
 #include <stdlib.h>
@@ -8,11 +10,18 @@
 #include <time.h>
 
 static int requests, refused = -1;
+/* The bytes that are mapped, those for which huge pages were asked, and whether the kernel has none. */
+static size_t mapped, advised;
+static bool without_huge_pages;
 
 void *__real_malloc(size_t size);
 void *__wrap_malloc(size_t size);
 void *__real_mmap(void *at, size_t size, int protection, int flags, int file, off_t place);
 void *__wrap_mmap(void *at, size_t size, int protection, int flags, int file, off_t place);
+int __real_munmap(void *at, size_t size);
+int __wrap_munmap(void *at, size_t size);
+int __real_madvise(void *at, size_t size, int advice);
+int __wrap_madvise(void *at, size_t size, int advice);
 
 void *__wrap_malloc(size_t size)
 {
@@ -24,7 +33,23 @@ void *__wrap_mmap(void *at, size_t size, int protection, int flags, int file, of
     if (refused == -2)
         return MAP_FAILED;
     requests++;
+    mapped += size;
     return __real_mmap(at, size, protection, flags, file, place);
+}
+
+int __wrap_munmap(void *at, size_t size)
+{
+    mapped -= size;
+    return __real_munmap(at, size);
+}
+
+int __wrap_madvise(void *at, size_t size, int advice)
+{
+    advised += advice == MADV_HUGEPAGE ? size : 0;
+    if (!without_huge_pages)
+        return __real_madvise(at, size, advice);
+    errno = EINVAL;
+    return -1;
 }
 
 #define NEED(condition)                                                                       \
@@ -135,6 +160,30 @@ static void short_buffers(void)
     NEED(len == 94);
 }
 
+/* A table of so many KiB is in one mapping, for which huge pages are asked, or in none; it goes back whole. A kernel without huge pages
+ * changes no answer. */
+static void on_huge_pages(uint32_t memory, size_t wanted)
+{
+    for (int lacks = 0; lacks < 2; lacks++) {
+        without_huge_pages = lacks;
+        advised = 0;
+        errno = 0;
+        TAKES(1, PWCHECK_DONE, pwcheck_argon2id_text(PASSWORD, 2, SALT, sizeof SALT, memory, 1, 1, out, sizeof out, &len));
+        NEED(advised == wanted && mapped == 0 && errno == 0);
+    }
+    without_huge_pages = false;
+}
+
+static void huge_pages(void)
+{
+    on_huge_pages(2044, 0);
+    on_huge_pages(2048, 2 << 20);
+    on_huge_pages(2300, 2300 << 10);
+    on_huge_pages(2304, 4 << 20);
+    on_huge_pages(19456, 20 << 20);
+    on_huge_pages(24576, 24 << 20);
+}
+
 /* With each request refused in turn, and with all of them. */
 static void refused_memory(void)
 {
@@ -171,6 +220,7 @@ int main(void)
     without_memory();
     above_a_limit();
     short_buffers();
+    huge_pages();
     refused_memory();
     printf("memory.c: %d calls take the memory that pwcheck.h says\n", calls);
     return 0;
