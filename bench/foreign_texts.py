@@ -94,7 +94,7 @@ def of_django():
                      lambda rng, word: pbkdf2_text(rng, word, "äöü€漢\U0001F511", 12)),
         django_maker("argon2", "argon2", hashers.Argon2PasswordHasher(), argon2_text),
         django_maker("bcrypt", "bcrypt", bcrypt, lambda rng, word: bcrypt.encode(word, bcrypt.salt())),
-        django_maker("bcrypt_sha256", "unsupported-bcrypt-sha256", bcrypt_sha256,
+        django_maker("bcrypt_sha256", "bcrypt-digest", bcrypt_sha256,
                      lambda rng, word: bcrypt_sha256.encode(word, bcrypt_sha256.salt())),
         django_maker("pbkdf2_sha1", "unsupported-pbkdf2-sha1", hashers.PBKDF2SHA1PasswordHasher(),
                      lambda rng, word: hashers.PBKDF2SHA1PasswordHasher().encode(word, salt(rng), 3)),
@@ -166,7 +166,8 @@ def of_others():
         passlib_maker("md5_crypt", "md5-crypt", h.md5_crypt),
         passlib_maker("apr_md5_crypt", "md5-crypt", h.apr_md5_crypt),
         passlib_maker("pbkdf2_sha1", "unsupported-pbkdf2-sha1", h.pbkdf2_sha1, rounds(1, 100)),
-        passlib_maker("bcrypt_sha256", "unsupported-bcrypt-sha256", h.bcrypt_sha256, rounds(4, 5)),
+        passlib_maker("bcrypt_sha256", "bcrypt-digest", h.bcrypt_sha256, rounds(4, 5)),
+        passlib_maker("bcrypt_sha256, version 1", "bcrypt-digest", h.bcrypt_sha256, lambda rng: {"rounds": rng.randint(4, 5), "version": 1}),
         passlib_maker("des_crypt", "unsupported-scheme", h.des_crypt),
     ]
 

@@ -36,7 +36,8 @@ BOUNDS = ["--max-pbkdf2-rounds", "2000", "--max-scrypt-ln", "10", "--max-scrypt-
 
 
 # Identifiers that are read. passlib keeps others too, `$P$` and `$scram$`: such a text is kept as it is, and has no scheme here.
-READ = {"1", "5", "6", "7", "2a", "2b", "2y", "y", "scrypt", "argon2i", "argon2d", "argon2id", "pbkdf2-sha256", "pbkdf2-sha512"}
+READ = {"1", "5", "6", "7", "2a", "2b", "2y", "bcrypt-sha256", "bcrypt-sha256-hex", "wp", "y", "scrypt", "argon2i", "argon2d", "argon2id", "pbkdf2-sha256",
+        "pbkdf2-sha512"}
 
 
 def ask(words, lines):
@@ -78,7 +79,8 @@ def vectors(count, faults):
                       for user, (_, text, scheme, answer) in zip(users, told)]
             compare(maker, "join", texts, wanted, ask(["join", "--quiet", "--from", maker, "-", passwords], texts), count, faults)
         got = [row[1] for row in csv.reader(ask(["survey", "--quiet", "--csv", "--from", maker], texts))][1:]
-        names = {"1": "md5-crypt", "5": "sha256-crypt", "6": "sha512-crypt", "2a": "bcrypt", "2b": "bcrypt", "2y": "bcrypt", "y": "yescrypt", None: ""}
+        names = {"1": "md5-crypt", "5": "sha256-crypt", "6": "sha512-crypt", "2a": "bcrypt", "2b": "bcrypt", "2y": "bcrypt",
+                 "bcrypt-sha256": "bcrypt-digest", "bcrypt-sha256-hex": "bcrypt-digest", "wp": "bcrypt-digest", "y": "yescrypt", None: ""}
         compare(maker, "survey", texts, [names.get(scheme, scheme) for _, _, scheme, _ in told], got, count, faults)
 
 

@@ -149,8 +149,10 @@ def django(text):
         return as_it_is(rest, "$argon2")
     if (rest := after(text, "bcrypt$")) is not None:
         return as_it_is(rest, "$2")
-    return unread(text, [("pbkdf2-sha1", "pbkdf2_sha1$"), ("bcrypt-sha256", "bcrypt_sha256$"), ("sha1", "sha1$", "unsalted_sha1$"),
-                         ("md5", "md5$", "unsalted_md5$"), ("des-crypt", "crypt$")])
+    if (rest := after(text, "bcrypt_sha256$")) is not None:
+        need(rest.startswith("$2") and len(rest.encode()) == 60, "foreign-form")
+        return "$bcrypt-sha256-hex" + rest
+    return unread(text, [("pbkdf2-sha1", "pbkdf2_sha1$"), ("sha1", "sha1$", "unsalted_sha1$"), ("md5", "md5$", "unsalted_md5$"), ("des-crypt", "crypt$")])
 
 
 def werkzeug(text):
@@ -173,9 +175,9 @@ def passlib(text):
         if rest is not None and re.match("[0-9]", rest, re.ASCII):
             rounds, salt, key = cut(rest, "$", 3)
             return record(pbkdf2(name, rounds), salt, adapted, key, adapted)
-    if text.startswith("$") and not text.startswith(("$pbkdf2$", "$bcrypt-sha256$")):
+    if text.startswith("$") and not text.startswith("$pbkdf2$"):
         return text
-    return unread(text, [("pbkdf2-sha1", "$pbkdf2$"), ("bcrypt-sha256", "$bcrypt-sha256$")])
+    return unread(text, [("pbkdf2-sha1", "$pbkdf2$")])
 
 
 def digest(text):

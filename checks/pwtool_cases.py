@@ -118,7 +118,7 @@ MAKERS = [
 # Texts that aren't converted, and the words.
 REFUSED = [
     ("django", "scrypt$16$seasalt$8$2$x", "foreign-salt-length"), ("django", "scrypt$15$saltsalt$8$2$x", "foreign-cost"),
-    ("django", "bcrypt_sha256$$2b$04$x", "unsupported-bcrypt-sha256"), ("werkzeug", "pbkdf2:sha1:1$saltsalt$00", "unsupported-pbkdf2-sha1"),
+    ("django", "bcrypt_sha256$$2b$04$x", "foreign-form"), ("werkzeug", "pbkdf2:sha1:1$saltsalt$00", "unsupported-pbkdf2-sha1"),
     ("werkzeug", "scrypt$saltsalt$00", "foreign-form"), ("ldap", "{PBKDF2}1$c2FsdHNhbHQ$x", "unsupported-pbkdf2-sha1"),
     ("elasticsearch", "{PBKDF2_STRETCH}1$x$y", "unsupported-scheme"), ("dovecot", "{SHA512-CRYPT.HEX}24", "unsupported-scheme"),
     ("dovecot", "{SCRAM-SHA-256}4096,x,y,z", "unsupported-scram"), ("spring", "{pbkdf2}00", "unsupported-pbkdf2-sha1"),
@@ -178,9 +178,8 @@ UNSUPPORTED = [
     ("$gy$j75$0123456789ab$mC3YjagUyvzAJ5CA/Fp0nFqQHGoO82aZKIXoVvjQaT9", "gost-yescrypt"),
     ("$sm3$salt$x", "sm3crypt"), ("$sm3y$j9T$salt$x", "sm3-yescrypt"),
     ("$P$6XoURWQxCkhkHhRVPCpro.6nTk2alE/", "phpass"), ("$H$6IWVjS43Lh/tjrTLy3sQt1i7cKhnE4/", "phpass"),
-    ("$bcrypt-sha256$v=2,t=2b,r=12$n79VH.0Q2TMWmt3Oqt9uku$Kq4Noyk3094Y2QlB8NdRT8SvGiI4ft2", "bcrypt-sha256"),
     ("$pbkdf2$20$cq61lvJey1kLodTam7NWCg$x37x/kfK1wss1PY/3KUJIAzZXi8", "pbkdf2-sha1"), ("$scram$20$wphTqrV27j0n5Lz3$sha-1=x", "scram"),
-    ("$wp$2y$10$x", "wordpress"), ("{SHA}5en6G6MezRroT3XKqkdPOmY/BfQ=", "ldap {SHA}"),
+    ("{SHA}5en6G6MezRroT3XKqkdPOmY/BfQ=", "ldap {SHA}"),
     ("{SSHA}DffeBf7vCTlc7hCF9FEi6uR9CVjxvpdS", "ldap {SSHA}"), ("{MD5}Xr4ilOzQ4PCOq3aQ0qbuaQ==", "ldap {MD5}"),
     ("{SMD5}3SU+TmEkJfPDUHOlzzm3DYjR+p8=", "ldap {SMD5}"), ("{SSHA256}Md4WXrn6ko/L5T3NTH75ms2oEuxmxihl1pT424srjlyyVsq5N6bUOg==", "ldap"),
     ("secret", "clear text or unknown"), ("$9$x", "clear text or unknown"),

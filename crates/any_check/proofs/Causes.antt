@@ -14,6 +14,7 @@ use Rattle.md5_plain.specs.declared.magic.Magic.{Magic}
 use Rattle.mcf.specs.Grammar.{Parts, mcf}
 use Rattle.mcf.specs.declared.error.Error as mcf_error
 use Rattle.bcrypt_plain.specs.Check.{bcrypt_answer}
+use Rattle.bcrypt_digest.specs.Check.{digest_answer}
 use Rattle.bcrypt_plain.specs.declared.error.BcryptError.{BcryptError}
 use Rattle.bcrypt_plain.specs.declared.error.BcryptError.TheVariants as of_bcrypt
 use Rattle.yescrypt_plain.specs.Check.{scrypt_answer, scrypt_matches, scrypt_verdict, yescrypt_answer, yescrypt_matches}
@@ -28,8 +29,9 @@ use Rattle.any_check.specs.declared.numbers.SchemeCosts.{SchemeCosts}
 use Rattle.any_check.specs.declared.error.AnyError.{AnyError}
 use Rattle.any_check.specs.declared.error.AnyError.TheVariants.{NoScheme, Stored}
 use Rattle.scheme_list.specs.declared.schemes.Scheme.{Scheme}
-use Rattle.scheme_list.specs.declared.schemes.Scheme.TheVariants.{Argon2d, Argon2i, Argon2id, Bcrypt, Md5Crypt, Pbkdf2Sha256}
-use Rattle.scheme_list.specs.declared.schemes.Scheme.TheVariants.{Pbkdf2Sha512, Scrypt, ScryptCrypt, Sha256Crypt, Sha512Crypt, Yescrypt}
+use Rattle.scheme_list.specs.declared.schemes.Scheme.TheVariants.{Argon2d, Argon2i, Argon2id, Bcrypt, BcryptDigest, Md5Crypt}
+use Rattle.scheme_list.specs.declared.schemes.Scheme.TheVariants.{Pbkdf2Sha256, Pbkdf2Sha512, Scrypt, ScryptCrypt, Sha256Crypt, Sha512Crypt}
+use Rattle.scheme_list.specs.declared.schemes.Scheme.TheVariants.{Yescrypt}
 
 abbrev Other : Result Bool AnyError → Type 0
 Other r = r ≢ Err (Stored OutOfMemory)
@@ -114,6 +116,7 @@ module _ (accepted : PasswordHash → List ℕ → ℕ → Bool) (tag : List ℕ
   by_row Bcrypt = of_check (bcrypt_answer password stored)
   by_row Yescrypt = of_yescrypt (yescrypt_answer password stored) (yescrypt_told password stored)
   by_row ScryptCrypt = of_scrypt (scrypt_answer password stored) (scrypt_told password stored)
+  by_row BcryptDigest = of_check (digest_answer password stored)
   by_row Scrypt = by_stored
   by_row Pbkdf2Sha256 = by_stored
   by_row Pbkdf2Sha512 = by_stored

@@ -1,4 +1,4 @@
--- The answer of each row, one lemma a check.
+-- The answers of SHA-crypt and of records by the row of their scheme, and the verdict by the row.
 use Rattle.std.proofs.Common.{◌≡◌, ℕ, ◌<◌, ◌≤◌, Bool, true, false, List, length, refl, sym, ap, ◌∙◌, arith, Option, Some, None}
 use Rattle.std.proofs.Common.{Result, Err, inl, inr}
 use Rattle.std.specs.Prelude.{◌&&◌, is_ok, nat_lt}
@@ -11,8 +11,8 @@ use Rattle.phc.specs.declared.password_hash.PasswordHash.{PasswordHash}
 use Rattle.md5_plain.specs.Verdict.{magic_of}
 use Rattle.md5_plain.specs.declared.magic.Magic.{Magic}
 use Rattle.scheme_list.specs.declared.schemes.Scheme.{Scheme}
-use Rattle.scheme_list.specs.declared.schemes.Scheme.TheVariants.{Argon2d, Argon2i, Argon2id, Bcrypt, Md5Crypt, Pbkdf2Sha256}
-use Rattle.scheme_list.specs.declared.schemes.Scheme.TheVariants.{Pbkdf2Sha512, Scrypt, ScryptCrypt, Yescrypt}
+use Rattle.scheme_list.specs.declared.schemes.Scheme.TheVariants.{Argon2d, Argon2i, Argon2id, Pbkdf2Sha256}
+use Rattle.scheme_list.specs.declared.schemes.Scheme.TheVariants.{Pbkdf2Sha512, Scrypt}
 use Rattle.sha_crypt.specs.Records.{family_scheme}
 use Rattle.sha_crypt.specs.declared.errors.Family.{Family}
 use Rattle.pieces.specs.Faults.{value_or_fault}
@@ -21,14 +21,10 @@ use Rattle.stored_check.specs.Verdict.{IsVerdict, may_lack_memory, mcf_name, nam
 use Rattle.stored_check.specs.declared.error.StoredError.{StoredError}
 use Rattle.md5_plain.specs.declared.magic.Magic.{Magic}
 use Rattle.stored_check.specs.declared.error.StoredError.TheVariants.{Mcf, PasswordTooLong}
-use Rattle.bcrypt_plain.specs.Check.{bcrypt_answer}
-use Rattle.bcrypt_plain.specs.declared.error.BcryptError.{BcryptError}
-use Rattle.yescrypt_plain.specs.Check.{IsAnswer, scrypt_answer, yescrypt_answer}
-use Rattle.yescrypt_plain.specs.declared.error.CheckError.{CheckError}
 use Rattle.any_check.specs.Kinds.{md5_by_magic, md5_kind}
 use Rattle.any_check.specs.declared.kinds.TextKind.TheVariants.{Invalid}
-use Rattle.any_check.specs.Table.{IsAnyVerdict, any_may_lack, any_verdict, identifier, is_record, md5_answer, md5_by, of_bcrypt_check}
-use Rattle.any_check.specs.Table.{of_scrypt_check, of_stored, of_yescrypt_check, row, row_may_lack, sha_scheme, text_scheme}
+use Rattle.any_check.specs.Table.{IsAnyVerdict, any_may_lack, any_verdict, identifier, is_record, md5_answer, md5_by}
+use Rattle.any_check.specs.Table.{of_stored, row, row_may_lack, sha_scheme, text_scheme}
 use Rattle.any_check.specs.declared.error.AnyError.{AnyError}
 use Rattle.any_check.specs.declared.error.AnyError.TheVariants.{NoScheme, Stored}
 use Rattle.any_check.proofs.Families.{family_if_sha, record_stored, sha_stored}
@@ -90,10 +86,6 @@ module _ (accepted : PasswordHash → List ℕ → ℕ → Bool) (tag : List ℕ
       rw (sha_needs stored (fault stored) family needs_memory (family_if_sha stored family is))
       (and_false (is_ok (verdict accepted tag password stored)))
 
-  -- `1`, `apr1`
-  pub md5_row : (r : Result Bool AnyError) → r ≡ md5_answer password (mcf stored) → OfRow Md5Crypt r
-  md5_row r h = inl h
-
   -- `5`, `6`
   pub sha_row : (family : Family) → text_scheme stored ≡ Some (sha_scheme family) → (r : Result Bool StoredError)
       → IsVerdict (verdict accepted tag password stored)
@@ -101,26 +93,6 @@ module _ (accepted : PasswordHash → List ℕ → ℕ → Bool) (tag : List ℕ
   sha_row family is r h = elim h [
     | inl same ↦ inl (ap of_stored same ∙ sym (sha_stored accepted tag password stored family))
     | inr lack ↦ absurd (false≢true (sym (sha_never family is) ∙ lack.1))
-  ]
-
-  -- `2a`, `2b`, `2y`
-  pub bcrypt_row : (r : Result (Unit {0}) BcryptError) → r ≡ bcrypt_answer password stored → OfRow Bcrypt (of_bcrypt_check r)
-  bcrypt_row r h = inl (ap of_bcrypt_check h)
-
-  -- `y`
-  pub yescrypt_row : (r : Result (Unit {0}) CheckError) → IsAnswer (yescrypt_answer password stored) r
-      → OfRow Yescrypt (of_yescrypt_check r)
-  yescrypt_row r h = elim h [
-    | inl same ↦ inl (ap of_yescrypt_check same)
-    | inr lack ↦ inr (ap of_yescrypt_check lack.0, lack.1)
-  ]
-
-  -- `7`
-  pub scrypt_row : (r : Result (Unit {0}) CheckError) → IsAnswer (scrypt_answer password stored) r
-      → OfRow ScryptCrypt (of_scrypt_check r)
-  scrypt_row r h = elim h [
-    | inl same ↦ inl (ap of_scrypt_check same)
-    | inr lack ↦ inr (ap of_scrypt_check lack.0, lack.1)
   ]
 
   record_lack : (scheme : Scheme) → is_record (Some scheme) ≡ true

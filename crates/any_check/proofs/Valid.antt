@@ -23,9 +23,12 @@ use Rattle.stored_check.proofs.Causes.{fits}
 use Rattle.stored_check.specs.Verdict as stored_verdict
 use Rattle.stored_check.specs.Verdict.{key_answer, named_family, phc_answer, same_text, scheme_of, sha_answer, verdict}
 use Rattle.stored_check.specs.declared.error.StoredError.{StoredError}
-use Rattle.bcrypt_plain.specs.Check.{bcrypt_answer, has_zero, hash_matches, parts_answer}
+use Rattle.bcrypt_plain.specs.Check.{bcrypt_answer, has_zero, hash_matches, is_verdict, parts_answer}
 use Rattle.bcrypt_plain.specs.Text.{Parts, parts_cost, text_parts}
-use Rattle.bcrypt_plain.specs.declared.error.BcryptError.TheVariants.{HashMismatch}
+use Rattle.bcrypt_digest.specs.Check.{digest_answer, digest_cost}
+use Rattle.bcrypt_digest.proofs.Answers.{verdict_where_cost}
+use Rattle.bcrypt_plain.specs.declared.error.BcryptError.{BcryptError}
+use Rattle.bcrypt_plain.specs.declared.error.BcryptError.TheVariants.{HashMismatch, InvalidFormat, ZeroByte}
 use Rattle.bcrypt_plain.specs.declared.error.BcryptFault.{BcryptFault}
 use Rattle.yescrypt_plain.specs.Check.{scrypt_answer, scrypt_matches, scrypt_verdict, yescrypt_answer, yescrypt_matches}
 use Rattle.yescrypt_plain.specs.Check.{yescrypt_verdict}
@@ -46,8 +49,9 @@ use Rattle.any_check.specs.declared.kinds.TextKind.TheVariants.{Invalid, NoSchem
 use Rattle.any_check.specs.declared.numbers.SchemeCosts.{SchemeCosts}
 use Rattle.scheme_list.specs.Schemes.{row_of, scheme_named}
 use Rattle.scheme_list.specs.declared.schemes.Scheme.{Scheme as StoredScheme}
-use Rattle.scheme_list.specs.declared.schemes.Scheme.TheVariants.{Argon2d, Argon2i, Argon2id, Bcrypt, Md5Crypt, Pbkdf2Sha256}
-use Rattle.scheme_list.specs.declared.schemes.Scheme.TheVariants.{Pbkdf2Sha512, Scrypt, ScryptCrypt, Sha256Crypt, Sha512Crypt, Yescrypt}
+use Rattle.scheme_list.specs.declared.schemes.Scheme.TheVariants.{Argon2d, Argon2i, Argon2id, Bcrypt, BcryptDigest, Md5Crypt}
+use Rattle.scheme_list.specs.declared.schemes.Scheme.TheVariants.{Pbkdf2Sha256, Pbkdf2Sha512, Scrypt, ScryptCrypt, Sha256Crypt, Sha512Crypt}
+use Rattle.scheme_list.specs.declared.schemes.Scheme.TheVariants.{Yescrypt}
 use Rattle.sha_crypt.specs.declared.errors.Family.TheVariants.{Sha256, Sha512}
 use Rattle.any_check.proofs.Bound.{mcf_of_fault, mcf_of_valid}
 use Rattle.any_check.proofs.Families.{family_if_sha, no_family, sha_same}
@@ -96,14 +100,31 @@ by_match true = refl
 by_match false = refl
 
 bcrypt_agree : (password : List ℕ) → has_zero password ≡ false → (r : Result Parts BcryptFault)
-    → Agree (of_bcrypt_check (parts_answer password r)) (bcrypt_kind (parts_cost r))
+    → Agree (of_bcrypt_check (parts_answer password r)) (bcrypt_kind Bcrypt (parts_cost r))
 bcrypt_agree password zero (Err e) = refl
 bcrypt_agree password zero (Ok p) = rw zero (by_match (hash_matches password p))
 
 bcrypt_valid : (password : List ℕ) (r : Result Parts BcryptFault) → is_ok (of_bcrypt_check (parts_answer password r)) ≡ true
-    → is_valid (bcrypt_kind (parts_cost r)) ≡ true
+    → is_valid (bcrypt_kind Bcrypt (parts_cost r)) ≡ true
 bcrypt_valid password (Err e) h = h
 bcrypt_valid password (Ok p) h = refl
+
+-- ---- bcrypt of a digest, which has a verdict on every password
+
+compared : (r : Result (Unit {0}) BcryptError) → is_ok (of_bcrypt_check r) ≡ is_verdict r
+compared (Ok done) = refl
+compared (Err HashMismatch) = refl
+compared (Err ZeroByte) = refl
+compared (Err (InvalidFormat e)) = refl
+
+costed : (r : Result ℕ BcryptFault) → is_ok r ≡ is_valid (bcrypt_kind BcryptDigest r)
+costed (Err e) = refl
+costed (Ok cost) = refl
+
+digest_agree : (password stored : List ℕ)
+    → Agree (of_bcrypt_check (digest_answer password stored)) (bcrypt_kind BcryptDigest (digest_cost stored))
+digest_agree password stored =
+    compared (digest_answer password stored) ∙ verdict_where_cost password stored ∙ costed (digest_cost stored)
 
 -- ---- yescrypt and scrypt in crypt's own form
 
@@ -231,6 +252,7 @@ module _ (accepted : PasswordHash → List ℕ → ℕ → Bool) (tag : List ℕ
         (bcrypt_valid password (text_parts stored), λ zero. bcrypt_agree password zero (text_parts stored))
     by_row (Some Yescrypt) is = both _ _ (yescrypt_agree password short (yescrypt_text stored))
     by_row (Some ScryptCrypt) is = both _ _ (scrypt_agree password short (scrypt_text stored))
+    by_row (Some BcryptDigest) is = both _ _ (digest_agree password stored)
     by_row (Some Scrypt) is = both _ _ (record_row Scrypt refl is)
     by_row (Some Pbkdf2Sha256) is = both _ _ (record_row Pbkdf2Sha256 refl is)
     by_row (Some Pbkdf2Sha512) is = both _ _ (record_row Pbkdf2Sha512 refl is)

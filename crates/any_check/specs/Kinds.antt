@@ -11,8 +11,9 @@ use Rattle.scheme_list.specs.Schemes.{row_of}
 use Rattle.scheme_list.specs.declared.schemes.CostFamily.{CostFamily}
 use Rattle.scheme_list.specs.declared.schemes.CostFamily.TheVariants as of
 use Rattle.scheme_list.specs.declared.schemes.Scheme.{Scheme}
-use Rattle.scheme_list.specs.declared.schemes.Scheme.TheVariants.{Argon2d, Argon2i, Argon2id, Bcrypt, Md5Crypt, Pbkdf2Sha256}
-use Rattle.scheme_list.specs.declared.schemes.Scheme.TheVariants.{Pbkdf2Sha512, Scrypt, ScryptCrypt, Sha256Crypt, Sha512Crypt, Yescrypt}
+use Rattle.scheme_list.specs.declared.schemes.Scheme.TheVariants.{Argon2d, Argon2i, Argon2id, Bcrypt, BcryptDigest, Md5Crypt}
+use Rattle.scheme_list.specs.declared.schemes.Scheme.TheVariants.{Pbkdf2Sha256, Pbkdf2Sha512, Scrypt, ScryptCrypt, Sha256Crypt, Sha512Crypt}
+use Rattle.scheme_list.specs.declared.schemes.Scheme.TheVariants.{Yescrypt}
 use Rattle.phc_kdf.specs.Numbers.{number}
 use Rattle.sha_crypt.specs.Fields.{ShaFields}
 use Rattle.sha_crypt.specs.Records.{record_of}
@@ -21,6 +22,7 @@ use Rattle.sha_crypt.specs.declared.errors.Family.{Family}
 use Rattle.sha_crypt.specs.declared.errors.Family.TheVariants.{Sha256, Sha512}
 use Rattle.bcrypt_plain.specs.Text.{text_cost}
 use Rattle.bcrypt_plain.specs.declared.error.BcryptFault.{BcryptFault}
+use Rattle.bcrypt_digest.specs.Check.{digest_cost}
 use Rattle.yescrypt_plain.specs.Text.{scrypt_costs, yescrypt_costs}
 use Rattle.yescrypt_plain.specs.declared.error.TextFault.{TextFault}
 use Rattle.yescrypt_plain.specs.declared.params.ScryptParams.{ScryptParams}
@@ -66,10 +68,10 @@ sha_kind family (Ok f) = asks (sha_scheme family) (of_rounds f.rounds)
 abbrev pub sha_text_kind : Family → List ℕ → TextKind
 sha_text_kind family stored = if is_ok (mcf stored) then sha_kind family (record_of family stored) else Invalid
 
--- bcrypt: the cost
-abbrev pub bcrypt_kind : Result ℕ BcryptFault → TextKind
-bcrypt_kind (Err e) = Invalid
-bcrypt_kind (Ok cost) = asks Bcrypt (of_cost cost)
+-- bcrypt, also of a digest: the cost
+abbrev pub bcrypt_kind : Scheme → Result ℕ BcryptFault → TextKind
+bcrypt_kind scheme (Err e) = Invalid
+bcrypt_kind scheme (Ok cost) = asks scheme (of_cost cost)
 
 -- yescrypt: the binary logarithm of N, r and t
 abbrev pub yescrypt_kind : Result YescryptParams TextFault → TextKind
@@ -120,9 +122,10 @@ module _ (accepted : PasswordHash → List ℕ → ℕ → Bool) where
   row_kind Md5Crypt stored = md5_kind (mcf stored)
   row_kind Sha256Crypt stored = sha_text_kind Sha256 stored
   row_kind Sha512Crypt stored = sha_text_kind Sha512 stored
-  row_kind Bcrypt stored = bcrypt_kind (text_cost stored)
+  row_kind Bcrypt stored = bcrypt_kind Bcrypt (text_cost stored)
   row_kind Yescrypt stored = yescrypt_kind (yescrypt_costs stored)
   row_kind ScryptCrypt stored = scrypt_kind (scrypt_costs stored)
+  row_kind BcryptDigest stored = bcrypt_kind BcryptDigest (digest_cost stored)
   row_kind Scrypt stored = record_kind Scrypt stored
   row_kind Pbkdf2Sha256 stored = record_kind Pbkdf2Sha256 stored
   row_kind Pbkdf2Sha512 stored = record_kind Pbkdf2Sha512 stored

@@ -6,8 +6,9 @@ use Rattle.mcf.specs.declared.error.Error as mcf_error
 use Rattle.phc.specs.declared.password_hash.PasswordHash.{PasswordHash}
 use Rattle.scheme_list.specs.Schemes.{row_of, scheme_named}
 use Rattle.scheme_list.specs.declared.schemes.Scheme.{Scheme}
-use Rattle.scheme_list.specs.declared.schemes.Scheme.TheVariants.{Argon2d, Argon2i, Argon2id, Bcrypt, Md5Crypt, Pbkdf2Sha256}
-use Rattle.scheme_list.specs.declared.schemes.Scheme.TheVariants.{Pbkdf2Sha512, Scrypt, ScryptCrypt, Sha256Crypt, Sha512Crypt, Yescrypt}
+use Rattle.scheme_list.specs.declared.schemes.Scheme.TheVariants.{Argon2d, Argon2i, Argon2id, Bcrypt, BcryptDigest, Md5Crypt}
+use Rattle.scheme_list.specs.declared.schemes.Scheme.TheVariants.{Pbkdf2Sha256, Pbkdf2Sha512, Scrypt, ScryptCrypt, Sha256Crypt, Sha512Crypt}
+use Rattle.scheme_list.specs.declared.schemes.Scheme.TheVariants.{Yescrypt}
 use Rattle.sha_crypt.specs.declared.errors.Family.{Family}
 use Rattle.sha_crypt.specs.declared.errors.Family.TheVariants.{Sha256, Sha512}
 use Rattle.phc_kdf.specs.Limits.{password_max}
@@ -23,6 +24,7 @@ use Rattle.bcrypt_plain.specs.declared.error.BcryptError.{BcryptError}
 use Rattle.bcrypt_plain.specs.declared.error.BcryptError.TheVariants as of_bcrypt
 use Rattle.bcrypt_plain.specs.declared.error.BcryptFault.{BcryptFault}
 use Rattle.bcrypt_plain.specs.declared.error.BcryptFault.TheVariants as of_fault
+use Rattle.bcrypt_digest.specs.Check.{digest_answer}
 use Rattle.yescrypt_plain.specs.Check.{is_verdict, scrypt_answer, yescrypt_answer}
 use Rattle.yescrypt_plain.specs.declared.error.CheckError.{CheckError}
 use Rattle.yescrypt_plain.specs.declared.error.CheckError.TheVariants as of_crypt
@@ -63,7 +65,7 @@ abbrev pub of_md5 : Result Bool Md5Fault → Result Bool AnyError
 of_md5 (Ok b) = Ok b
 of_md5 (Err e) = Err (cause.Md5 e)
 
--- of `bcrypt_check`, for which another password is a fault
+-- of `bcrypt_check` and `digest_check`, for which another password is a fault
 abbrev pub of_bcrypt_check : Result (Unit {0}) BcryptError → Result Bool AnyError
 of_bcrypt_check (Ok done) = Ok true
 of_bcrypt_check (Err of_bcrypt.HashMismatch) = Ok false
@@ -114,6 +116,7 @@ module _ (accepted : PasswordHash → List ℕ → ℕ → Bool) (tag : List ℕ
   row Bcrypt password stored = of_bcrypt_check (bcrypt_answer password stored)
   row Yescrypt password stored = of_yescrypt_check (yescrypt_answer password stored)
   row ScryptCrypt password stored = of_scrypt_check (scrypt_answer password stored)
+  row BcryptDigest password stored = of_bcrypt_check (digest_answer password stored)
   row Scrypt password stored = stored_row password stored
   row Pbkdf2Sha256 password stored = stored_row password stored
   row Pbkdf2Sha512 password stored = stored_row password stored
@@ -146,6 +149,7 @@ module _ (accepted : PasswordHash → List ℕ → ℕ → Bool) (needs_memory :
   row_may_lack (Some Bcrypt) password stored = false
   row_may_lack (Some Yescrypt) password stored = is_verdict (yescrypt_answer password stored)
   row_may_lack (Some ScryptCrypt) password stored = is_verdict (scrypt_answer password stored)
+  row_may_lack (Some BcryptDigest) password stored = false
   row_may_lack (Some Scrypt) password stored = may_lack_memory accepted needs_memory tag password stored
   row_may_lack (Some Pbkdf2Sha256) password stored = may_lack_memory accepted needs_memory tag password stored
   row_may_lack (Some Pbkdf2Sha512) password stored = may_lack_memory accepted needs_memory tag password stored
@@ -166,7 +170,7 @@ IsAnyVerdict verdict may_lack answer =
 
 -- ---- words
 
--- the word of a fault of a text of bcrypt; the last line is for the faults of its form
+-- the word of a fault of a text of bcrypt, be a digest in front or not; the last line is for the faults of its form
 abbrev pub bcrypt_word : BcryptFault → List ℕ
 bcrypt_word of_fault.Obsolete = codes "bcrypt-obsolete"
 bcrypt_word of_fault.Cost = codes "bcrypt-cost"
@@ -190,7 +194,7 @@ scrypt_word of_text.Memory = codes "scrypt-cost"
 scrypt_word of_text.Cost = codes "scrypt-cost"
 scrypt_word fault = codes "scrypt-format"
 
--- those of `check_stored`, and a few for each further scheme; want of memory has none
+-- those of `check_stored`, and a few for each further scheme; nothing is out of memory there
 abbrev pub any_word : Result Bool AnyError → List ℕ
 any_word (Ok b) = word (Ok b)
 any_word (Err (cause.Stored e)) = word (Err e)

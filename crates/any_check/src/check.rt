@@ -9,6 +9,7 @@ ghost use Rattle.any_check.specs.Cost.{verdict_within, within_may_lack};
 use crate::cost::is_costly;
 use crate::{AnyError, Scheme, SchemeCosts, scheme_of_text};
 use base64ct::Counts;
+use bcrypt_digest::digest_check;
 use bcrypt_plain::{BcryptError, bcrypt_check};
 use mcf::PasswordHashRef;
 use md5_plain::{Md5Fault, magic_of, md5_verdict};
@@ -50,7 +51,7 @@ fn md5_checked(password: &str, stored: &str) -> Result<bool, AnyError>
     }
 }
 
-// An answer of `bcrypt_check`.
+// An answer of `bcrypt_check` or of `digest_check`.
 fn of_bcrypt_check(answer: Result<(), BcryptError>) -> Result<bool, AnyError>
     ensures { result ≡ of_bcrypt_check answer }
 {
@@ -115,6 +116,7 @@ fn checked<K: PhcKdf>(
             let mut counts = Counts::new();
             of_scrypt_check(scrypt_check_kept(alloc, kept, password, stored, &mut counts))
         }
+        Scheme::BcryptDigest => of_bcrypt_check(digest_check(password, stored)),
         Scheme::Sha256Crypt | Scheme::Sha512Crypt => of_stored(check_stored(
             alloc, kdf, password, stored,
         )),
@@ -130,7 +132,7 @@ fn checked<K: PhcKdf>(
 /// Checks a password against a stored text of any scheme, and answers whether it matches.
 ///
 /// What stands between the first two `$` of the text names the scheme ([`Scheme`]), and the answer is
-/// that of the scheme's own check: `md5_verdict` for md5-crypt, `bcrypt_check` for bcrypt, `yescrypt_check` and
+/// that of the scheme's own check: `md5_verdict` for md5-crypt, `bcrypt_check` for bcrypt, `digest_check` for bcrypt of a digest, `yescrypt_check` and
 /// `scrypt_check` for `y` and `7`, in the tables that `kept` keeps, `check_stored` for SHA-crypt and for records, whose keys
 /// `kdf` derives. Only a record's key and these tables take memory.
 ///

@@ -19,7 +19,7 @@ pub enum AnyError {
     NoScheme,
     /// The text is no md5-crypt text, though its identifier is `1` or `apr1`.
     Md5(Md5Fault),
-    /// The text is no bcrypt text that is checked, though its identifier is one of bcrypt's.
+    /// The text is no bcrypt text that is checked, though its identifier is one of bcrypt's or of bcrypt's with a digest in front.
     Bcrypt(BcryptFault),
     /// The text is no text `$y$` that is taken, though its identifier is `y`.
     Yescrypt(TextFault),
@@ -72,7 +72,7 @@ fn scrypt_word(fault: TextFault) -> &'static str
 }
 
 /// The word of an answer of [`check_any`](crate::check_any): `pwcheck`'s words; `no-scheme`; `md5-format` for each fault of a
-/// text of md5-crypt; `bcrypt-obsolete`, `bcrypt-cost`, `bcrypt-b64` and, for each other fault of a text of bcrypt,
+/// text of md5-crypt; `bcrypt-obsolete`, `bcrypt-cost`, `bcrypt-b64` and, for each other fault of a text of bcrypt, be a digest in front or not,
 /// `bcrypt-format`; `yescrypt-flavor`, `yescrypt-cost` and `yescrypt-format`; `scrypt-cost` and `scrypt-format` for faults
 /// of a text `$7$`; `zero-byte`; and `too-costly`. Want of memory has none.
 pub fn any_word(answer: &Result<bool, AnyError>) -> &'static str

@@ -1,7 +1,6 @@
 //! What a stored text is, and what it asks for.
 
 ghost use Rattle.std.specs.Prelude.{◌≡◌, is_ok, unwrap_or};
-ghost use Rattle.bcrypt_plain.specs.Text.{text_cost};
 ghost use Rattle.mcf.specs.Grammar.{mcf};
 ghost use Rattle.mcf.specs.Views.{fields_left};
 ghost use Rattle.phc.specs.Record.{phc_text};
@@ -12,7 +11,8 @@ ghost use Rattle.yescrypt_plain.specs.Text.{scrypt_costs, yescrypt_costs};
 ghost use Rattle.any_check.specs.Kinds.{asks, bcrypt_kind, md5_fields_kind, md5_kind, phc_kind, record_costs, record_kind, row_kind, salted_kind, scrypt_kind, sha_kind, sha_text_kind, text_kind, yescrypt_kind};
 
 use crate::{Costs, NO_COSTS, TextCosts, scheme_of_text, sha_scheme};
-use bcrypt_plain::text_cost;
+use bcrypt_digest::digest_cost;
+use bcrypt_plain::{BcryptFault, text_cost};
 use mcf::{Fields, PasswordHashRef};
 use md5_plain::{are_md5_fields, magic_of};
 use phc::PasswordHash;
@@ -163,11 +163,12 @@ fn md5_kind(stored: &str) -> TextKind
     }
 }
 
-fn bcrypt_kind(stored: &str) -> TextKind
-    ensures { result ≡ bcrypt_kind (text_cost stored.now) }
+// A text of bcrypt, also of a digest, by its cost.
+fn bcrypt_kind(scheme: Scheme, cost: Result<u32, BcryptFault>) -> TextKind
+    ensures { result ≡ bcrypt_kind scheme cost }
 {
-    match text_cost(stored) {
-        Ok(cost) => asks(Scheme::Bcrypt, Costs::of_cost(cost as u64)),
+    match cost {
+        Ok(cost) => asks(scheme, Costs::of_cost(cost as u64)),
         Err(_) => TextKind::Invalid,
     }
 }
@@ -204,9 +205,10 @@ fn row_kind<K: PhcKdf>(kdf: &K, scheme: Scheme, stored: &str) -> TextKind
         Scheme::Md5Crypt => md5_kind(stored),
         Scheme::Sha256Crypt => sha_text_kind(Family::Sha256, stored),
         Scheme::Sha512Crypt => sha_text_kind(Family::Sha512, stored),
-        Scheme::Bcrypt => bcrypt_kind(stored),
+        Scheme::Bcrypt => bcrypt_kind(Scheme::Bcrypt, text_cost(stored)),
         Scheme::Yescrypt => yescrypt_kind(stored),
         Scheme::ScryptCrypt => scrypt_kind(stored),
+        Scheme::BcryptDigest => bcrypt_kind(Scheme::BcryptDigest, digest_cost(stored)),
         Scheme::Scrypt
         | Scheme::Pbkdf2Sha256
         | Scheme::Pbkdf2Sha512

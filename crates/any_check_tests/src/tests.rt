@@ -1,4 +1,4 @@
-//! Texts that outside programs made: openssl, glibc's and libxcrypt's crypt, Python's hashlib and the program argon2.
+//! Texts that outside programs made: openssl, glibc's and libxcrypt's crypt, Python's hashlib, hmac and passlib, and the program argon2.
 
 use any_check::{
     AnyError, Costs, NO_COSTS, PlainRecords, Scheme, SchemeCosts, TextKind, any_word, check_any,
@@ -18,7 +18,7 @@ fn word_of(answer: &Result<bool, AnyError>) -> &'static str {
 }
 
 // Texts of the password `secret`.
-pub const TEXTS: [&str; 16] = [
+pub const TEXTS: [&str; 20] = [
     "$1$abcdefgh$cHJi5PXp/ki/ktXzqlk6I1",
     "$apr1$abcdefgh$h9FWgUz3n9YxylKLlR5SQ/",
     "$5$abcdefgh$gruCpC7VkOTspMQTTSAR8mtlO9Upms.fwqE5y16JVM.",
@@ -35,10 +35,14 @@ pub const TEXTS: [&str; 16] = [
     "$y$j6///$./$eG1H3hAdiIw7LAyaeC1wsfq6rJHemsvZ8fPCiI8TWx/",
     "$7$4/....0....SodiumChloride$V4S.p0ArbLXh9bvI9g1ReO/qmFMyvEX4e98XynaDdN9",
     "$pbkdf2-sha512$i=999$c2FsdHNhbHRzYWx0$GK6ZfhTx3pI28IQ6HYQzaUek5XduggVQ0zhLSF6WB1ROBlCW2ybd4hR7tgTVg/2i//vv5K7hcJGgBedoUEO6ag",
+    "$bcrypt-sha256$v=2,t=2b,r=5$rQ4YSmKXcMgu5A9G67oqZe$S9cUb0ixwFd041WWlme5LZJoDd3KoHC",
+    "$bcrypt-sha256$2b,4$abcdefghijklmnopqrstuu$N9tMz1lMx9RK4tmPpgRXWaagQQdZIOO",
+    "$bcrypt-sha256-hex$2b$04$abcdefghijklmnopqrstuuraR8y8jUb0UMmCc9fwl/YxKZSpSs52u",
+    "$wp$2y$04$abcdefghijklmnopqrstuuEeHkRZpI6C0z7R9xxYj6cAAQJttpxEy",
 ];
 
 // Texts without a verdict, and their words.
-pub const FAULTS: [(&str, &str); 31] = [
+pub const FAULTS: [(&str, &str); 36] = [
     ("$1$abcdefgh", "md5-format"),
     ("$1$abcdefghi$cHJi5PXp/ki/ktXzqlk6I1", "md5-format"),
     ("$apr1$", "mcf-delimiter"),
@@ -101,6 +105,23 @@ pub const FAULTS: [(&str, &str); 31] = [
         "$7$T/..../....SodiumChloride$nlEbTww0ryKdVNlzWsYxiiWbBXRoFx2X8iNJtJTvzX.",
         "scrypt-cost",
     ),
+    (
+        "$bcrypt-sha256$v=3,t=2b,r=5$rQ4YSmKXcMgu5A9G67oqZe$S9cUb0ixwFd041WWlme5LZJoDd3KoHC",
+        "bcrypt-format",
+    ),
+    (
+        "$bcrypt-sha256$v=2,t=2b,r=3$rQ4YSmKXcMgu5A9G67oqZe$S9cUb0ixwFd041WWlme5LZJoDd3KoHC",
+        "bcrypt-cost",
+    ),
+    (
+        "$bcrypt-sha256-hex$2x$04$abcdefghijklmnopqrstuuraR8y8jUb0UMmCc9fwl/YxKZSpSs52u",
+        "bcrypt-obsolete",
+    ),
+    (
+        "$wp$2y$04$abcdefghijklmnopqrstuvEeHkRZpI6C0z7R9xxYj6cAAQJttpxEy",
+        "bcrypt-b64",
+    ),
+    ("$wp$2y$04$abcdefghijklmnopqrstuu", "bcrypt-format"),
     ("abJnggxhB/yWI", "no-scheme"),
     ("{SHA}5en6G6MezRroT3XKqkdPOmY/BfQ=", "no-scheme"),
     (
@@ -332,9 +353,10 @@ fn long_passwords(rt: HostRuntime) {
 }
 
 // Passwords and texts without a verdict, and the first cause.
-const CAUSES: [(&str, &str, AnyError); 3] = [
+const CAUSES: [(&str, &str, AnyError); 4] = [
     ("secret", "$1$abcdefgh", AnyError::Md5(Md5Fault::NoHash)),
     ("secret", "$2a$04", AnyError::Bcrypt(BcryptFault::NoHash)),
+    ("secret", "$wp$2y$04", AnyError::Bcrypt(BcryptFault::Length)),
     (
         "sec\0ret",
         "$2b$04$abcdefghijklmnopqrstuu2r9OfJnfCsdneAXAGHnS4UpFFP8WIrW",
@@ -352,6 +374,8 @@ fn first_causes(rt: HostRuntime) {
     }
     let got = word_of(&check_any(rt.alloc(), &kdf, &kept, "sec\0ret", TEXTS[5]));
     assert!(rt; got == "zero-byte", "{got}");
+    let got = word_of(&check_any(rt.alloc(), &kdf, &kept, "sec\0ret", TEXTS[17]));
+    assert!(rt; got == "mismatch", "{got}");
 }
 
 #[test]
@@ -365,6 +389,9 @@ fn schemes(rt: HostRuntime) {
         ("$2$", Scheme::Bcrypt),
         ("$y$j9T", Scheme::Yescrypt),
         ("$7$", Scheme::ScryptCrypt),
+        ("$bcrypt-sha256$x", Scheme::BcryptDigest),
+        ("$bcrypt-sha256-hex$2b", Scheme::BcryptDigest),
+        ("$wp", Scheme::BcryptDigest),
         ("$scrypt$x", Scheme::Scrypt),
         ("$argon2i", Scheme::Argon2i),
         ("$pbkdf2-sha512$x", Scheme::Pbkdf2Sha512),
@@ -392,7 +419,7 @@ fn no_scheme(rt: HostRuntime) {
 
 // Valid texts of which each digest takes a tenth of a second and more: of each variant and type, and where its texts have several
 // lengths, another one of more than 140 bytes or the shortest.
-pub const DEAR: [&str; 23] = [
+pub const DEAR: [&str; 27] = [
     "$5$rounds=999999999$abcdefgh$gruCpC7VkOTspMQTTSAR8mtlO9Upms.fwqE5y16JVM.",
     "$5$rounds=999999999$a$gruCpC7VkOTspMQTTSAR8mtlO9Upms.fwqE5y16JVM.",
     "$6$rounds=999999999$abcdefgh$ltjgWl6579NluT/Vi1nwEvcil.G5Nbc4NiXZaNGStk8PSwGfQv72N2CKPPrVACtLtip/cZ/1GM/O6IND4WQhG.",
@@ -400,6 +427,10 @@ pub const DEAR: [&str; 23] = [
     "$2a$31$abcdefghijklmnopqrstuu2r9OfJnfCsdneAXAGHnS4UpFFP8WIrW",
     "$2b$31$abcdefghijklmnopqrstuu2r9OfJnfCsdneAXAGHnS4UpFFP8WIrW",
     "$2y$31$abcdefghijklmnopqrstuu2r9OfJnfCsdneAXAGHnS4UpFFP8WIrW",
+    "$bcrypt-sha256$v=2,t=2b,r=31$rQ4YSmKXcMgu5A9G67oqZe$S9cUb0ixwFd041WWlme5LZJoDd3KoHC",
+    "$bcrypt-sha256$2a,31$abcdefghijklmnopqrstuu$N9tMz1lMx9RK4tmPpgRXWaagQQdZIOO",
+    "$bcrypt-sha256-hex$2a$31$abcdefghijklmnopqrstuuraR8y8jUb0UMmCc9fwl/YxKZSpSs52u",
+    "$wp$2y$31$abcdefghijklmnopqrstuuEeHkRZpI6C0z7R9xxYj6cAAQJttpxEy",
     "$y$jFT$0123456789ab$kb1fsIrDP1wOa4Q3gNpxZkfwQ3ce8kmPbnemuN65IT2",
     "$y$jFT$0123456789ab0123456789ab0123456789ab0123456789ab0123456789ab0123456789ab0123456789ab01$kb1fsIrDP1wOa4Q3gNpxZkfwQ3ce8kmPbnemuN65IT2",
     "$7$EU..../....SodiumChloride$V4S.p0ArbLXh9bvI9g1ReO/qmFMyvEX4e98XynaDdN9",

@@ -24,7 +24,7 @@ abbrev pub surveyed_text : ForeignFault → List ℕ
 surveyed_text Locked = codes "!"
 surveyed_text fault = fault_word fault
 
--- Where a text isn't converted, its cause's word is written, behind the user where there is one. A survey gets a text in its place.
+-- Where a text isn't converted, its cause's word is written, after the user where there is one. A survey gets a text in its place.
 abbrev pub refused : LineForm → Parts → ForeignFault → Handed
 refused Password p fault = Err (word_line fault)
 refused UserPassword p fault = Err (p.user ++ 9 ∷ word_line fault)

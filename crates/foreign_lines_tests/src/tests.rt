@@ -58,14 +58,16 @@ const DJANGO: &[u8] =
     secret\tpbkdf2_sha256$1000$abcdefgi$GHUbOYNfzc/1XP2MWJxQ0OB83AthJA5LJEJcJ6ahzFY=\n\
     secret\targon2$argon2id$v=19$m=64,t=1,p=1$c2FsdHNhbHRzYWx0$AC+v+iUUNjKqIQVBDjpkAw\n\
     secret\tbcrypt$$2b$04$abcdefghijklmnopqrstuu2r9OfJnfCsdneAXAGHnS4UpFFP8WIrW\n\
+    secret\tbcrypt_sha256$$2b$04$abcdefghijklmnopqrstuuraR8y8jUb0UMmCc9fwl/YxKZSpSs52u\n\
     secret\tbcrypt_sha256$$2b$04$abcdefghijklmnopqrstuu2r9OfJnfCsdneAXAGHnS4UpFFP8WIrW\n\
+    secret\tbcrypt_sha256$2b$04$abcdefghijklmnopqrstuu2r9OfJnfCsdneAXAGHnS4UpFFP8WIrW\n\
     secret\tpbkdf2_sha256$1000$seasalt$GHUbOYNfzc/1XP2MWJxQ0OB83AthJA5LJEJcJ6ahzFY=\n\
     \xff\tbcrypt_sha256$x\n\
     no tab\n\
     secret\t\n";
 
 const DJANGO_WORDS: &[u8] =
-    b"match\nmismatch\nmismatch\nmismatch\nmatch\nmatch\nunsupported-bcrypt-sha256\n\
+    b"match\nmismatch\nmismatch\nmismatch\nmatch\nmatch\nmatch\nmismatch\nforeign-form\n\
     foreign-salt-length\nbadline\nbadline\nunsupported-scheme\n";
 
 #[test]

@@ -1,6 +1,6 @@
 -- What a converter gives converts to itself.
 use Rattle.std.proofs.Common.{◌≡◌, ◌⊎◌, ℕ, Bool, true, false, List, [], ◌∷◌, length, refl, ap, ◌∙◌, sym, inl, inr, Ok, Err}
-use Rattle.std.specs.Prelude.{nat_le, take, drop, codes, ◌==◌, ◌&&◌, Option, Some, None, Result, if◌then◌else◌}
+use Rattle.std.specs.Prelude.{nat_le, ◌++◌, take, drop, codes, ◌==◌, ◌&&◌, Option, Some, None, Result, if◌then◌else◌}
 use Rattle.std.specs.List.{list_any}
 use Rattle.base64ct.specs.Alphabets.{base64, base64_crypt, base64_pbkdf2}
 use Rattle.phc.specs.Record.{record_text}
@@ -9,7 +9,7 @@ use Rattle.foreign_text.specs.Answers.{Answer, as_it_is, stored_or_unread}
 use Rattle.foreign_text.specs.AspNet.{aspnet, aspnet_bytes, aspnet_hash, aspnet_sized, aspnet_v3, aspnet_with, by_format, first_of, number_at}
 use Rattle.foreign_text.specs.Cisco.{cisco, cisco_fields, cisco_type, is_crypt_field}
 use Rattle.foreign_text.specs.Converted.{converted}
-use Rattle.foreign_text.specs.Django.{django, django_argon2, django_bcrypt, django_pbkdf2, django_pbkdf2_fields}
+use Rattle.foreign_text.specs.Django.{django, django_argon2, django_bcrypt, django_digest_text, django_pbkdf2, django_pbkdf2_fields}
 use Rattle.foreign_text.specs.Django.{django_scrypt, django_scrypt_fields}
 use Rattle.foreign_text.specs.Dovecot.{dovecot}
 use Rattle.foreign_text.specs.Elasticsearch.{elasticsearch}
@@ -39,6 +39,12 @@ use Rattle.foreign_text.proofs.Made.{made_first, no_ok, same_ok, signed, stays, 
 -- ---- makers whose own texts don't begin with `$`
 
 module _ (text stored : List ℕ) where
+  digest_first : (rest : List ℕ) → django_digest_text rest ≡ Ok stored → First stored
+  digest_first rest =
+      by_test (begins rest (codes "$2") && length rest == 60) (Ok (codes "$bcrypt-sha256-hex" ++ rest)) _ stored
+      (λ t h. held (codes "$bcrypt-sha256-hex" ++ rest) stored refl h)
+      (λ h. no_ok _ stored h)
+
   django_first : django text ≡ Ok stored → First stored
   unfolding django
   django_first =
@@ -52,7 +58,8 @@ module _ (text stored : List ℕ) where
       (λ rest h. signed (codes "argon2") rest stored Form h)
       (by_front django_bcrypt (behind text (codes "bcrypt$")) _ stored
       (λ rest h. signed (codes "2") rest stored Form h)
-      (λ h. no_ok _ stored h))))
+      (by_front django_digest_text (behind text (codes "bcrypt_sha256$")) _ stored digest_first
+      (λ h. no_ok _ stored h)))))
 
   werkzeug_first : werkzeug text ≡ Ok stored → First stored
   unfolding werkzeug

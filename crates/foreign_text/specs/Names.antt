@@ -3,7 +3,7 @@ use Rattle.std.specs.Prelude.{ℕ, Bool, ◌||◌, List, Option, Some, None, if�
 pub use Rattle.pieces.specs.Pieces.{begins}
 use Rattle.pieces.specs.Pieces.{behind}
 use Rattle.foreign_text.specs.declared.fault.Unread.{Unread}
-use Rattle.foreign_text.specs.declared.fault.Unread.TheVariants.{BcryptSha256, Cleartext, DesCrypt, Md5, Other, Pbkdf2Sha1}
+use Rattle.foreign_text.specs.declared.fault.Unread.TheVariants.{Cleartext, DesCrypt, Md5, Other, Pbkdf2Sha1}
 use Rattle.foreign_text.specs.declared.fault.Unread.TheVariants.{Sha1, Sha2}
 
 -- ---- Django's hashers (django.contrib.auth.hashers, `algorithm`) that aren't read
@@ -18,8 +18,7 @@ django_digest text =
 -- all that aren't read
 abbrev pub django_unread : List ℕ → Unread
 django_unread text =
-    if begins text (codes "pbkdf2_sha1$") then Pbkdf2Sha1
-    else (if begins text (codes "bcrypt_sha256$") then BcryptSha256 else django_digest text)
+    if begins text (codes "pbkdf2_sha1$") then Pbkdf2Sha1 else django_digest text
 
 -- ---- schemes of LDAP (RFC 2307, section 5.3; OpenLDAP's slapd and contrib/slapd-modules/passwd)
 
@@ -70,5 +69,4 @@ ldap_unread text =
 abbrev pub passlib_unread : List ℕ → Option Unread
 passlib_unread text =
     if begins text (codes "$pbkdf2$") then Some Pbkdf2Sha1
-    else (if begins text (codes "$bcrypt-sha256$") then Some BcryptSha256
-    else (if begins text (codes "$") then None else Some Other))
+    else (if begins text (codes "$") then None else Some Other)

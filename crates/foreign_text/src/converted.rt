@@ -23,7 +23,8 @@ use pieces::begins_with;
 /// Whose spelling a text has.
 #[derive(Clone, Copy, Debug, PartialEq, Eq)]
 pub enum Foreign {
-    /// Django: `pbkdf2_sha256$ROUNDS$SALT$KEY`, `scrypt$N$SALT$R$P$KEY`, `argon2$argon2id$..`, `bcrypt$$2b$..`.
+    /// Django: `pbkdf2_sha256$ROUNDS$SALT$KEY`, `scrypt$N$SALT$R$P$KEY`, `argon2$argon2id$..`, `bcrypt$$2b$..`,
+    /// `bcrypt_sha256$$2b$..`.
     Django,
     /// Werkzeug, which Flask's programs use: `scrypt:N:R:P$SALT$KEY`, `pbkdf2:sha256:ROUNDS$SALT$KEY`, `pbkdf2:sha512:..`.
     Werkzeug,

@@ -1,7 +1,7 @@
 //! Texts of Django's hashers.
 
 ghost use Rattle.std.specs.Prelude.{◌≡◌};
-ghost use Rattle.foreign_text.specs.Django.{django, django_pbkdf2, django_pbkdf2_fields, django_scrypt, django_scrypt_fields};
+ghost use Rattle.foreign_text.specs.Django.{django, django_digest_text, django_pbkdf2, django_pbkdf2_fields, django_scrypt, django_scrypt_fields};
 ghost use Rattle.foreign_text.specs.Fields.{in_five, in_three};
 ghost use Rattle.foreign_text.specs.Names.{django_digest, django_unread};
 ghost use Rattle.foreign_text.specs.Views.{as_answer, as_five, as_three};
@@ -11,6 +11,7 @@ use crate::fields::{Five, Three, field_bytes, five_at, pbkdf2_cost, scrypt_cost,
 use crate::kdf::{MadeText, Pbkdf2Hash, with_bytes};
 use crate::{ForeignFault, Unread};
 use base64ct::Base64;
+use pieces::short_bytes::ShortBytes;
 use pieces::{begins_with, behind};
 
 // The scheme of a digest without a cost.
@@ -34,8 +35,6 @@ fn django_unread(text: &str) -> Unread
 {
     if begins_with(text, "pbkdf2_sha1$") {
         Unread::Pbkdf2Sha1
-    } else if begins_with(text, "bcrypt_sha256$") {
-        Unread::BcryptSha256
     } else {
         django_digest(text)
     }
@@ -83,6 +82,18 @@ fn django_scrypt<'a>(rest: &'a str, made: &mut MadeText) -> Result<Option<&'a st
     put_made(scrypt_fields(five_at(rest, '$')), made)
 }
 
+// The text of bcrypt of a digest: our front in the place of the name.
+fn digest_text(rest: &str) -> Result<MadeText, ForeignFault>
+    ensures { result ≡ django_digest_text rest.now }
+{
+    if !begins_with(rest, "$2") || rest.len() != 60 {
+        return Err(ForeignFault::Form);
+    }
+    let mut text = ShortBytes::from_slice(b"$bcrypt-sha256-hex");
+    text.push_all(rest.as_bytes());
+    Ok(text)
+}
+
 /// The stored text of a text of Django.
 #[tactic(auto, unfolding(crate::specs::Django::django))]
 pub(crate) fn django<'a>(
@@ -102,6 +113,9 @@ pub(crate) fn django<'a>(
     }
     if let Some(rest) = behind(text, "bcrypt$") {
         return as_it_is("$2", rest);
+    }
+    if let Some(rest) = behind(text, "bcrypt_sha256$") {
+        return put_made(digest_text(rest), made);
     }
     Err(ForeignFault::Unread(django_unread(text)))
 }

@@ -8,8 +8,6 @@ ghost use Rattle.foreign_text.specs.Words.{fault_word, unread_word};
 pub enum Unread {
     /// PBKDF2 with SHA-1.
     Pbkdf2Sha1,
-    /// bcrypt of a SHA-256 digest of the password, as Django and passlib make it.
-    BcryptSha256,
     /// SCRAM, whose text has no key of a password.
     Scram,
     /// SHA-1 without a cost, with or without a salt.
@@ -34,7 +32,6 @@ impl Unread {
     {
         match self {
             Unread::Pbkdf2Sha1 => "unsupported-pbkdf2-sha1",
-            Unread::BcryptSha256 => "unsupported-bcrypt-sha256",
             Unread::Scram => "unsupported-scram",
             Unread::Sha1 => "unsupported-sha1",
             Unread::Md5 => "unsupported-md5",

@@ -27,8 +27,6 @@ fn passlib_unread(text: &str) -> Option<Unread>
 {
     if begins_with(text, "$pbkdf2$") {
         Some(Unread::Pbkdf2Sha1)
-    } else if begins_with(text, "$bcrypt-sha256$") {
-        Some(Unread::BcryptSha256)
     } else if begins_with(text, "$") {
         None
     } else {

@@ -25,7 +25,17 @@ fn fault_of(foreign: Foreign, text: &str) -> Option<ForeignFault> {
 }
 
 // Foreign texts, and the stored texts for them.
-const CONVERTED: [(Foreign, &str, &str); 19] = [
+const CONVERTED: [(Foreign, &str, &str); 21] = [
+    (
+        Foreign::Django,
+        "bcrypt_sha256$$2b$12$z7iJH30X4a4mlj/yLFmlh.kTNMuCFWO04fO7zqSrOeJQE56Br0/aG",
+        "$bcrypt-sha256-hex$2b$12$z7iJH30X4a4mlj/yLFmlh.kTNMuCFWO04fO7zqSrOeJQE56Br0/aG",
+    ),
+    (
+        Foreign::Passlib,
+        "$bcrypt-sha256$v=2,t=2b,r=5$rQ4YSmKXcMgu5A9G67oqZe$S9cUb0ixwFd041WWlme5LZJoDd3KoHC",
+        "$bcrypt-sha256$v=2,t=2b,r=5$rQ4YSmKXcMgu5A9G67oqZe$S9cUb0ixwFd041WWlme5LZJoDd3KoHC",
+    ),
     (
         Foreign::Django,
         "pbkdf2_sha256$1$seasalt2$okMx3z2N312lq0ehHCdGm1whcV9TBaPbzGwzrkepq98=",
@@ -128,18 +138,12 @@ fn converted_texts(rt: HostRuntime) {
 }
 
 // Texts of schemes that aren't read.
-const UNREAD: [(Foreign, &str, Unread, &str); 14] = [
+const UNREAD: [(Foreign, &str, Unread, &str); 13] = [
     (
         Foreign::Django,
         "pbkdf2_sha1$3$CQGgXkH1zxFUb$GLn5Ai20ScanjT8A5+7iI21zErE=",
         Unread::Pbkdf2Sha1,
         "unsupported-pbkdf2-sha1",
-    ),
-    (
-        Foreign::Django,
-        "bcrypt_sha256$$2b$04$0v2TPSqrKaDKURXtLIvyu.",
-        Unread::BcryptSha256,
-        "unsupported-bcrypt-sha256",
     ),
     (
         Foreign::Django,
@@ -225,7 +229,25 @@ fn unread_schemes(rt: HostRuntime) {
 }
 
 // Texts with a fault, and its word. Of the spare bits of the last character of a key or a salt one is set in two of them.
-const FAULTS: [(Foreign, &str, ForeignFault, &str); 25] = [
+const FAULTS: [(Foreign, &str, ForeignFault, &str); 28] = [
+    (
+        Foreign::Django,
+        "bcrypt_sha256$$2b$04$0v2TPSqrKaDKURXtLIvyu.",
+        ForeignFault::Form,
+        "foreign-form",
+    ),
+    (
+        Foreign::Django,
+        "bcrypt_sha256$$1b$12$z7iJH30X4a4mlj/yLFmlh.kTNMuCFWO04fO7zqSrOeJQE56Br0/aG",
+        ForeignFault::Form,
+        "foreign-form",
+    ),
+    (
+        Foreign::Django,
+        "bcrypt_sha256$$2b$12$z7iJH30X4a4mlj/yLFmlh.kTNMuCFWO04fO7zqSrOeJQE56Br0/aGx",
+        ForeignFault::Form,
+        "foreign-form",
+    ),
     (
         Foreign::Django,
         "pbkdf2_sha256$1$abcdefgh",

@@ -51,6 +51,12 @@ pub none_found : (bytes : List ℕ) (place : Option ℕ) → IsFirstByte (is_byt
 none_found bytes None first none = λ k low is. first k (omega arith) low (rw is refl)
 none_found bytes (Some k) first none = absurd (cc)
 
+-- a search that finds one
+pub one_found : (bytes : List ℕ) (place : Option ℕ) → IsFirstByte (is_byte 13) bytes place → is_some place ≡ true
+    → (k : ℕ) × (k < length bytes) × (slice_index bytes k ≡ 13)
+one_found bytes None first some = absurd (cc)
+one_found bytes (Some k) first some = (k, first.0.high, (let passes = first.1 in grind arith))
+
 pub free_passed : (n : ℕ) (has_return : Bool) (first : ℕ) (bytes text : List ℕ) → slice_index bytes 0 ≡ first
     → 0 < length bytes → LacksBelow 13 bytes (length bytes)
     → min ((if has_return && (first == 10) then one_more n else n) + count_returns (after_return false text)) (2 ^ 64 - 1)

@@ -1,6 +1,6 @@
 //! A source whose bytes are looked at.
 
-ghost use Rattle.std.specs.Prelude.{◌≡◌, ◌≤◌, ◌<◌, ◌^◌, ◌++◌, ◌∷◌, ◌==◌, ◌&&◌, ◌||◌, [], ℕ, List, false, IfOk, OnErr, if◌then◌else◌, length, slice_index, take};
+ghost use Rattle.std.specs.Prelude.{◌≡◌, ◌≤◌, ◌<◌, ◌^◌, ◌++◌, ◌∷◌, ◌==◌, ◌&&◌, ◌||◌, [], ℕ, List, false, true, IfOk, OnErr, if◌then◌else◌, length, slice_index, take};
 ghost use Rattle.std.specs.Io.{ReadsAtMost};
 ghost use Rattle.std.specs.Io.KnownBytes.{ReadConsumes};
 ghost use Rattle.pieces.specs.FaultCounts.{HasRisen, one_more};
@@ -60,6 +60,7 @@ fn mark_step(mark: Mark, b: u8) -> (Mark, bool)
 // Whether a carriage return is among these bytes.
 fn has_return(bytes: &[u8]) -> bool
     ensures free { result ≡ false → LacksBelow 13 bytes.now (length bytes.now) }
+    ensures met { result ≡ true → (place : ℕ) × (place < length bytes.now) × (slice_index bytes.now place ≡ 13) }
 {
     memchr(b'\r', bytes).is_some()
 }

@@ -28,18 +28,7 @@ Statuses:
   75  table: another process has the file
 'pwtool help FORM' has the words and options of a form, and pwtool(1) everything.";
 
-/// What stands behind the options in the help of `check`.
-const LINES: &str = "\
-A line is a password, a tab and a stored text: of md5-crypt ($1$, $apr1$), SHA-crypt
-($5$, $6$), bcrypt ($2a$, $2b$, $2y$), yescrypt ($y$) or crypt's scrypt ($7$), or a PHC
-record of scrypt ($scrypt$), PBKDF2 ($pbkdf2-sha256$, $pbkdf2-sha512$) or Argon2 ($argon2d$,
-$argon2i$, $argon2id$). The word is match, mismatch, or the first cause that there is no verdict:
-no-scheme where no scheme has the text, too-costly where a number of it is above the most
-given here. With --from the texts are foreign ones, of which those that aren't read get a
-word that begins with unsupported- or foreign-. pwtool(1) has all words. Status 0 is for
-matches alone, 1 for some other word; pwtool --help has the rest.";
-
-/// What stands behind the options in the help of `join`.
+/// What is after the options in the help of `join`.
 const USERS: &str = "\
 A line of TEXTS is a user, a colon and a stored text, which ends at the next colon: a line of a
 shadow or htpasswd file as it is. A line of PASSWORDS is a user, a colon and a password; of lines
@@ -53,7 +42,7 @@ the two files may be -, standard input. The smaller of two regular files is kept
 PASSWORDS, with --no-text TEXTS. Status 0 is for matches alone (--no-text: no answer), 1 for some
 other word; pwtool --help has the rest.";
 
-/// What stands behind the options in the help of `survey`.
+/// What is after the options in the help of `survey`.
 const TEXTS: &str = "\
 A line is a user, a colon and a stored text, which ends at the next colon: a line of a shadow or
 htpasswd file as it is. No password is asked for, and nothing is hashed. A row is the user, the
@@ -196,13 +185,13 @@ const GOOD_TEXTS: &str = "\
 Status 0 is for these judgements, with commas between them: ok, weak, empty, locked, unsupported, \
 invalid, badline, toolong (left out: ok,locked)";
 
-// The form `check`.
-fn check<'a>(alloc: Global) -> Result<Command<'a>, AllocError> {
+// The form `check`, with this help after its options.
+fn check<'a>(alloc: Global, help: &'a str) -> Result<Command<'a>, AllocError> {
     let command = form(
         alloc,
         "check",
         "Answer each line, a password, a tab and a stored text, with one word",
-        LINES,
+        help,
     );
     let command = plus(Ok(command), file(alloc));
     let users = "Lines begin with a user and a colon; keep the user before the word";
@@ -300,9 +289,9 @@ fn with<'a>(
     command?.subcommand(form?)
 }
 
-/// The program's command line.
-pub fn command<'a>(alloc: Global) -> Result<Command<'a>, AllocError> {
-    let command = with(program(alloc), check(alloc));
+/// The program's command line, with this help after the options of `check`: see [`crate::help_of_check`].
+pub fn command<'a>(alloc: Global, help_of_check: &'a str) -> Result<Command<'a>, AllocError> {
+    let command = with(program(alloc), check(alloc, help_of_check));
     let command = with(command, join(alloc));
     let command = with(command, survey(alloc));
     let command = with(command, make(alloc));

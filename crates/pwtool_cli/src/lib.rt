@@ -4,6 +4,7 @@
 mod cli;
 mod make_cli;
 mod options;
+mod schemes;
 mod tables;
 
 use clap::ArgMatches;
@@ -16,6 +17,7 @@ use pwtool_forms::make::make_form;
 use pwtool_forms::pair::join_form;
 use pwtool_forms::small_forms::{normalize_form, stream_form};
 use pwtool_forms::status::BAD_WORDS;
+pub use schemes::help_of_check;
 use std::{env, io};
 pub use tables::table_form;
 
@@ -111,7 +113,11 @@ pub fn run(rt: &HostRuntime) -> u8 {
         Ok(words) => words,
         Err(status) => return status,
     };
-    let command = match command(rt.alloc()) {
+    let help = match help_of_check(rt.alloc()) {
+        Ok(help) => help,
+        Err(_) => return no_memory(rt),
+    };
+    let command = match command(rt.alloc(), help.as_str()) {
         Ok(command) => command,
         Err(_) => return no_memory(rt),
     };

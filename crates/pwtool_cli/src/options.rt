@@ -36,12 +36,12 @@ const FILES: &[&str] = &[
     "grub",
 ];
 
-/// A form without its words: its name, what it does, and what stands behind the options in its help.
+/// A form without its words: its name, what it does, and what is after the options in its help.
 pub fn form<'a>(
     alloc: Global,
     name: &'static str,
     about: &'static str,
-    after_help: &'static str,
+    after_help: &'a str,
 ) -> Command<'a> {
     Command::new(alloc, name)
         .about(about)

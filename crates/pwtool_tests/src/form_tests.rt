@@ -107,7 +107,7 @@ const CHECKS: [(&[&str], &[u8], &[u8], u8); 11] = [
 #[test]
 fn options_of_check(rt: HostRuntime) -> Result<(), Fail> {
     for (words, input, output, status) in CHECKS {
-        let Ok(matches) = command(rt.alloc())?.try_get_matches_from(words) else {
+        let Ok(matches) = command(rt.alloc(), "")?.try_get_matches_from(words) else {
             panic!(rt; "the words are of a form")
         };
         let Some((_, matches)) = matches.subcommand() else {
@@ -217,7 +217,7 @@ const SURVEYS: [(&[&str], &[u8], &[u8], u8); 11] = [
 #[test]
 fn options_of_survey(rt: HostRuntime) -> Result<(), Fail> {
     for (words, input, output, status) in SURVEYS {
-        let Ok(matches) = command(rt.alloc())?.try_get_matches_from(words) else {
+        let Ok(matches) = command(rt.alloc(), "")?.try_get_matches_from(words) else {
             panic!(rt; "the words are of a form")
         };
         let Some((_, matches)) = matches.subcommand() else {
@@ -291,7 +291,7 @@ const COSTS: [(&[&str], [u32; 3]); 11] = [
 #[test]
 fn costs_of_make(rt: HostRuntime) -> Result<(), Fail> {
     for (words, numbers) in COSTS {
-        let Ok(matches) = command(rt.alloc())?.try_get_matches_from(words) else {
+        let Ok(matches) = command(rt.alloc(), "")?.try_get_matches_from(words) else {
             panic!(rt; "the words are of a form")
         };
         let Some((_, matches)) = matches.subcommand() else {
@@ -458,7 +458,7 @@ fn bounds_by_options(rt: HostRuntime) -> Result<(), Fail> {
         scrypt: Costs::of_ln_r_p(10, 11, 12),
         argon2: Costs::of_m_t_p(13, 14, 15),
     };
-    let Ok(matches) = command(rt.alloc())?.try_get_matches_from(&words) else {
+    let Ok(matches) = command(rt.alloc(), "")?.try_get_matches_from(&words) else {
         panic!(rt; "the words are of a form")
     };
     let Some((_, matches)) = matches.subcommand() else {
@@ -508,7 +508,7 @@ fn least_costs_by_options(rt: HostRuntime) -> Result<(), Fail> {
         argon2_memory: 9,
         argon2_work: 10,
     };
-    let Ok(matches) = command(rt.alloc())?.try_get_matches_from(&words) else {
+    let Ok(matches) = command(rt.alloc(), "")?.try_get_matches_from(&words) else {
         panic!(rt; "the words are of a form")
     };
     let Some((_, matches)) = matches.subcommand() else {
@@ -522,7 +522,7 @@ fn least_costs_by_options(rt: HostRuntime) -> Result<(), Fail> {
 // The status of `table` for a file and an action; none where the words are of no form.
 fn table_status(rt: &HostRuntime, name: &str, action: &str) -> Result<Option<u8>, Fail> {
     let words = ["pwtool", "table", name, action];
-    let Ok(matches) = command(rt.alloc())?.try_get_matches_from(&words) else {
+    let Ok(matches) = command(rt.alloc(), "")?.try_get_matches_from(&words) else {
         return Ok(None);
     };
     match matches.subcommand() {
@@ -576,7 +576,7 @@ const NAMES: [(&[&str], bool); 7] = [
 #[test]
 fn names_of_good_answers(rt: HostRuntime) -> Result<(), Fail> {
     for (words, are_known) in NAMES {
-        let Ok(matches) = command(rt.alloc())?.try_get_matches_from(words) else {
+        let Ok(matches) = command(rt.alloc(), "")?.try_get_matches_from(words) else {
             panic!(rt; "the words are of a form")
         };
         let Some((name, matches)) = matches.subcommand() else {

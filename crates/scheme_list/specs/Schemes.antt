@@ -5,8 +5,9 @@ use Rattle.std.specs.List.{list_any, starts_with}
 use Rattle.scheme_list.specs.declared.schemes.CostFamily.{CostFamily}
 use Rattle.scheme_list.specs.declared.schemes.CostFamily.TheVariants as of
 use Rattle.scheme_list.specs.declared.schemes.Scheme.{Scheme}
-use Rattle.scheme_list.specs.declared.schemes.Scheme.TheVariants.{Argon2d, Argon2i, Argon2id, Bcrypt, Md5Crypt, Pbkdf2Sha256}
-use Rattle.scheme_list.specs.declared.schemes.Scheme.TheVariants.{Pbkdf2Sha512, Scrypt, ScryptCrypt, Sha256Crypt, Sha512Crypt, Yescrypt}
+use Rattle.scheme_list.specs.declared.schemes.Scheme.TheVariants.{Argon2d, Argon2i, Argon2id, Bcrypt, BcryptDigest, Md5Crypt}
+use Rattle.scheme_list.specs.declared.schemes.Scheme.TheVariants.{Pbkdf2Sha256, Pbkdf2Sha512, Scrypt, ScryptCrypt, Sha256Crypt, Sha512Crypt}
+use Rattle.scheme_list.specs.declared.schemes.Scheme.TheVariants.{Yescrypt}
 
 -- ---- the table
 
@@ -68,6 +69,13 @@ bcrypt_row = record (made (crypt (codes "2b") (codes "bcrypt") of.Bcrypt)) {
   prefixes = codes "$2a$" ∷ codes "$2b$" ∷ codes "$2y$" ∷ [];
 }
 
+-- bcrypt of a digest: passlib's identifier, ours for Django's texts, and WordPress's; crypt(3) has none of them
+abbrev digest_row : Row
+digest_row = record (crypt (codes "wp") (codes "bcrypt-digest") of.Bcrypt) {
+  identifiers = codes "bcrypt-sha256" ∷ codes "bcrypt-sha256-hex" ∷ codes "wp" ∷ [];
+  prefixes = [];
+}
+
 abbrev pub row_of : Scheme → Row
 row_of Md5Crypt = md5_row
 row_of Sha256Crypt = made (crypt (codes "5") (codes "sha256-crypt") of.ShaCrypt)
@@ -75,6 +83,7 @@ row_of Sha512Crypt = made (crypt (codes "6") (codes "sha512-crypt") of.ShaCrypt)
 row_of Bcrypt = bcrypt_row
 row_of Yescrypt = made (crypt (codes "y") (codes "yescrypt") of.Yescrypt)
 row_of ScryptCrypt = crypt (codes "7") (codes "scrypt-crypt") of.Scrypt
+row_of BcryptDigest = digest_row
 row_of Scrypt = made (phc (codes "scrypt") of.Scrypt)
 row_of Pbkdf2Sha256 = made (phc (codes "pbkdf2-sha256") of.Pbkdf2Sha256)
 row_of Pbkdf2Sha512 = made (phc (codes "pbkdf2-sha512") of.Pbkdf2Sha512)
@@ -86,8 +95,8 @@ row_of Argon2id = made (phc (codes "argon2id") of.Argon2)
 
 abbrev pub schemes : List Scheme
 schemes =
-    Md5Crypt ∷ Sha256Crypt ∷ Sha512Crypt ∷ Bcrypt ∷ Yescrypt ∷ ScryptCrypt ∷ Scrypt ∷ Pbkdf2Sha256 ∷ Pbkdf2Sha512
-    ∷ Argon2d ∷ Argon2i ∷ Argon2id ∷ []
+    Md5Crypt ∷ Sha256Crypt ∷ Sha512Crypt ∷ Bcrypt ∷ Yescrypt ∷ ScryptCrypt ∷ BcryptDigest ∷ Scrypt ∷ Pbkdf2Sha256
+    ∷ Pbkdf2Sha512 ∷ Argon2d ∷ Argon2i ∷ Argon2id ∷ []
 
 -- the place of a scheme among them
 abbrev pub place : Scheme → ℕ
@@ -97,12 +106,13 @@ place Sha512Crypt = 2
 place Bcrypt = 3
 place Yescrypt = 4
 place ScryptCrypt = 5
-place Scrypt = 6
-place Pbkdf2Sha256 = 7
-place Pbkdf2Sha512 = 8
-place Argon2d = 9
-place Argon2i = 10
-place Argon2id = 11
+place BcryptDigest = 6
+place Scrypt = 7
+place Pbkdf2Sha256 = 8
+place Pbkdf2Sha512 = 9
+place Argon2d = 10
+place Argon2i = 11
+place Argon2id = 12
 
 -- ---- which scheme has an identifier, a name, or a prefix
 

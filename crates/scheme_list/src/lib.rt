@@ -5,12 +5,10 @@
 //! `specs/Schemes.antt`. To add a scheme: a variant of [`Scheme`], its row, and an arm in each function here.
 #![tactic(auto)]
 
-mod identifiers;
 mod methods;
 mod names;
 mod schemes;
 
-pub use identifiers::scheme_named;
 pub use methods::method_of;
 pub use names::scheme_of_name;
-pub use schemes::{CostFamily, SCHEME_COUNT, SCHEMES, Scheme};
+pub use schemes::{CostFamily, SCHEME_COUNT, SCHEMES, Scheme, scheme_named};

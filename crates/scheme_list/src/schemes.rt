@@ -1,8 +1,8 @@
 //! The schemes, and what is known of each.
 
-ghost use Rattle.std.specs.Prelude.{◌≡◌, ◌<◌, ◌≤◌, Some, length};
+ghost use Rattle.std.specs.Prelude.{◌≡◌, ◌<◌, ◌≤◌, Some, drop, length};
 ghost use Rattle.std.specs.List.{slice_get};
-ghost use Rattle.scheme_list.specs.Schemes.{has_identifier, place, row_of, schemes};
+ghost use Rattle.scheme_list.specs.Schemes.{has_identifier, look_up, place, row_of, scheme_named, schemes};
 
 /// A scheme.
 #[derive(Clone, Copy, Debug, PartialEq, Eq)]
@@ -16,6 +16,8 @@ pub enum Scheme {
     Yescrypt,
     /// scrypt in crypt's own form, `$7$`.
     ScryptCrypt,
+    /// bcrypt of a digest of the password: texts of passlib's `bcrypt_sha256`, of Django's, and of WordPress.
+    BcryptDigest,
     /// scrypt as a record in the PHC string format.
     Scrypt,
     /// PBKDF2 with HMAC-SHA-256, as a record.
@@ -29,7 +31,7 @@ pub enum Scheme {
 }
 
 /// How many schemes there are.
-pub const SCHEME_COUNT: usize = 12;
+pub const SCHEME_COUNT: usize = 13;
 
 /// The schemes, in the order in which they are told.
 pub const SCHEMES: [Scheme; SCHEME_COUNT] = [
@@ -39,6 +41,7 @@ pub const SCHEMES: [Scheme; SCHEME_COUNT] = [
     Scheme::Bcrypt,
     Scheme::Yescrypt,
     Scheme::ScryptCrypt,
+    Scheme::BcryptDigest,
     Scheme::Scrypt,
     Scheme::Pbkdf2Sha256,
     Scheme::Pbkdf2Sha512,
@@ -86,26 +89,6 @@ impl Scheme {
         SCHEMES[place]
     }
 
-    /// Whether an identifier, which is what a text has between its first two `$`, is one of its texts'.
-    pub fn has_identifier(self, id: &str) -> bool
-        ensures identifier { result ≡ has_identifier id.now self }
-    {
-        match self {
-            Scheme::Md5Crypt => id == "1" || id == "apr1",
-            Scheme::Sha256Crypt => id == "5",
-            Scheme::Sha512Crypt => id == "6",
-            Scheme::Bcrypt => id == "2a" || id == "2b" || id == "2y" || id == "2" || id == "2x",
-            Scheme::Yescrypt => id == "y",
-            Scheme::ScryptCrypt => id == "7",
-            Scheme::Scrypt => id == "scrypt",
-            Scheme::Pbkdf2Sha256 => id == "pbkdf2-sha256",
-            Scheme::Pbkdf2Sha512 => id == "pbkdf2-sha512",
-            Scheme::Argon2d => id == "argon2d",
-            Scheme::Argon2i => id == "argon2i",
-            Scheme::Argon2id => id == "argon2id",
-        }
-    }
-
     /// The name.
     pub fn name(self) -> &'static str
         ensures name { result.now ≡ (row_of self).name }
@@ -118,6 +101,7 @@ impl Scheme {
             Scheme::Bcrypt => "bcrypt",
             Scheme::Yescrypt => "yescrypt",
             Scheme::ScryptCrypt => "scrypt-crypt",
+            Scheme::BcryptDigest => "bcrypt-digest",
             Scheme::Scrypt => "scrypt",
             Scheme::Pbkdf2Sha256 => "pbkdf2-sha256",
             Scheme::Pbkdf2Sha512 => "pbkdf2-sha512",
@@ -134,7 +118,7 @@ impl Scheme {
         match self {
             Scheme::Md5Crypt => CostFamily::Md5Crypt,
             Scheme::Sha256Crypt | Scheme::Sha512Crypt => CostFamily::ShaCrypt,
-            Scheme::Bcrypt => CostFamily::Bcrypt,
+            Scheme::Bcrypt | Scheme::BcryptDigest => CostFamily::Bcrypt,
             Scheme::Yescrypt => CostFamily::Yescrypt,
             Scheme::ScryptCrypt | Scheme::Scrypt => CostFamily::Scrypt,
             Scheme::Pbkdf2Sha256 => CostFamily::Pbkdf2Sha256,
@@ -163,7 +147,42 @@ impl Scheme {
             | Scheme::Pbkdf2Sha256
             | Scheme::Pbkdf2Sha512
             | Scheme::Argon2id => true,
-            Scheme::Md5Crypt | Scheme::ScryptCrypt | Scheme::Argon2d | Scheme::Argon2i => false,
+            Scheme::Md5Crypt
+            | Scheme::ScryptCrypt
+            | Scheme::BcryptDigest
+            | Scheme::Argon2d
+            | Scheme::Argon2i => false,
         }
+    }
+}
+
+// The scheme of a record's identifier.
+fn record_named(id: &str) -> Option<Scheme>
+    ensures scheme { result ≡ look_up (has_identifier id.now) (drop 7 schemes) }
+{
+    match id {
+        "scrypt" => Some(Scheme::Scrypt),
+        "pbkdf2-sha256" => Some(Scheme::Pbkdf2Sha256),
+        "pbkdf2-sha512" => Some(Scheme::Pbkdf2Sha512),
+        "argon2d" => Some(Scheme::Argon2d),
+        "argon2i" => Some(Scheme::Argon2i),
+        "argon2id" => Some(Scheme::Argon2id),
+        _ => None,
+    }
+}
+
+/// The scheme of an identifier, which is what a text has between its first two `$`. None where no scheme has it.
+pub fn scheme_named(id: &str) -> Option<Scheme>
+    ensures scheme { result ≡ scheme_named id.now }
+{
+    match id {
+        "1" | "apr1" => Some(Scheme::Md5Crypt),
+        "5" => Some(Scheme::Sha256Crypt),
+        "6" => Some(Scheme::Sha512Crypt),
+        "2a" | "2b" | "2y" | "2" | "2x" => Some(Scheme::Bcrypt),
+        "y" => Some(Scheme::Yescrypt),
+        "7" => Some(Scheme::ScryptCrypt),
+        "bcrypt-sha256" | "bcrypt-sha256-hex" | "wp" => Some(Scheme::BcryptDigest),
+        _ => record_named(id),
     }
 }

@@ -13,7 +13,7 @@ struct Row {
 
 // A row for each scheme, in their order: an identifier of its texts, its name as `pwtool survey` tells it, the schemes whose
 // texts ask for the same numbers, and whether `pwtool make` makes texts of it.
-const ROWS: [Row; 12] = [
+const ROWS: [Row; 13] = [
     Row {
         id: "1",
         scheme: Scheme::Md5Crypt,
@@ -54,6 +54,13 @@ const ROWS: [Row; 12] = [
         scheme: Scheme::ScryptCrypt,
         name: "scrypt-crypt",
         family: CostFamily::Scrypt,
+        is_made: false,
+    },
+    Row {
+        id: "bcrypt-sha256",
+        scheme: Scheme::BcryptDigest,
+        name: "bcrypt-digest",
+        family: CostFamily::Bcrypt,
         is_made: false,
     },
     Row {
@@ -130,13 +137,16 @@ fn other_identifiers(rt: HostRuntime) {
     for id in ["2", "2a", "2x", "2y"] {
         assert!(rt; scheme_named(id) == Some(Scheme::Bcrypt), "{id}");
     }
+    for id in ["bcrypt-sha256-hex", "wp"] {
+        assert!(rt; scheme_named(id) == Some(Scheme::BcryptDigest), "{id}");
+    }
     for id in ["", "0", "3", "2c", "55", "Y", "sha1", "argon2", "scrypt "] {
         assert!(rt; scheme_named(id) == None, "{id}");
     }
 }
 
 // The prefixes of crypt(3), and other beginnings.
-const PREFIXES: [(&[u8], Option<Scheme>); 16] = [
+const PREFIXES: [(&[u8], Option<Scheme>); 17] = [
     (b"$1$", Some(Scheme::Md5Crypt)),
     (b"$5$rounds=1000$", Some(Scheme::Sha256Crypt)),
     (b"$6$salt", Some(Scheme::Sha512Crypt)),
@@ -152,6 +162,7 @@ const PREFIXES: [(&[u8], Option<Scheme>); 16] = [
     (b"$apr1$", None),
     (b"$scrypt$", None),
     (b"$argon2id$", None),
+    (b"$wp$2y$10$", None),
     (b"x$1$", None),
 ];
 

@@ -4,8 +4,9 @@ use Rattle.scheme_list.specs.Schemes.{row_of}
 use Rattle.scheme_list.specs.declared.schemes.CostFamily.{CostFamily}
 use Rattle.scheme_list.specs.declared.schemes.CostFamily.TheVariants as family
 use Rattle.scheme_list.specs.declared.schemes.Scheme.{Scheme}
-use Rattle.scheme_list.specs.declared.schemes.Scheme.TheVariants.{Argon2d, Argon2i, Argon2id, Bcrypt, Md5Crypt, Pbkdf2Sha256}
-use Rattle.scheme_list.specs.declared.schemes.Scheme.TheVariants.{Pbkdf2Sha512, Scrypt, ScryptCrypt, Sha256Crypt, Sha512Crypt, Yescrypt}
+use Rattle.scheme_list.specs.declared.schemes.Scheme.TheVariants.{Argon2d, Argon2i, Argon2id, Bcrypt, BcryptDigest, Md5Crypt}
+use Rattle.scheme_list.specs.declared.schemes.Scheme.TheVariants.{Pbkdf2Sha256, Pbkdf2Sha512, Scrypt, ScryptCrypt, Sha256Crypt, Sha512Crypt}
+use Rattle.scheme_list.specs.declared.schemes.Scheme.TheVariants.{Yescrypt}
 use Rattle.any_check.specs.declared.numbers.Costs.{Costs}
 use Rattle.any_check.specs.declared.numbers.TextCosts.{TextCosts}
 use Rattle.shadow_survey.specs.declared.least.LeastCosts.{LeastCosts}
@@ -61,6 +62,7 @@ number_weakness least Sha512Crypt c = below weak.Rounds c.rounds least.sha512_ro
 number_weakness least Bcrypt c = below weak.Cost c.cost least.bcrypt_cost
 number_weakness least Yescrypt c = below weak.Memory (memory family.Yescrypt c) least.yescrypt_memory
 number_weakness least ScryptCrypt c = scrypt_weakness least c
+number_weakness least BcryptDigest c = below weak.Cost c.cost least.bcrypt_cost
 number_weakness least Scrypt c = scrypt_weakness least c
 number_weakness least Pbkdf2Sha256 c = below weak.Rounds c.rounds least.pbkdf2_sha256_rounds
 number_weakness least Pbkdf2Sha512 c = below weak.Rounds c.rounds least.pbkdf2_sha512_rounds

@@ -32,11 +32,8 @@ row of.Sm3crypt = form (codes "sm3crypt") (codes "$sm3$")
 row of.Sm3Yescrypt = form (codes "sm3-yescrypt") (codes "$sm3y$")
 -- the documentation of passlib
 row of.Phpass = either (codes "phpass") (codes "$P$") (codes "$H$")
-row of.BcryptSha256 = either (codes "bcrypt-sha256") (codes "$bcrypt-sha256$") (codes "unsupported-bcrypt-sha256")
 row of.Pbkdf2Sha1 = either (codes "pbkdf2-sha1") (codes "$pbkdf2$") (codes "unsupported-pbkdf2-sha1")
 row of.Scram = either (codes "scram") (codes "$scram$") (codes "unsupported-scram")
--- WordPress from 6.8 on
-row of.WordPress = form (codes "wordpress") (codes "$wp$")
 -- slapd-passwd(5) of OpenLDAP; htpasswd(1) has {SHA} too
 row of.LdapSha = either (codes "ldap {SHA}") (codes "{SHA}") (codes "{sha}")
 row of.LdapSsha = either (codes "ldap {SSHA}") (codes "{SSHA}") (codes "{ssha}")
@@ -60,8 +57,7 @@ row of.Unknown = form (codes "clear text or unknown") []
 abbrev pub forms : List UnsupportedForm
 forms =
     of.Descrypt ∷ of.Bsdicrypt ∷ of.Nt ∷ of.Sunmd5 ∷ of.Sha1crypt ∷ of.GostYescrypt ∷ of.Sm3crypt ∷ of.Sm3Yescrypt
-    ∷ of.Phpass ∷ of.BcryptSha256 ∷ of.Pbkdf2Sha1 ∷ of.Scram ∷ of.WordPress ∷ of.LdapSha ∷ of.LdapSsha ∷ of.LdapMd5
-    ∷ of.LdapSmd5 ∷ of.Ldap ∷ of.Sha1 ∷ of.Md5 ∷ of.Sha2 ∷ of.ClearText ∷ of.Another ∷ of.Faulty ∷ of.MysqlNative
+    ∷ of.Phpass ∷ of.Pbkdf2Sha1 ∷ of.Scram ∷ of.LdapSha ∷ of.LdapSsha ∷ of.LdapMd5 ∷ of.LdapSmd5 ∷ of.Ldap ∷ of.Sha1 ∷ of.Md5 ∷ of.Sha2 ∷ of.ClearText ∷ of.Another ∷ of.Faulty ∷ of.MysqlNative
     ∷ of.Unknown ∷ []
 
 -- the place of a form among them
@@ -75,23 +71,21 @@ place of.GostYescrypt = 5
 place of.Sm3crypt = 6
 place of.Sm3Yescrypt = 7
 place of.Phpass = 8
-place of.BcryptSha256 = 9
-place of.Pbkdf2Sha1 = 10
-place of.Scram = 11
-place of.WordPress = 12
-place of.LdapSha = 13
-place of.LdapSsha = 14
-place of.LdapMd5 = 15
-place of.LdapSmd5 = 16
-place of.Ldap = 17
-place of.Sha1 = 18
-place of.Md5 = 19
-place of.Sha2 = 20
-place of.ClearText = 21
-place of.Another = 22
-place of.Faulty = 23
-place of.MysqlNative = 24
-place of.Unknown = 25
+place of.Pbkdf2Sha1 = 9
+place of.Scram = 10
+place of.LdapSha = 11
+place of.LdapSsha = 12
+place of.LdapMd5 = 13
+place of.LdapSmd5 = 14
+place of.Ldap = 15
+place of.Sha1 = 16
+place of.Md5 = 17
+place of.Sha2 = 18
+place of.ClearText = 19
+place of.Another = 20
+place of.Faulty = 21
+place of.MysqlNative = 22
+place of.Unknown = 23
 
 -- ---- which form a text has
 

@@ -2,9 +2,8 @@
 
 ghost use Rattle.std.specs.Prelude.{◌≡◌, ◌+◌, ◌≤◌, ◌++◌, codes, decimal, length};
 ghost use Rattle.scheme_list.specs.Schemes.{row_of};
-ghost use Rattle.shadow_survey.specs.Cells.{closed, cost_cell, costs_in, judgement_cell, name_text, named, nothing, numbers_text, one, opened, scheme_cell, three, turns, weakness_text};
+ghost use Rattle.shadow_survey.specs.Cells.{closed, name_text, named, nothing, numbers_text, one, opened, three, turns, weakness_text};
 
-use crate::judgement::Judgement;
 use crate::least::{Weakness, memory};
 use any_check::{CostFamily, Costs, Scheme, TextCosts};
 use pieces::short_bytes::ShortBytes;
@@ -24,8 +23,8 @@ pub enum Format {
 pub(crate) type Cell = ShortBytes<96>;
 
 impl Format {
-    // What a cell has where there is nothing to tell.
-    fn nothing(self) -> &'static [u8]
+    /// What a cell has where there is nothing to tell.
+    pub(crate) fn nothing(self) -> &'static [u8]
         ensures text { result.now ≡ nothing self }
         ensures short { length result.now ≤ 4 }
     {
@@ -123,8 +122,8 @@ fn three(format: Format, a: &[u8], x: u64, b: &[u8], y: u64, c: &[u8], z: u64) -
     cell
 }
 
-// The numbers by their names.
-fn numbers_text(format: Format, family: CostFamily, costs: &Costs) -> Cell
+/// The numbers by their names.
+pub(crate) fn numbers_text(format: Format, family: CostFamily, costs: &Costs) -> Cell
     ensures { result ≡ numbers_text format family costs.now }
 {
     match family {
@@ -139,19 +138,14 @@ fn numbers_text(format: Format, family: CostFamily, costs: &Costs) -> Cell
     }
 }
 
-// The name of a scheme.
-fn name_text(format: Format, scheme: Scheme) -> Cell
-    ensures { result ≡ name_text format (row_of scheme).name }
+/// The name of a scheme as a string of JSON.
+pub(crate) fn quoted_name(scheme: Scheme) -> Cell
+    ensures { result ≡ name_text Format.Json (row_of scheme).name }
 {
-    match format {
-        Format::Tabs | Format::Csv => word(scheme.name().as_bytes()),
-        Format::Json => {
-            let mut cell = word(b"\"");
-            cell.push_all(scheme.name().as_bytes());
-            cell.push_all(b"\"");
-            cell
-        }
-    }
+    let mut cell = word(b"\"");
+    cell.push_all(scheme.name().as_bytes());
+    cell.push_all(b"\"");
+    cell
 }
 
 // A text and a number.
@@ -207,8 +201,8 @@ fn named_after(text: &[u8], name: &str) -> Cell
     cell
 }
 
-// What is weak of a text.
-fn weakness_text(what: Weakness, text: &TextCosts) -> Cell
+/// What is weak of a text.
+pub(crate) fn weakness_text(what: Weakness, text: &TextCosts) -> Cell
     ensures { result ≡ weakness_text what text.now }
 {
     let family = text.scheme.family();
@@ -219,53 +213,5 @@ fn weakness_text(what: Weakness, text: &TextCosts) -> Cell
         Weakness::Cost => numbered(b"weak: cost ", costs.cost),
         Weakness::Memory => numbered_before(b"weak: ", memory(family, costs), b" KiB"),
         Weakness::Work => weak_work(family, costs, memory(family, costs)),
-    }
-}
-
-impl Judgement {
-    // The scheme and the costs, where the text has them.
-    fn costs(&self) -> Option<TextCosts>
-        ensures { result ≡ costs_in self.now }
-    {
-        match self {
-            Judgement::Strong(text) | Judgement::Weak(text, _) => Some(*text),
-            _ => None,
-        }
-    }
-
-    /// The name of the scheme.
-    pub(crate) fn scheme_cell(&self, format: Format) -> Cell
-        ensures { result ≡ scheme_cell format (costs_in self.now) }
-    {
-        match self.costs() {
-            Some(text) => name_text(format, text.scheme),
-            None => word(format.nothing()),
-        }
-    }
-
-    /// Its costs.
-    pub(crate) fn cost_cell(&self, format: Format) -> Cell
-        ensures { result ≡ cost_cell format (costs_in self.now) }
-    {
-        match self.costs() {
-            Some(text) => numbers_text(format, text.scheme.family(), &text.costs),
-            None => word(format.nothing()),
-        }
-    }
-
-    /// The judgement in words.
-    pub(crate) fn judgement_cell(&self) -> Cell
-        ensures { result ≡ judgement_cell self.now }
-    {
-        match self {
-            Judgement::TooLong => word(b"toolong"),
-            Judgement::BadLine => word(b"badline"),
-            Judgement::Empty => word(b"empty"),
-            Judgement::Locked => word(b"locked"),
-            Judgement::Unsupported(form) => named_after(b"unsupported: ", form.name()),
-            Judgement::Invalid => word(b"invalid"),
-            Judgement::Strong(_) => word(b"ok"),
-            Judgement::Weak(text, what) => weakness_text(*what, text),
-        }
     }
 }

@@ -14,7 +14,7 @@ pub struct LeastCosts {
     pub sha256_rounds: u64,
     /// Rounds.
     pub sha512_rounds: u64,
-    /// A cost.
+    /// A cost, also of a text with a digest in front.
     pub bcrypt_cost: u64,
     /// KiB: `128 * r * 2^ln` bytes.
     pub yescrypt_memory: u64,
@@ -144,7 +144,11 @@ fn number_weakness(least: &LeastCosts, scheme: Scheme, costs: &Costs) -> Option<
         Scheme::Md5Crypt => None,
         Scheme::Sha256Crypt => below(Weakness::Rounds, costs.rounds, least.sha256_rounds),
         Scheme::Sha512Crypt => below(Weakness::Rounds, costs.rounds, least.sha512_rounds),
-        Scheme::Bcrypt => below(Weakness::Cost, costs.cost, least.bcrypt_cost),
+        Scheme::Bcrypt | Scheme::BcryptDigest => below(
+            Weakness::Cost,
+            costs.cost,
+            least.bcrypt_cost,
+        ),
         Scheme::Yescrypt => below(
             Weakness::Memory,
             memory(CostFamily::Yescrypt, costs),

@@ -3,12 +3,16 @@
 ghost use Rattle.std.specs.Prelude.{◌≡◌, ◌<◌, ◌+◌, ◌*◌, ◌/◌, ◌%◌, ◌++◌, ◌∷◌, ◌≤◌, [], codes, length, true};
 ghost use Rattle.std.specs.List.{list_all};
 ghost use Rattle.line_io.specs.Output.{Puts};
-ghost use Rattle.shadow_survey.specs.Cells.{cost_cell, costs_in, judgement_cell, scheme_cell};
+ghost use Rattle.scheme_list.specs.Schemes.{row_of};
+ghost use Rattle.shadow_survey.specs.Cells.{cost_cell, costs_in, judgement_cell, name_text, numbers_text, scheme_cell};
+ghost use Rattle.shadow_survey.specs.Unsupported.{row};
 ghost use Rattle.shadow_survey.specs.Rows.{apostrophe, control, counts_text, csv_row, front_text, header_text, hexadecimal, is_control, is_good, is_plain, json_row, plain, row_text, shown, shown_after, shown_text, tabs_row, weak_end};
 
-use crate::cells::Format;
+use crate::cells::{Format, numbers_text, quoted_name, weakness_text};
 use crate::counts::{Counts, put_totals};
 use crate::judgement::Judgement;
+use crate::unsupported::UnsupportedForm;
+use any_check::{Scheme, TextCosts};
 use line_io::{OutputBuffer, Sink};
 use pieces::short_bytes::ShortBytes;
 
@@ -158,6 +162,78 @@ struct Marks<'a> {
     end: &'a [u8],
 }
 
+// Puts the name of a scheme.
+fn put_name<K: Sink>(format: Format, scheme: Scheme, out: &mut OutputBuffer, sink: &mut K)
+    ensures puts { Puts (K.written sink.old) (K.written sink.new) (K.faults sink.old) (K.faults sink.new) out.old out.new
+        (name_text format (row_of scheme).name) }
+{
+    match format {
+        Format::Tabs | Format::Csv => out.put(sink, scheme.name().as_bytes()),
+        Format::Json => out.put(sink, quoted_name(scheme).as_slice()),
+    }
+}
+
+// Puts the name of a judgement's scheme.
+fn put_scheme<K: Sink>(format: Format, judgement: &Judgement, out: &mut OutputBuffer, sink: &mut K)
+    ensures puts { Puts (K.written sink.old) (K.written sink.new) (K.faults sink.old) (K.faults sink.new) out.old out.new
+        (scheme_cell format (costs_in judgement.now)) }
+{
+    match judgement {
+        Judgement::Strong(text) => put_name(format, text.scheme, out, sink),
+        Judgement::Weak(text, _) => put_name(format, text.scheme, out, sink),
+        _ => out.put(sink, format.nothing()),
+    }
+}
+
+// Puts the costs of a text by their names.
+fn put_numbers<K: Sink>(format: Format, text: &TextCosts, out: &mut OutputBuffer, sink: &mut K)
+    ensures puts { Puts (K.written sink.old) (K.written sink.new) (K.faults sink.old) (K.faults sink.new) out.old out.new
+        (numbers_text format (row_of text.now.scheme).family text.now.costs) }
+{
+    out.put(
+        sink,
+        numbers_text(format, text.scheme.family(), &text.costs).as_slice(),
+    );
+}
+
+// Puts a judgement's costs.
+fn put_costs<K: Sink>(format: Format, judgement: &Judgement, out: &mut OutputBuffer, sink: &mut K)
+    ensures puts { Puts (K.written sink.old) (K.written sink.new) (K.faults sink.old) (K.faults sink.new) out.old out.new
+        (cost_cell format (costs_in judgement.now)) }
+{
+    match judgement {
+        Judgement::Strong(text) => put_numbers(format, text, out, sink),
+        Judgement::Weak(text, _) => put_numbers(format, text, out, sink),
+        _ => out.put(sink, format.nothing()),
+    }
+}
+
+// Puts the name of a form without a verdict.
+fn put_unsupported<K: Sink>(form: UnsupportedForm, out: &mut OutputBuffer, sink: &mut K)
+    ensures puts { Puts (K.written sink.old) (K.written sink.new) (K.faults sink.old) (K.faults sink.new) out.old out.new
+        (codes "unsupported: " ++ (row form).name) }
+{
+    out.put(sink, b"unsupported: ");
+    out.put(sink, form.name().as_bytes());
+}
+
+// Puts a judgement in words.
+fn put_words<K: Sink>(judgement: &Judgement, out: &mut OutputBuffer, sink: &mut K)
+    ensures puts { Puts (K.written sink.old) (K.written sink.new) (K.faults sink.old) (K.faults sink.new) out.old out.new
+        (judgement_cell judgement.now) }
+{
+    match judgement {
+        Judgement::TooLong => out.put(sink, b"toolong"),
+        Judgement::BadLine => out.put(sink, b"badline"),
+        Judgement::Empty => out.put(sink, b"empty"),
+        Judgement::Locked => out.put(sink, b"locked"),
+        Judgement::Unsupported(form) => put_unsupported(*form, out, sink),
+        Judgement::Invalid => out.put(sink, b"invalid"),
+        Judgement::Strong(_) => out.put(sink, b"ok"),
+        Judgement::Weak(text, what) => out.put(sink, weakness_text(*what, text).as_slice()),
+    }
+}
+
 // Puts a judgement's scheme, costs and words with these marks.
 fn put_cells<K: Sink>(
     format: Format,
@@ -172,11 +248,11 @@ fn put_cells<K: Sink>(
         ++ marks.now.end.now)))))) }
 {
     out.put(sink, marks.before);
-    out.put(sink, judgement.scheme_cell(format).as_slice());
+    put_scheme(format, judgement, out, sink);
     out.put(sink, marks.scheme_end);
-    out.put(sink, judgement.cost_cell(format).as_slice());
+    put_costs(format, judgement, out, sink);
     out.put(sink, marks.cost_end);
-    out.put(sink, judgement.judgement_cell().as_slice());
+    put_words(judgement, out, sink);
     out.put(sink, marks.end);
 }
 
@@ -269,12 +345,6 @@ fn header(format: Format) -> &'static [u8]
     }
 }
 
-fn front(has_begun: bool, format: Format) -> &'static [u8]
-    ensures { result.now ≡ front_text has_begun format }
-{
-    if has_begun { b"" } else { header(format) }
-}
-
 /// Puts what is before the first row, where no line was read yet.
 pub(crate) fn put_front<K: Sink>(
     has_begun: bool,
@@ -285,7 +355,10 @@ pub(crate) fn put_front<K: Sink>(
     ensures puts { Puts (K.written sink.old) (K.written sink.new) (K.faults sink.old) (K.faults sink.new) out.old out.new
         (front_text has_begun format) }
 {
-    out.put(sink, front(has_begun, format));
+    if has_begun {
+        return;
+    }
+    out.put(sink, header(format));
 }
 
 /// Puts the counts, where the form is for people.

@@ -7,7 +7,7 @@ ghost use Rattle.shadow_survey.specs.Unsupported.{begins_as, form_of, forms, has
 use pieces::characters::are_crypt_characters;
 
 /// The form of a text that has no verdict. Sources: crypt(5) of libxcrypt, the documentation of passlib, slapd-passwd(5) of
-/// OpenLDAP, WordPress 6.8; and of texts that a converter of foreign ones doesn't read, its words.
+/// OpenLDAP; and of texts that a converter of foreign ones doesn't read, its words.
 #[derive(Clone, Copy, Debug, PartialEq, Eq)]
 pub enum UnsupportedForm {
     /// The traditional one of DES: 13 characters (crypt(5)).
@@ -28,14 +28,10 @@ pub enum UnsupportedForm {
     Sm3Yescrypt,
     /// phpass' own form, `$P$` and `$H$` (passlib).
     Phpass,
-    /// bcrypt of a SHA-256 digest, `$bcrypt-sha256$` (passlib).
-    BcryptSha256,
     /// PBKDF2 with SHA-1, `$pbkdf2$` (passlib).
     Pbkdf2Sha1,
     /// SCRAM, `$scram$` (passlib).
     Scram,
-    /// bcrypt of an HMAC, `$wp$` (WordPress).
-    WordPress,
     /// `{SHA}` (slapd-passwd(5), htpasswd(1)).
     LdapSha,
     /// `{SSHA}` (slapd-passwd(5)).
@@ -65,7 +61,7 @@ pub enum UnsupportedForm {
 }
 
 /// How many forms there are.
-pub(crate) const FORM_COUNT: usize = 26;
+pub(crate) const FORM_COUNT: usize = 24;
 
 // The forms, in the order in which they are tried and told.
 const FORMS: [UnsupportedForm; FORM_COUNT] = [
@@ -78,10 +74,8 @@ const FORMS: [UnsupportedForm; FORM_COUNT] = [
     UnsupportedForm::Sm3crypt,
     UnsupportedForm::Sm3Yescrypt,
     UnsupportedForm::Phpass,
-    UnsupportedForm::BcryptSha256,
     UnsupportedForm::Pbkdf2Sha1,
     UnsupportedForm::Scram,
-    UnsupportedForm::WordPress,
     UnsupportedForm::LdapSha,
     UnsupportedForm::LdapSsha,
     UnsupportedForm::LdapMd5,
@@ -152,16 +146,8 @@ impl UnsupportedForm {
             UnsupportedForm::Sm3crypt => ("sm3crypt", "$sm3$", "$sm3$"),
             UnsupportedForm::Sm3Yescrypt => ("sm3-yescrypt", "$sm3y$", "$sm3y$"),
             UnsupportedForm::Phpass => ("phpass", "$P$", "$H$"),
-            UnsupportedForm::BcryptSha256 => {
-                (
-                    "bcrypt-sha256",
-                    "$bcrypt-sha256$",
-                    "unsupported-bcrypt-sha256",
-                )
-            }
             UnsupportedForm::Pbkdf2Sha1 => ("pbkdf2-sha1", "$pbkdf2$", "unsupported-pbkdf2-sha1"),
             UnsupportedForm::Scram => ("scram", "$scram$", "unsupported-scram"),
-            UnsupportedForm::WordPress => ("wordpress", "$wp$", "$wp$"),
             UnsupportedForm::LdapSha => ("ldap {SHA}", "{SHA}", "{sha}"),
             UnsupportedForm::LdapSsha => ("ldap {SSHA}", "{SSHA}", "{ssha}"),
             UnsupportedForm::LdapMd5 => ("ldap {MD5}", "{MD5}", "{md5}"),

@@ -21,7 +21,7 @@ const LEAST: LeastCosts = LeastCosts {
 };
 
 // Texts of other programs, as any_check's tests have them, with their row behind the user.
-const ROWS: [(&str, &str); 28] = [
+const ROWS: [(&str, &str); 31] = [
     (
         "$1$abcdefgh$cHJi5PXp/ki/ktXzqlk6I1",
         "md5-crypt\t-\tweak: md5-crypt",
@@ -58,6 +58,15 @@ const ROWS: [(&str, &str); 28] = [
         "$2b$03$abcdefghijklmnopqrstuu2r9OfJnfCsdneAXAGHnS4UpFFP8WIrW",
         "-\t-\tinvalid",
     ),
+    (
+        "$bcrypt-sha256$2b,4$abcdefghijklmnopqrstuu$N9tMz1lMx9RK4tmPpgRXWaagQQdZIOO",
+        "bcrypt-digest\tcost=4\tweak: cost 4",
+    ),
+    (
+        "$bcrypt-sha256$v=2,t=2b,r=5$rQ4YSmKXcMgu5A9G67oqZe$S9cUb0ixwFd041WWlme5LZJoDd3KoHC",
+        "bcrypt-digest\tcost=5\tok",
+    ),
+    ("$wp$2y$10$x", "-\t-\tinvalid"),
     (
         "$scrypt$ln=4,r=8,p=1$c2FsdHNhbHRzYWx0$09/untC+3Bg44eiJQ8bqhTXgE2ali+ykLaojkJZlF9U",
         "scrypt\tln=4,r=8,p=1\tweak: p=1 over 16 KiB",
@@ -275,7 +284,7 @@ fn numbers_as_numbers(rt: HostRuntime) -> Result<(), Fail> {
 
 // Texts of `secret` that libxcrypt 4.4.33 (`crypt`), passlib 1.7.4 and phpass' form of it make, and shapes of those that
 // neither makes, with their form.
-const FORMS: [(&str, UnsupportedForm, &str); 35] = [
+const FORMS: [(&str, UnsupportedForm, &str); 32] = [
     (
         "*14E65567ABDB5135D0CFD9A70B3032C179A49EE7",
         UnsupportedForm::MysqlNative,
@@ -335,16 +344,6 @@ const FORMS: [(&str, UnsupportedForm, &str); 35] = [
         "phpass",
     ),
     (
-        "$bcrypt-sha256$v=2,t=2b,r=12$n79VH.0Q2TMWmt3Oqt9uku$Kq4Noyk3094Y2QlB8NdRT8SvGiI4ft2",
-        UnsupportedForm::BcryptSha256,
-        "bcrypt-sha256",
-    ),
-    (
-        "unsupported-bcrypt-sha256",
-        UnsupportedForm::BcryptSha256,
-        "bcrypt-sha256",
-    ),
-    (
         "$pbkdf2$20$cq61lvJey1kLodTam7NWCg$x37x/kfK1wss1PY/3KUJIAzZXi8",
         UnsupportedForm::Pbkdf2Sha1,
         "pbkdf2-sha1",
@@ -360,7 +359,6 @@ const FORMS: [(&str, UnsupportedForm, &str); 35] = [
         "scram",
     ),
     ("unsupported-scram", UnsupportedForm::Scram, "scram"),
-    ("$wp$2y$10$x", UnsupportedForm::WordPress, "wordpress"),
     (
         "{SHA}5en6G6MezRroT3XKqkdPOmY/BfQ=",
         UnsupportedForm::LdapSha,

@@ -1,33 +1,35 @@
-use Rattle.std.proofs.Common.{rules, ◌≡◌, true, Some, inl, inr}
+use Rattle.std.proofs.Common.{rules, ◌≡◌, true, Some, ap, inl, inr}
 use Rattle.sha_crypt.specs.declared.errors.Family.TheVariants.{Sha256, Sha512}
-use Rattle.any_check.specs.Table.{is_record}
-use Rattle.any_check.proofs.Rows.{bcrypt_row, md5_row, record_row, scrypt_row, sha_row, yescrypt_row}
+use Rattle.any_check.specs.Table.{is_record, of_bcrypt_check, of_scrypt_check, of_yescrypt_check}
+use Rattle.any_check.proofs.Rows.{record_row, sha_row}
 use Rattle.any_check.proofs.check.checked.Goals as goal
 
 pub returns-in-Md5Crypt : goal.returns-in-Md5Crypt
-returns-in-Md5Crypt g c =
-    rw c.in-Md5Crypt.is
-    (md5_row (g.K.PhcKdf.accepted c.args.kdf.now) (g.K.PhcKdf.tag c.args.kdf.now)
-    (g.K.PhcKdf.needs_memory c.args.kdf.now) c.args.password.now c.args.stored.now c.md5_checked.result c.md5_checked.ensures.answer)
+returns-in-Md5Crypt g c = rw c.in-Md5Crypt.is (inl c.md5_checked.ensures.answer)
 
 pub returns-in-Bcrypt : goal.returns-in-Bcrypt
 returns-in-Bcrypt g c =
-    rw (c.in-Bcrypt.is, c.of_bcrypt_check.ensures)
-    (bcrypt_row (g.K.PhcKdf.accepted c.args.kdf.now) (g.K.PhcKdf.tag c.args.kdf.now)
-    (g.K.PhcKdf.needs_memory c.args.kdf.now) c.args.password.now c.args.stored.now c.bcrypt_check.result c.bcrypt_check.ensures.answer)
+    rw (c.in-Bcrypt.is, c.of_bcrypt_check.ensures) (inl (ap of_bcrypt_check c.bcrypt_check.ensures.answer))
 
 pub returns-in-Yescrypt : goal.returns-in-Yescrypt
 returns-in-Yescrypt g c =
     rw (c.in-Yescrypt.is, c.of_yescrypt_check.ensures)
-    (yescrypt_row (g.K.PhcKdf.accepted c.args.kdf.now) (g.K.PhcKdf.tag c.args.kdf.now)
-    (g.K.PhcKdf.needs_memory c.args.kdf.now) c.args.password.now c.args.stored.now c.yescrypt_check_kept.result
-    c.yescrypt_check_kept.ensures.answer)
+    (elim c.yescrypt_check_kept.ensures.answer [
+      | inl same ↦ inl (ap of_yescrypt_check same)
+      | inr lack ↦ inr (ap of_yescrypt_check lack.0, lack.1)
+    ])
 
 pub returns-in-ScryptCrypt : goal.returns-in-ScryptCrypt
 returns-in-ScryptCrypt g c =
     rw (c.in-ScryptCrypt.is, c.of_scrypt_check.ensures)
-    (scrypt_row (g.K.PhcKdf.accepted c.args.kdf.now) (g.K.PhcKdf.tag c.args.kdf.now)
-    (g.K.PhcKdf.needs_memory c.args.kdf.now) c.args.password.now c.args.stored.now c.scrypt_check_kept.result c.scrypt_check_kept.ensures.answer)
+    (elim c.scrypt_check_kept.ensures.answer [
+      | inl same ↦ inl (ap of_scrypt_check same)
+      | inr lack ↦ inr (ap of_scrypt_check lack.0, lack.1)
+    ])
+
+pub returns-in-BcryptDigest : goal.returns-in-BcryptDigest
+returns-in-BcryptDigest g c =
+    rw (c.in-BcryptDigest.is, c.of_bcrypt_check-in-BcryptDigest.ensures) (inl (ap of_bcrypt_check c.digest_check.ensures.answer))
 
 pub returns-in-Sha256Crypt : goal.returns-in-Sha256Crypt
 returns-in-Sha256Crypt g c = elim c.in-Sha256Crypt.is [

@@ -1,0 +1,4 @@
+pub mod FrontTexts
+pub mod Answers
+mod MadeTexts
+mod Vectors

@@ -1,0 +1,6 @@
+use Rattle.std.proofs.Common.{[]}
+use Rattle.bcrypt_digest.proofs.keyed.hmac_sha384.Goals as goal
+
+pub returns : goal.returns
+returns c =
+    c.finalize.ensures c.args.key.now c.args.message.now (c.update.ensures c.args.key.now [] c.new-state.ensures)

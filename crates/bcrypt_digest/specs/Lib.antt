@@ -1,0 +1,6 @@
+pub mod Fits
+pub mod Front
+pub mod Text
+pub mod Views
+pub mod Check
+pub mod Laws
