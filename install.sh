@@ -10,6 +10,10 @@
 # is, unless a source is newer: that is refused. With PWCHECK_DIST=1 what dist/ holds is installed, by its SHA256SUMS, and nothing is
 # built: that needs no kit. Each way needs python3; a build needs gcc and binutils too. It says what it did, and what a C program
 # needs to find the library there.
+#
+# Where they are built for x86-64-v3 too, the shared libraries go to lib/glibc-hwcaps/x86-64-v3 beside the others, and the loader chooses. Of a
+# program one build can be there: that for x86-64-v3 where the loader says that this processor has it and no DESTDIR is set, and else the
+# other. PWCHECK_CPU=x86-64-v2 or x86-64-v3 says which; on a processor that lacks an instruction a program for x86-64-v3 ends with 127.
 set -eu
 top=$(cd "$(dirname "$0")" && pwd)
 programs="pwcheck pwtool wrapstream pwkdf pwlegacy pwfile pwstore"
@@ -26,6 +30,13 @@ case ${1:-} in
   -*) fail "$1 is no option and no PREFIX (a folder of that name is ./$1); install.sh --help says more" ;;
 esac
 [ $# -le 1 ] || fail "one PREFIX at most"
+case ${PWCHECK_CPU:-} in
+  x86-64-v3) newer=1 ;;
+  x86-64-v2) newer= ;;
+  '') newer=
+    [ -n "${DESTDIR:-}" ] || ! /lib64/ld-linux-x86-64.so.2 --help 2>/dev/null | grep -q 'x86-64-v3 (supported' || newer=1 ;;
+  *) fail "PWCHECK_CPU is x86-64-v2 or x86-64-v3, and no $PWCHECK_CPU" ;;
+esac
 prefix=$(realpath -m -- "${1:-/usr/local}")
 root=${DESTDIR:-}$prefix
 command -v python3 >/dev/null 2>&1 || fail "it needs python3, which isn't here"
@@ -65,24 +76,45 @@ else
   for program in $programs; do
     built "$program"
   done
+  # shellcheck disable=SC2086
+  ! may_build || python3 "$top/packaging/newer.py" "$top" $programs
 fi
 library=$(mktemp -d)
 trap 'rm -rf "$library"' EXIT
 python3 "$top/bindings/library.py" "$library" "${PWCHECK_PC_PREFIX:-$prefix}"
+program_file() { # PROGRAM: the build that is to be installed
+  local place=$top/crates/$1/out
+  ! from_dist || place=$top/dist
+  if [ -n "$newer" ] && [ -e "$place/x86-64-v3/$1" ]; then
+    from_dist || [ "$place/x86-64-v3/$1" -nt "$place/$1" ] || fail "$place/x86-64-v3/$1 is older than $place/$1: packaging/newer.py makes it anew"
+    place=$place/x86-64-v3
+  fi
+  echo "$place/$1"
+}
+
 for program in $programs; do
-  from_dist && place=$top/dist/$program || place=$top/crates/$program/out/$program
-  put 755 "$place" bin
+  file=$(program_file "$program")
+  put 755 "$file" bin
 done
+if [ -n "$newer" ]; then
+  case $file in
+    */x86-64-v3/*) echo "the programs are those for x86-64-v3" ;;
+    *) echo "no program is built for x86-64-v3: the programs are those for every processor of x86-64-v2" ;;
+  esac
+fi
 put 644 "$library/lib/libpwcheck.a" lib
 put_shared() { # NAME
-  local shared
-  for shared in "$library/lib/$1".so*; do
-    if [ -L "$shared" ]; then
-      cp -P "$shared" "$root/lib/"
-      echo "linked $root/lib/$(basename "$shared")"
-    else
-      put 644 "$shared" lib
-    fi
+  local folder shared
+  for folder in lib lib/glibc-hwcaps/x86-64-v3; do
+    for shared in "$library/$folder/$1".so*; do
+      if [ -L "$shared" ]; then
+        install -d "$root/$folder"
+        cp -P "$shared" "$root/$folder/"
+        echo "linked $root/$folder/$(basename "$shared")"
+      elif [ -e "$shared" ]; then
+        put 644 "$shared" "$folder"
+      fi
+    done
   done
 }
 

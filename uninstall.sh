@@ -29,7 +29,9 @@ take() { # FILE
 version=$(sed -n 's/^#define PWCHECK_VERSION "\(.*\)"$/\1/p' "$top/include/pwcheck.h")
 for file in bin/pwcheck bin/pwtool bin/wrapstream bin/pwkdf bin/pwlegacy bin/pwfile bin/pwstore include/pwcheck.h \
   lib/pkgconfig/pwcheck.pc lib/pkgconfig/pwcrypt.pc lib/libpwcheck.a lib/libpwcheck.so "lib/libpwcheck.so.${version%%.*}" "lib/libpwcheck.so.$version" \
-  lib/libpwcrypt.so lib/libpwcrypt.so.1 lib/libpwcrypt.so.1.0; do
+  lib/libpwcrypt.so lib/libpwcrypt.so.1 lib/libpwcrypt.so.1.0 \
+  "lib/glibc-hwcaps/x86-64-v3/libpwcheck.so.${version%%.*}" "lib/glibc-hwcaps/x86-64-v3/libpwcheck.so.$version" \
+  lib/glibc-hwcaps/x86-64-v3/libpwcrypt.so.1 lib/glibc-hwcaps/x86-64-v3/libpwcrypt.so.1.0; do
   take "$file"
 done
 for text in README.md SECURITY.md CHANGELOG.md LICENSE-MIT LICENSE-APACHE NOTICE; do

@@ -26,6 +26,7 @@ ROWS = [Row(*row) for row in (
     ("base64_times.py", "times", "rt cargo", 6, None, "the coders beside Debian's crate base64ct"),
     ("base64_streams.py", "times", "rt cargo base64 openssl", 8, None, "wrapped Base64 in streams and whole programs"),
     ("bcrypt.py", "times", "rt htpasswd", 5, None, "bcrypt beside libxcrypt, htpasswd and python3-bcrypt"),
+    ("c_tables.py", "times", "", 2, None, "calls of the C libraries on large tables, beside another build, libargon2 and libxcrypt"),
     ("check.py", "times", "gcc grep", 6, None, "`pwcheck check` over large inputs and over lines with a digest"),
     ("crypt_time.py", "times", "gcc", 2, None, "a call of crypt_r beside libxcrypt"),
     ("gate_times.py", "times", "rt", 60, None, "processor time of the gate, crate by crate"),
@@ -106,7 +107,10 @@ def run(row, words):
 
 
 def library_words(row):
-    """The library that a script on crypt(3) is given."""
+    """The library that a script on the C libraries is given, and for c_tables.py both builds of it."""
+    if row.name == "c_tables.py":
+        builds = [os.path.join(TOP, "dist", *folder, "libpwcheck.so.1.1") for folder in ((), ("x86-64-v3",))]
+        return [build for build in builds if os.path.exists(build)]
     return [os.path.join(TOP, "dist", "libpwcrypt.so.1.0")] if row.name in ("crypt_clients.py", "crypt_differ.py", "crypt_time.py") else []
 
 

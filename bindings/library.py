@@ -1,9 +1,11 @@
 #!/usr/bin/env python3
 """Lays out the C library in a folder as a package would: include/pwcheck.h, lib/libpwcheck.a, lib/libpwcheck.so.1.1
-with the links libpwcheck.so.1 and libpwcheck.so, and lib/pkgconfig/pwcheck.pc.
+with the links libpwcheck.so.1 and libpwcheck.so, and lib/pkgconfig/pwcheck.pc; and where packaging/newer.py made its archive,
+lib/glibc-hwcaps/x86-64-v3/libpwcheck.so.1.1, which the loader takes on a processor that has these instructions.
 
     bindings/library.py FOLDER [PREFIX]
     bindings/library.py --proved ARCHIVE     (the proved calls alone, without the face: what the kit made)
+    bindings/library.py --newer ARCHIVE      (the same for x86-64-v3; nothing where that isn't built)
 
 PREFIX is what pwcheck.pc names, where the folder is to be moved there (else the folder itself). libpwcheck.a is the
 archive that `rt lib` makes in crates/pwcheck_c, joined with the kit's allocator for C programs and with the face in C (face/), which
@@ -25,6 +27,10 @@ CRATES = os.path.join(TOP, "crates")
 PROGRAM = os.environ.get("PWCHECK", os.path.join(CRATES, "pwcheck", "out", "pwcheck"))
 DIST = os.path.join(TOP, "dist") if os.environ.get("PWCHECK_DIST") else None
 FACE = os.path.join(TOP, "face")
+PROGRAMS = ("pwcheck", "pwtool", "wrapstream", "pwkdf", "pwlegacy", "pwfile", "pwstore")
+# The processors of the second build, and the folder where the loader looks for it.
+CPU = "x86-64-v3"
+NEWER = os.path.join("glibc-hwcaps", CPU)
 # How the faces in C are compiled: as Debian 12 does with hardening=+all, and two flags that its later releases have. The folder stays out of
 # what is built.
 FLAGS = [f"-ffile-prefix-map={TOP}=.", "-std=c11", "-D_GNU_SOURCE", "-O2", "-Wall", "-Wextra", "-Werror", "-fPIC",
@@ -73,11 +79,30 @@ def made(path, crate, *command):
     return path
 
 
+def allocator():
+    """The kit's allocator for an archive."""
+    kit = os.environ.get("KIT") or os.path.dirname(run("rt", "doc", capture_output=True, text=True).stdout.strip())
+    return os.path.join(kit, "c", "liblibc_c.a")
+
+
 def archives():
     """The crate's archive, and the kit's allocator for it."""
-    kit = os.environ.get("KIT") or os.path.dirname(run("rt", "doc", capture_output=True, text=True).stdout.strip())
-    archive = ARCHIVE if "LIBPWCHECK_C" in os.environ else made(ARCHIVE, "pwcheck_c", "rt", "lib")
-    return [archive, os.path.join(kit, "c", "liblibc_c.a")]
+    return [ARCHIVE if "LIBPWCHECK_C" in os.environ else made(ARCHIVE, "pwcheck_c", "rt", "lib"), allocator()]
+
+
+def newer_archive(crate):
+    """The crate's archive for x86-64-v3, made anew by packaging/newer.py where rt is there; none where it isn't built. One that is older
+    than a source is refused."""
+    if "LIB" + crate.upper() in os.environ:
+        return None
+    path = os.path.join(CRATES, crate, "out", CPU, f"lib{crate}.a")
+    if shutil.which("rt") and not os.environ.get("PWCHECK_AS_BUILT"):
+        run(sys.executable, os.path.join(TOP, "packaging", "newer.py"), TOP, crate, stdout=subprocess.DEVNULL)
+    if not os.path.exists(path):
+        return None
+    newer = newer_source(path)
+    need(not newer, f"{os.path.relpath(path)} is older than {newer}: packaging/newer.py makes it anew")
+    return path
 
 
 def program():
@@ -135,6 +160,19 @@ def make_core(core):
         joined(core, "pwcheck_*", archives())
 
 
+def make_newer_core(core, crate, exports):
+    """The same archive for x86-64-v3, if it was built. The answer says whether it was."""
+    if DIST:
+        archive = os.path.join(DIST, CPU, f"lib{crate}.a")
+        if os.path.exists(archive):
+            shutil.copy(archive, core)
+        return os.path.exists(archive)
+    archive = newer_archive(crate)
+    if archive:
+        joined(core, exports, [archive, allocator()])
+    return archive is not None
+
+
 def make_static(static):
     if DIST:
         shutil.copy(os.path.join(DIST, "libpwcheck.a"), static)
@@ -163,6 +201,32 @@ def make_shared(lib, static):
     else:
         link_shared(os.path.join(lib, full), soname, static)
     make_links(lib, "libpwcheck", full, soname)
+    make_newer(lib, full, soname)
+
+
+def newer_folder(lib, full, soname):
+    """The folder of the second build, with the link that the loader looks for. The library of dist/ is put there, if it has one."""
+    folder = os.path.join(lib, NEWER)
+    os.makedirs(folder, exist_ok=True)
+    link = os.path.join(folder, soname)
+    if os.path.lexists(link):
+        os.remove(link)
+    os.symlink(full, link)
+    if DIST:
+        shutil.copy(os.path.join(DIST, CPU, full), folder)
+    return os.path.join(folder, full)
+
+
+def make_newer(lib, full, soname):
+    """The shared library for x86-64-v3, where it was built."""
+    with tempfile.TemporaryDirectory() as scratch:
+        core, static = os.path.join(scratch, "libpwcheck_c.a"), os.path.join(scratch, "libpwcheck.a")
+        if not make_newer_core(core, "pwcheck_c", "pwcheck_*"):
+            return
+        shared = newer_folder(lib, full, soname)
+        if not DIST:
+            with_face(core, static)
+            link_shared(shared, soname, static)
 
 
 def link_shared(path, soname, static):
@@ -197,9 +261,11 @@ def laid_out(folder, prefix=None):
 
 
 if __name__ == "__main__":
-    need(len(sys.argv) in (2, 3), "usage: library.py FOLDER [PREFIX], or library.py --proved ARCHIVE")
+    need(len(sys.argv) in (2, 3), "usage: library.py FOLDER [PREFIX], or library.py --proved ARCHIVE, or library.py --newer ARCHIVE")
     need(DIST or shutil.which("gcc") and shutil.which("ld") and shutil.which("objcopy"), "it needs gcc and binutils")
     if sys.argv[1] == "--proved":
         make_core(sys.argv[2])
+    elif sys.argv[1] == "--newer":
+        make_newer_core(sys.argv[2], "pwcheck_c", "pwcheck_*")
     else:
         laid_out(*sys.argv[1:])

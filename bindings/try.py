@@ -178,7 +178,7 @@ def compare_login(pwcheck):
     for text in texts:
         need(pwcheck.check_login(b"correct horse", text) == pwcheck.Answer.MATCH, "no match of a recommended text")
         need(pwcheck.check_login(b"Correct horse", text) == pwcheck.Answer.MISMATCH, "no mismatch of a recommended text")
-        need(not pwcheck.needs_remake(text) and pwcheck.needs_remake(text[:-1]), "a recommended text isn't one")
+        need(not pwcheck.needs_remake(text) and pwcheck.needs_remake(text[:-2]), "a recommended text isn't one")
         need(pwcheck.check_any(b"correct horse", text, pwcheck.LIMITS_LOGIN) == pwcheck.Answer.MATCH, "above the limits of a login")
     for text in ANY:
         need(pwcheck.check_login(b"secret", text) == pwcheck.Answer.MATCH, f"no match for {text}")
@@ -319,19 +319,19 @@ def compare_memory(pwcheck):
     with open("/proc/self/statm", encoding="ascii") as source:
         now = int(source.read().split()[0]) * resource.getpagesize()
     resource.setrlimit(resource.RLIMIT_AS, (now + (16 << 20), hard))
-    out, n, call = (ctypes.c_uint8 * 96)(*range(96)), ctypes.c_size_t(77), pwcheck._lib
+    out, n, call = (ctypes.c_uint8 * 97)(*range(97)), ctypes.c_size_t(77), pwcheck._lib
     answers = [pwcheck.check(b"password", big), pwcheck.check_limited(b"password", big, 0, 1 << 40)]
     statuses = [pwcheck._scrypt(b"password", 8, b"salt", 4, 16, 8, 1, ctypes.cast(out, ctypes.c_char_p), 64),
-                call.pwcheck_scrypt_text(b"password", 8, bytes(16), 16, 16, 8, 1, ctypes.cast(out, ctypes.c_char_p), 96,
+                call.pwcheck_scrypt_text(b"password", 8, bytes(16), 16, 16, 8, 1, ctypes.cast(out, ctypes.c_char_p), 97,
                                          ctypes.byref(n)),
-                call.pwcheck_yescrypt_text(b"password", 8, bytes(16), 16, 14, 32, 0, ctypes.cast(out, ctypes.c_char_p), 96,
+                call.pwcheck_yescrypt_text(b"password", 8, bytes(16), 16, 14, 32, 0, ctypes.cast(out, ctypes.c_char_p), 97,
                                            ctypes.byref(n)),
-                call.pwcheck_argon2id_text(b"password", 8, bytes(16), 16, 65536, 1, 1, ctypes.cast(out, ctypes.c_char_p), 96,
+                call.pwcheck_argon2id_text(b"password", 8, bytes(16), 16, 65536, 1, 1, ctypes.cast(out, ctypes.c_char_p), 97,
                                            ctypes.byref(n))]
     resource.setrlimit(resource.RLIMIT_AS, (soft, hard))
     need([pwcheck.word(answer) for answer in answers] == ["no-memory"] * 2, "want of memory isn't told")
     need(statuses == [-2] * 4, "want of memory isn't told")
-    need(bytes(out) == bytes(range(96)) and n.value == 77, "want of memory leaves something in `out`")
+    need(bytes(out) == bytes(range(97)) and n.value == 77, "want of memory leaves something in `out`")
     need(pwcheck.check_limited(b"password", big, 0, 1) == pwcheck.Answer.OVER_COST, "a bound on bytes isn't kept")
 
 

@@ -4,7 +4,7 @@
 usage: checks/dist.py      (it ends with 1 where dist/ doesn't hold together, or claims to be of these sources and differs)
 
 dist/ is made by packaging/dist.sh. Its sums are compared in any case. Where its SOURCES are those that stand here, each program that was
-built here, by `rt ci` or `rt run`, and the header have to be the same bytes.
+built here, by `rt ci` or `rt run` or for x86-64-v3 by packaging/newer.py, and the header have to be the same bytes.
 """
 import hashlib
 import os
@@ -28,7 +28,8 @@ def listed():
 
 def bad_sums(sums):
     """The files of dist/ that aren't those of its own list."""
-    names = set(os.listdir(os.path.join(TOP, "dist"))) - {"SHA256SUMS"}
+    dist = os.path.join(TOP, "dist")
+    names = {os.path.relpath(os.path.join(at, name), dist) for at, _, files in os.walk(dist) for name in files} - {"SHA256SUMS"}
     for name in sorted(names ^ set(sums)):
         yield f"dist/{name} is in one of SHA256SUMS and the folder alone"
     for name in sorted(names & set(sums)):
@@ -38,7 +39,8 @@ def bad_sums(sums):
 
 def built(name):
     """What stands here in the place of this file, if something does."""
-    for path in (("crates", name, "out", name), ("include", name)):
+    folder, name = os.path.split(name)
+    for path in (("crates", name, "out", folder, name), ("include", name)):
         if os.path.isfile(os.path.join(TOP, *path)):
             return path
     return None

@@ -1,5 +1,7 @@
-/* How much memory the calls of libpwcheck take: none where pwcheck.h says so, none for a text above its limit, and where a request is
- * refused the answer says it and nothing was written. To be linked with --wrap=malloc,--wrap=mmap, which the library calls by these names. */
+/* How much memory the calls of libpwcheck take: none where pwcheck.h says so, none for a text above its limit or for a buffer that is too
+ * short, and where a request is refused the answer says it and nothing was written; which tables are on huge pages, and that each goes back
+ * whole. To be linked with --wrap=malloc,--wrap=mmap,--wrap=munmap,--wrap=madvise, which the library calls by these names. */
+#include <errno.h>
 #include <pwcheck.h>
 #include <stdio.h>
 #include <stdlib.h>
@@ -8,11 +10,18 @@
 #include <time.h>
 
 static int requests, refused = -1;
+/* The bytes that are mapped, those for which huge pages were asked, and whether the kernel has none. */
+static size_t mapped, advised;
+static bool without_huge_pages;
 
 void *__real_malloc(size_t size);
 void *__wrap_malloc(size_t size);
 void *__real_mmap(void *at, size_t size, int protection, int flags, int file, off_t place);
 void *__wrap_mmap(void *at, size_t size, int protection, int flags, int file, off_t place);
+int __real_munmap(void *at, size_t size);
+int __wrap_munmap(void *at, size_t size);
+int __real_madvise(void *at, size_t size, int advice);
+int __wrap_madvise(void *at, size_t size, int advice);
 
 void *__wrap_malloc(size_t size)
 {
@@ -24,7 +33,23 @@ void *__wrap_mmap(void *at, size_t size, int protection, int flags, int file, of
     if (refused == -2)
         return MAP_FAILED;
     requests++;
+    mapped += size;
     return __real_mmap(at, size, protection, flags, file, place);
+}
+
+int __wrap_munmap(void *at, size_t size)
+{
+    mapped -= size;
+    return __real_munmap(at, size);
+}
+
+int __wrap_madvise(void *at, size_t size, int advice)
+{
+    advised += advice == MADV_HUGEPAGE ? size : 0;
+    if (!without_huge_pages)
+        return __real_madvise(at, size, advice);
+    errno = EINVAL;
+    return -1;
 }
 
 #define NEED(condition)                                                                       \
@@ -113,6 +138,52 @@ static void above_a_limit(void)
     NEED(clock() - start < CLOCKS_PER_SEC / 4);
 }
 
+/* Makers with a buffer one byte too short: the texts would take up to 2 GiB, and minutes to hours. None is begun. */
+static void short_buffers(void)
+{
+    static const uint8_t SHA_SALT[] = "saltsaltsaltsal";
+    clock_t start = clock();
+    memset(out, 'x', sizeof out);
+    len = 77;
+    TAKES(0, PWCHECK_NO_ROOM, pwcheck_argon2id_text(PASSWORD, 2, SALT, sizeof SALT, 2097152, 8, 1, out, 98, &len));
+    TAKES(0, PWCHECK_NO_ROOM, pwcheck_make(PASSWORD, 2, out, 96, &len));
+    TAKES(0, PWCHECK_NO_ROOM, pwcheck_yescrypt_text(PASSWORD, 2, SALT, sizeof SALT, 18, 32, 1024, out, 76, &len));
+    TAKES(0, PWCHECK_NO_ROOM, pwcheck_scrypt_text(PASSWORD, 2, SALT, sizeof SALT, 17, 8, 1024, out, 90, &len));
+    TAKES(0, PWCHECK_NO_ROOM, pwcheck_bcrypt_text(PASSWORD, 2, SALT, sizeof SALT, 31, out, 59, &len));
+    TAKES(0, PWCHECK_NO_ROOM, pwcheck_pbkdf2_sha256_text(PASSWORD, 2, SALT, sizeof SALT, 10000000, out, 96, &len));
+    TAKES(0, PWCHECK_NO_ROOM, pwcheck_sha256_crypt_text(PASSWORD, 2, SHA_SALT, 15, 999999999, out, 78, &len));
+    TAKES(0, PWCHECK_NO_ROOM, pwcheck_sha512_crypt_text(PASSWORD, 2, SHA_SALT, 15, 999999999, out, 121, &len));
+    NEED(clock() - start < CLOCKS_PER_SEC / 4);
+    NEED(len == 77 && out[0] == 'x' && !memcmp(out, out + 1, sizeof out - 1));
+    /* A byte more is enough. */
+    TAKES(1, PWCHECK_DONE, pwcheck_argon2id_text(PASSWORD, 2, SALT, sizeof SALT, 64, 2, 3, out, 94, &len));
+    NEED(len == 94);
+}
+
+/* A table of so many KiB is in one mapping, for which huge pages are asked, or in none; it goes back whole. A kernel without huge pages
+ * changes no answer. */
+static void on_huge_pages(uint32_t memory, size_t wanted)
+{
+    for (int lacks = 0; lacks < 2; lacks++) {
+        without_huge_pages = lacks;
+        advised = 0;
+        errno = 0;
+        TAKES(1, PWCHECK_DONE, pwcheck_argon2id_text(PASSWORD, 2, SALT, sizeof SALT, memory, 1, 1, out, sizeof out, &len));
+        NEED(advised == wanted && mapped == 0 && errno == 0);
+    }
+    without_huge_pages = false;
+}
+
+static void huge_pages(void)
+{
+    on_huge_pages(2044, 0);
+    on_huge_pages(2048, 2 << 20);
+    on_huge_pages(2300, 2300 << 10);
+    on_huge_pages(2304, 4 << 20);
+    on_huge_pages(19456, 20 << 20);
+    on_huge_pages(24576, 24 << 20);
+}
+
 /* With each request refused in turn, and with all of them. */
 static void refused_memory(void)
 {
@@ -148,6 +219,8 @@ int main(void)
     NEED(login(YESCRYPT) == PWCHECK_MATCH && requests > 0);
     without_memory();
     above_a_limit();
+    short_buffers();
+    huge_pages();
     refused_memory();
     printf("memory.c: %d calls take the memory that pwcheck.h says\n", calls);
     return 0;

@@ -1,6 +1,7 @@
 #!/usr/bin/env python3
 """Builds libpwcrypt, crypt(3) over the proved calls, in a folder: lib/libpwcrypt.so.1.0 with the links libpwcrypt.so.1 and
-libpwcrypt.so, and lib/libpwcrypt_c.a, the proved calls below its face in C.
+libpwcrypt.so, and lib/libpwcrypt_c.a, the proved calls below its face in C; and the same for x86-64-v3 in lib/glibc-hwcaps/x86-64-v3,
+where packaging/newer.py made its archive.
 
     crypt3/library.py FOLDER
 
@@ -29,10 +30,7 @@ LINK = ["-Wl,-z,relro", "-Wl,-z,now", "-Wl,-z,defs", "-Wl,-z,text", "-Wl,-z,noex
 
 def archives():
     """The crate's archive, and the kit's allocator for it."""
-    kit = os.environ.get("KIT") or os.path.dirname(
-        library.run("rt", "doc", capture_output=True, text=True).stdout.strip())
-    archive = ARCHIVE if "LIBPWCRYPT_C" in os.environ else library.made(ARCHIVE, "pwcrypt_c", "rt", "lib")
-    return [archive, os.path.join(kit, "c", "liblibc_c.a")]
+    return [ARCHIVE if "LIBPWCRYPT_C" in os.environ else library.made(ARCHIVE, "pwcrypt_c", "rt", "lib"), library.allocator()]
 
 
 def link(path, soname, calls):
@@ -58,6 +56,12 @@ def laid_out(folder):
         library.joined(calls, "pwcrypt_*", archives())
         link(os.path.join(lib, full), soname, calls)
     library.make_links(lib, "libpwcrypt", full, soname)
+    newer_calls = os.path.join(lib, library.CPU + ".a")
+    if library.make_newer_core(newer_calls, "pwcrypt_c", "pwcrypt_*"):
+        shared = library.newer_folder(lib, full, soname)
+        if not library.DIST:
+            link(shared, soname, newer_calls)
+        os.replace(newer_calls, os.path.join(os.path.dirname(shared), "libpwcrypt_c.a"))
     return os.path.join(lib, full)
 
 

@@ -137,8 +137,8 @@ enum pwcheck_status {
     PWCHECK_DONE = 0,
     PWCHECK_OUT_OF_RANGE = -1,      /* a number or a length isn't taken; nothing was written */
     PWCHECK_NO_MEMORY = -2,         /* there is no memory for the key; nothing was written */
-    PWCHECK_NO_ROOM = -3,           /* the buffer is too short; nothing was written. A maker has hashed before it says
-                                     * so: give it PWCHECK_TEXT_MAX bytes */
+    PWCHECK_NO_ROOM = -3,           /* the buffer is too short; nothing was written. A maker says so before it hashes;
+                                     * PWCHECK_TEXT_MAX bytes are always enough */
     PWCHECK_NOT_BASE64 = -4,        /* the text is the encoding of no bytes */
 
     /* -5 to -7, from version 1.1 on: the password is refused, and nothing was written. Its user may choose another */

@@ -46,6 +46,11 @@ package() { # NAME TREE SECTION LIBRARY, and the description on standard input
 if [ -e "$tree/usr/lib/libpwcrypt.so.1" ]; then
   install -d "$crypt_tree/usr/lib" "$crypt_tree/usr/share/man/man3"
   mv "$tree"/usr/lib/libpwcrypt.so* "$crypt_tree/usr/lib"
+  newer=usr/lib/glibc-hwcaps/x86-64-v3
+  if [ -e "$tree/$newer/libpwcrypt.so.1" ]; then
+    install -d "$crypt_tree/$newer"
+    mv "$tree/$newer"/libpwcrypt.so* "$crypt_tree/$newer"
+  fi
   mv "$tree/usr/share/man/man3/pwcrypt.3.gz" "$crypt_tree/usr/share/man/man3"
   package libpwcrypt1 "$crypt_tree" libs libpwcrypt <<'TEXT'
 Description: crypt(3) over proved code

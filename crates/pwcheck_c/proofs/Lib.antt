@@ -6,3 +6,4 @@ pub mod StoredCosts
 pub mod ScryptTexts
 pub mod AnyWords
 pub mod MadeUtf8
+pub mod TextLengths

@@ -1,8 +1,9 @@
 -- The scrypt text of a password is the text of a record in bounds.
 use Rattle.std.proofs.Common.{◌≡◌, ℕ, ◌*◌, ◌^◌, ◌<◌, ◌≤◌, Bool, true, List, ◌∷◌, ◌++◌, length}
 use Rattle.std.proofs.Common.{refl, sym, ap, ◌∙◌, arith, append_assoc, Ok}
-use Rattle.std.specs.Prelude.{◌&&◌, codes, nat_le, nat_lt}
+use Rattle.std.specs.Prelude.{◌&&◌, ◌==◌, codes, nat_le, nat_lt}
 use Rattle.std.specs.Fmt.{decimal}
+use Rattle.std.specs.Str.{is_utf8}
 use Rattle.std.proofs.lemmas.Bool.{and_parts}
 use Rattle.std.proofs.lemmas.Bool.Decides.{nat_tests}
 use Rattle.std.proofs.lemmas.List.{length-append}
@@ -22,6 +23,9 @@ use Rattle.scrypt_plain.specs.Scrypt.{scrypt}
 use Rattle.scrypt_plain.proofs.MadeRecord.{IsWritten, made_params, made_record, scrypt_made}
 use Rattle.stored_check.proofs.MadeTexts.{record_made}
 use Rattle.stored_check.specs.Verdict.{verdict}
+use Rattle.any_make.specs.Made.{hash_text}
+use Rattle.any_make.specs.declared.scheme.MakeCost.TheVariants as cost
+use Rattle.pwcheck_c.specs.Inputs.{is_password, scrypt_text_takes}
 use Rattle.pwcheck_c.specs.Texts.{scrypt_text}
 
 -- ---- numbers in bounds
@@ -120,3 +124,16 @@ scrypt_verdict password salt ln r p bounds below size short =
     (scrypt_made (decimal ln) (decimal r) (decimal p) ln r p (written ln r p small bounds) password salt below
     (omega (arith, size)) (omega (arith, size))) in
     made.1 password short ∙ ap (λ (b : Bool). Ok b) made.2
+
+-- ---- it is the text that `any_make` makes
+
+pub same_text : (password salt : List ℕ) (ln r p : ℕ)
+    → hash_text (cost.Scrypt (record { ln = ln; r = r; p = p })) password salt ≡ scrypt_text password salt ln r p
+unfolding hash_text scrypt_text
+same_text password salt ln r p = refl
+
+pub taken_salt : (password salt : List ℕ) (ln r p : ℕ) → scrypt_text_takes password salt ln r p ≡ true → length salt ≡ 16
+taken_salt password salt ln r p is =
+    let parts = and_parts (is_password password && is_utf8 password && (length salt == 16)) (in_bounds ln r p) is in
+    let first = and_parts (is_password password && is_utf8 password) (length salt == 16) parts.0 in
+    grind (arith, nat_tests, first.1)

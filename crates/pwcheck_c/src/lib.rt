@@ -26,6 +26,7 @@ mod makers_tests;
 mod remake;
 #[cfg(test)]
 mod remake_tests;
+mod room;
 mod scrypt_text;
 mod sha_check;
 mod sha_text;

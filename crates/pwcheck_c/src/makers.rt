@@ -1,13 +1,16 @@
 //! Texts of bcrypt, yescrypt, Argon2id and PBKDF2 for a salt that is given.
 
-ghost use Rattle.std.specs.Prelude.{◌≡◌, ◌⊎◌, Ok, false, take, true};
+ghost use Rattle.std.specs.Prelude.{◌≡◌, ◌⊎◌, IsNone, Ok, false, length, take, true};
 ghost use Rattle.any_check.specs.Records.{accepted, tag};
 ghost use Rattle.any_check.specs.Table.{any_verdict};
-ghost use Rattle.any_make.specs.Costs.{needs_memory};
-ghost use Rattle.any_make.specs.Made.{made};
+ghost use Rattle.any_make.specs.Costs.{is_taken, needs_memory, salt_length};
+ghost use Rattle.any_make.specs.Made.{made, make_fault};
+ghost use Rattle.bcrypt_plain.specs.Check.{has_zero};
 ghost use Rattle.pwcheck_c.specs.Made.{IsMade, IsMadeOrLacks, argon2id_cost, fault_status, yescrypt_cost};
 ghost use Rattle.c_buffers.specs.Statuses.{status_done};
 
+use crate::check::text_of;
+use crate::room::text_len;
 use crate::statuses::{
     DONE, NO_MEMORY, NO_ROOM, OUT_OF_RANGE, REFUSED_LENGTH, REFUSED_UTF8, REFUSED_ZERO,
 };
@@ -29,7 +32,39 @@ fn fault_status(fault: MakeFault) -> i32
     }
 }
 
-// Writes the text of a password, a cost and a salt.
+// Whether a zero byte stands in a password.
+fn has_zero(password: &[u8]) -> bool
+    ensures { result ≡ has_zero password.now }
+{
+    password.iter().any(|b| *b == 0)
+}
+
+// The first cause that no text is made, whatever the buffer. It is found without a hash.
+fn make_fault(cost: MakeCost, password: &[u8], salt: &[u8]) -> Option<MakeFault>
+    ensures fault { result ≡ make_fault cost password.now salt.now }
+    ensures cost { IsNone result → is_taken cost ≡ true }
+    ensures salt { IsNone result → length salt.now ≡ salt_length cost }
+{
+    if !cost.is_taken() {
+        return Some(MakeFault::Cost);
+    }
+    if salt.len() != cost.salt_length() {
+        return Some(MakeFault::Salt);
+    }
+    if password.len() > cost.password_length() {
+        return Some(MakeFault::PasswordTooLong);
+    }
+    if text_of(password).is_none() {
+        return Some(MakeFault::NotUtf8);
+    }
+    if !cost.takes_zero() && has_zero(password) {
+        return Some(MakeFault::ZeroByte);
+    }
+    None
+}
+
+// Writes the text of a password, a cost and a salt. A buffer that is too short is told before anything is hashed.
+#[tactic(auto, unfolding(any_make::specs::Made::made))]
 fn make(
     alloc: Global,
     cost: MakeCost,
@@ -43,6 +78,12 @@ fn make(
         → IsMade (made cost password.now salt.now) out.old out.new len.old len.new result }
     ensures matches { result ≡ status_done → any_verdict accepted tag password.now (take len.new out.new) ≡ Ok true }
 {
+    if let Some(fault) = make_fault(cost, password, salt) {
+        return fault_status(fault);
+    }
+    if out.len() < text_len(cost) {
+        return NO_ROOM;
+    }
     match make_text(alloc, cost, password, salt, out) {
         Ok(count) => {
             *len = count;

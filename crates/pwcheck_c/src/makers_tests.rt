@@ -6,6 +6,8 @@ use crate::any_tests::NONE;
 use crate::makers::{
     pwcheck_argon2id_text, pwcheck_bcrypt_text, pwcheck_pbkdf2_sha256_text, pwcheck_yescrypt_text,
 };
+use crate::scrypt_text::pwcheck_scrypt_text;
+use crate::sha_text::{pwcheck_sha256_crypt_text, pwcheck_sha512_crypt_text};
 use crate::statuses::{DONE, NO_ROOM, OUT_OF_RANGE, REFUSED_LENGTH, REFUSED_UTF8, REFUSED_ZERO};
 
 const HORSE: &[u8] = b"correct horse";
@@ -191,4 +193,123 @@ fn refused_numbers(rt: HostRuntime) {
                 == OUT_OF_RANGE
     );
     assert!(rt; out == OLD && len == 99);
+}
+
+// Buffers one byte too short for texts that would take minutes to hours, or 2 GiB: the answer comes at once, as nothing is hashed.
+#[test]
+fn short_buffers(rt: HostRuntime) {
+    let (mut out, mut len) = ([0xa5; 128], 99);
+    assert!(rt;
+        pwcheck_bcrypt_text(rt.alloc(), HORSE, SALT, 31, &mut out[..59], &mut len) == NO_ROOM
+            && pwcheck_yescrypt_text(
+                rt.alloc(),
+                HORSE,
+                SALT,
+                18,
+                32,
+                1_024,
+                &mut out[..76],
+                &mut len
+            ) == NO_ROOM
+    );
+    assert!(rt;
+        pwcheck_argon2id_text(
+            rt.alloc(),
+            HORSE,
+            SALT,
+            2_097_152,
+            8,
+            1,
+            &mut out[..98],
+            &mut len
+        ) == NO_ROOM
+            && pwcheck_scrypt_text(
+                rt.alloc(),
+                HORSE,
+                SALT,
+                17,
+                8,
+                1_024,
+                &mut out[..90],
+                &mut len
+            ) == NO_ROOM
+    );
+    assert!(rt;
+        pwcheck_sha256_crypt_text(HORSE, b"x", 999_999_999, &mut out[..64], &mut len) == NO_ROOM
+            && pwcheck_sha512_crypt_text(HORSE, SALT, 999_999_999, &mut out[..122], &mut len)
+                == NO_ROOM
+            && pwcheck_pbkdf2_sha256_text(rt.alloc(), HORSE, SALT, 10_000_000, &mut [], &mut len)
+                == NO_ROOM
+    );
+    assert!(rt; out == [0xa5; 128] && len == 99);
+    assert!(rt;
+        pwcheck_bcrypt_text(rt.alloc(), b"\0", SALT, 31, &mut [], &mut len) == REFUSED_ZERO
+            && pwcheck_bcrypt_text(rt.alloc(), HORSE, SALT, 32, &mut [], &mut len) == OUT_OF_RANGE
+            && pwcheck_sha256_crypt_text(b"\xff", b"x", 5_000, &mut [], &mut len) == OUT_OF_RANGE
+            && pwcheck_scrypt_text(rt.alloc(), HORSE, b"x", 4, 8, 1, &mut [], &mut len)
+                == OUT_OF_RANGE
+    );
+}
+
+// A buffer of just the length, where a number of the text has few digits or many.
+#[test]
+fn rooms(rt: HostRuntime) {
+    let (mut out, mut len) = ([0; 128], 99);
+    for (t, n) in [
+        (0, 73),
+        (1, 75),
+        (48, 75),
+        (49, 76),
+        (560, 76),
+        (561, 77),
+        (1_024, 77),
+    ] {
+        let got = pwcheck_yescrypt_text(rt.alloc(), HORSE, SALT, 2, 1, t, &mut out[..n], &mut len);
+        assert!(rt; got == DONE && len == n);
+        let got = pwcheck_yescrypt_text(
+            rt.alloc(),
+            HORSE,
+            SALT,
+            2,
+            1,
+            t,
+            &mut out[..n - 1],
+            &mut len,
+        );
+        assert!(rt; got == NO_ROOM);
+    }
+    for (rounds, n) in [
+        (1, 90),
+        (9, 90),
+        (10, 91),
+        (99, 91),
+        (100, 92),
+        (9_999, 93),
+        (10_000, 94),
+    ] {
+        let got = pwcheck_pbkdf2_sha256_text(
+            rt.alloc(),
+            HORSE,
+            SALT,
+            rounds,
+            &mut out[..n],
+            &mut len,
+        );
+        assert!(rt; got == DONE && len == n);
+        let got = pwcheck_pbkdf2_sha256_text(
+            rt.alloc(),
+            HORSE,
+            SALT,
+            rounds,
+            &mut out[..n - 1],
+            &mut len,
+        );
+        assert!(rt; got == NO_ROOM);
+    }
+    for (rounds, n) in [(4_999, 75), (5_000, 63), (5_001, 75), (10_000, 76)] {
+        let got = pwcheck_sha256_crypt_text(HORSE, SALT, rounds, &mut out[..n], &mut len);
+        assert!(rt; got == DONE && len == n);
+        let got = pwcheck_sha256_crypt_text(HORSE, SALT, rounds, &mut out[..n - 1], &mut len);
+        assert!(rt; got == NO_ROOM);
+    }
 }

@@ -12,13 +12,16 @@ ghost use Rattle.c_buffers.specs.Put.{IsPut};
 ghost use Rattle.phc_kdf.specs.Limits.{password_max};
 
 use crate::check::text_of;
-use crate::statuses::{NO_MEMORY, OUT_OF_RANGE};
+use crate::room::text_len;
+use crate::statuses::{NO_MEMORY, NO_ROOM, OUT_OF_RANGE};
+use any_make::MakeCost;
 use base64ct::{Base64Unpadded, Encoding};
 use c_buffers::put;
 use pieces::short_bytes::ShortBytes;
 use scrypt_plain::{in_bounds, scrypt};
 use std::alloc::{AllocError, Global};
 use stored_check::PASSWORD_MAX;
+use yescrypt_plain::ScryptParams;
 
 // Room for `$scrypt$ln=`, `,r=`, `,p=`, three numbers of 32 bits, two `$` and 65 characters.
 const TEXT_MAX: usize = 144;
@@ -127,6 +130,9 @@ pub extern "C" fn pwcheck_scrypt_text(
 {
     if !is_taken(password, salt, ln, r, p) {
         return OUT_OF_RANGE;
+    }
+    if out.len() < text_len(MakeCost::Scrypt(ScryptParams { ln, r, p })) {
+        return NO_ROOM;
     }
     match scrypt_text(alloc, password, salt, ln, r, p) {
         Ok(text) => put(text.as_slice(), out, len),

@@ -11,7 +11,8 @@ ghost use Rattle.sha_crypt.specs.Limits.{salt_max_len};
 ghost use Rattle.pwcheck_c.specs.Statuses.{status_out_of_range};
 
 use crate::check::text_of;
-use crate::statuses::OUT_OF_RANGE;
+use crate::room::sha_text_len;
+use crate::statuses::{NO_ROOM, OUT_OF_RANGE};
 use c_buffers::put;
 use pieces::short_bytes::ShortBytes;
 use sha_crypt::{
@@ -77,6 +78,9 @@ pub extern "C" fn pwcheck_sha256_crypt_text(
     }
     match Sha256Params::new(rounds as usize) {
         Ok(params) => {
+            if out.len() < sha_text_len(Family::Sha256, salt.len(), rounds) {
+                return NO_ROOM;
+            }
             let text = made_text(Family::Sha256, password, salt, params.rounds());
             put(text.as_slice(), out, len)
         }
@@ -104,6 +108,9 @@ pub extern "C" fn pwcheck_sha512_crypt_text(
     }
     match Sha512Params::new(rounds as usize) {
         Ok(params) => {
+            if out.len() < sha_text_len(Family::Sha512, salt.len(), rounds) {
+                return NO_ROOM;
+            }
             let text = made_text(Family::Sha512, password, salt, params.rounds());
             put(text.as_slice(), out, len)
         }
