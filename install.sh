@@ -105,6 +105,8 @@ fi
 put 644 "$library/lib/libpwcheck.a" lib
 put_shared() { # NAME
   local folder shared
+  # The loader would take what an earlier version left there in the place of this one.
+  rm -f "$root/lib/glibc-hwcaps/x86-64-v3/$1".so*
   for folder in lib lib/glibc-hwcaps/x86-64-v3; do
     for shared in "$library/$folder/$1".so*; do
       if [ -L "$shared" ]; then

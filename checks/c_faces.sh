@@ -10,8 +10,8 @@
 # 3. libpwcheck.a made anew from libpwcheck_c.a and face/, libpwcheck.so.1.1 from that, and libpwcrypt.so.1.0 from crypt3/pwcrypt.c and
 #    libpwcrypt_c.a, are the same bytes, where the compiler and the linker are those that COMPILER names.
 # 4. What stack each call takes, and that it leaves nothing of a password (checks/stack.py).
-# 5. The same of FOLDER/x86-64-v3, where it is there and the processor has these instructions: both shared libraries define the same symbols, and
-#    the loader takes those of glibc-hwcaps/x86-64-v3 unless it is told not to.
+# 5. The same of FOLDER/x86-64-v3, where it is there and the processor has these instructions. Both builds of a library define the same
+#    symbols, and the loader takes that of glibc-hwcaps/x86-64-v3 unless it is told not to.
 set -eu
 top=$(cd "$(dirname "$0")/.." && pwd)
 folder=$(cd "${1:-$top/dist}" && pwd)

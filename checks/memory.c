@@ -1,6 +1,6 @@
-/* How much memory the calls of libpwcheck take: none where pwcheck.h says so, none for a text above its limit or for a buffer that is too
- * short, and where a request is refused the answer says it and nothing was written; which tables are on huge pages, and that each goes back
- * whole. To be linked with --wrap=malloc,--wrap=mmap,--wrap=munmap,--wrap=madvise, which the library calls by these names. */
+/* How much memory the calls of libpwcheck take: none where pwcheck.h says so, and none for a text above its limit or for a buffer that is
+ * too short. Where a request is refused, the answer says it and nothing was written. Large tables are on huge pages, and go back whole. To be
+ * linked with --wrap=malloc,--wrap=mmap,--wrap=munmap,--wrap=madvise, which the library calls by these names. */
 #include <errno.h>
 #include <pwcheck.h>
 #include <stdio.h>

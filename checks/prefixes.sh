@@ -38,4 +38,10 @@ DESTDIR="$folder/root" "$top/install.sh" /usr >log 2>&1 || fail "DESTDIR: $(tail
 grep -qx 'prefix=/usr' root/usr/lib/pkgconfig/pwcheck.pc || fail "pwcheck.pc below DESTDIR names another prefix"
 DESTDIR="$folder/root" "$top/uninstall.sh" /usr >log
 [ -z "$(find root -not -type d)" ] || fail "uninstall.sh leaves files below DESTDIR"
+# A library of an earlier version that the loader would take before the new one.
+mkdir -p stale/lib/glibc-hwcaps/x86-64-v3
+echo stale >stale/lib/glibc-hwcaps/x86-64-v3/libpwcheck.so.1
+"$top/install.sh" stale >log 2>&1 || fail "stale: $(tail -n 1 log)"
+! grep -qsx stale stale/lib/glibc-hwcaps/x86-64-v3/libpwcheck.so.1 || fail "install.sh leaves a library for x86-64-v3 of an earlier version"
+"$top/uninstall.sh" stale >log
 echo "prefixes.sh: $count prefixes and DESTDIR, each with a caller built by pkg-config"

@@ -56,6 +56,7 @@ python3 bindings/library.py "$work/lib"
 python3 checks/exports.py "$work/lib"
 python3 bindings/try.py "$work/try"
 checks/sanitizers.sh "$made"
+if [ -e "$made/x86-64-v3" ] && /lib64/ld-linux-x86-64.so.2 --help | grep -q 'x86-64-v3 (supported'; then checks/sanitizers.sh "$made/x86-64-v3"; fi
 if [ -e /usr/include/crypt.h ]; then
   python3 crypt3/library.py "$work/crypt"
   python3 bench/crypt_differ.py "$work/crypt/lib/libpwcrypt.so.1" 2000

@@ -11,8 +11,8 @@
 
 #include "face.h"
 
-/* The last piece of a table is a huge page of its own where it would be 64 pages or more: from there on one fault that clears 2 MiB
- * is quicker than theirs. */
+/* The last piece of a table is a huge page of its own where it would be 64 pages or more. From there on one fault that clears 2 MiB is
+ * quicker than theirs. */
 enum { PAGE = 4096, HUGE_PAGE = 2 << 20, TABLE_MIN = 2 << 20, TAIL_MIN = 64 * PAGE };
 
 /* What stands before a block. Its size keeps the block aligned as malloc aligns. */

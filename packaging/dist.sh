@@ -32,6 +32,7 @@ if [ -e "$newer" ]; then
   install -m 644 "$work/newer.a" "$folder/x86-64-v3/libpwcheck_c.a"
   for program in "$work"/usr/bin/*; do
     program=$(basename "$program")
+    [ -e "$top/crates/$program/out/x86-64-v3/$program" ] || { echo "dist.sh: $program isn't built for x86-64-v3, as the libraries are: packaging/newer.py" >&2; exit 1; }
     install -m 755 "$top/crates/$program/out/x86-64-v3/$program" "$folder/x86-64-v3"
   done
 fi

@@ -1,5 +1,5 @@
 -- How long texts are: the password decides none of it.
-use Rattle.std.proofs.Common.{◌≡◌, ℕ, suc, ◌+◌, ◌*◌, ◌/◌, ◌≤◌, Bool, true, false, List, [], ◌∷◌, ◌++◌, length, refl, sym, ap, ◌∙◌, arith}
+use Rattle.std.proofs.Common.{◌≡◌, ℕ, suc, ◌+◌, ◌*◌, ◌/◌, ◌≤◌, Bool, true, false, List, ◌∷◌, ◌++◌, length, refl, sym, ap, ◌∙◌, arith}
 use Rattle.std.proofs.Common.{Option, Some, None}
 use Rattle.std.specs.Prelude.{◌==◌, codes, is_some, not, if◌then◌else◌}
 use Rattle.std.specs.Fmt.{decimal}
@@ -25,7 +25,7 @@ use Rattle.yescrypt_plain.specs.declared.params.ScryptParams.{ScryptParams}
 use Rattle.yescrypt_plain.specs.declared.params.YescryptParams.{YescryptParams}
 use Rattle.yescrypt_plain.proofs.Fields.{field_len}
 use Rattle.yescrypt_plain.proofs.KeyBytes as key_of_yescrypt
-use Rattle.sha_crypt.specs.HashField.{is_hash_field, of_length}
+use Rattle.sha_crypt.specs.HashField.{of_length}
 use Rattle.sha_crypt.specs.Records.{family_id, family_scheme, rounds_part}
 use Rattle.sha_crypt.specs.Records as sha
 use Rattle.sha_crypt.specs.Limits.{rounds_default}
