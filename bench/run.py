@@ -43,6 +43,7 @@ ROWS = [Row(*row) for row in (
     ("any_texts.py", "compare", "openssl htpasswd mkpasswd argon2", 3, None, "texts of each maker, asked of `pwtool check`"),
     ("argon2_tags.py", "compare", "rt argon2", 4, None, "tags of Argon2 beside libargon2"),
     ("bcrypt_definitions.py", "compare", "", 4, "1 6", "the definition of bcrypt in Python beside libxcrypt"),
+    ("bcrypt_digest.py", "compare", "", 1, None, "texts of bcrypt of a digest, of makers and damaged, beside the definitions in Python"),
     ("bcrypt_texts.py", "compare", "rt", 3, None, "texts of bcrypt, ours and libxcrypt's, asked of each other"),
     ("c_lines.py", "compare", "gcc", 2, None, "lines by the C caller beside the program"),
     ("crypt_clients.py", "compare", "perl", 2, None, "programs that call crypt(3), with libpwcrypt under them"),

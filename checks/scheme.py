@@ -38,6 +38,12 @@ OTHERWISE = {
     "crates/any_check_tests/src/memory_tests.rt": "family",
     "bindings/numbers.py": "made",
     "crates/pwtool_cli/src/make_cli.rt": "made",
+    "checks/memory.c": "made",
+    "checks/threads.c": "made",
+    "crates/pwtool_cli/src/cli.rt": "family",
+    "bindings/rust/src/lib.rs": "family",
+    "crates/shadow_survey/specs/Leasts.antt": "family",
+    "crates/shadow_survey/src/least.rt": "family",
     # Each call once: texts of every scheme are tried by checks/c_calls.c, from the table.
     "crates/pwcheck_c/src/any_tests.rt": None,
     "bindings/rust/src/tests.rs": None,
@@ -88,10 +94,12 @@ def row_of(variant):
 
 
 def forms(name):
-    """The ways in which code and pages write a name."""
+    """The ways in which code and pages write a name, and the fronts of its texts, where scheme_list has them."""
     words = re.split(r"[-_ ]", name)
     camel = "".join(word.capitalize() for word in words)
-    return "|".join(map(re.escape, [name, "-".join(words), "_".join(words), "_".join(words).upper(), camel, "".join(words), "$" + name + "$"]))
+    variant = variants().get(name)
+    fronts = [f"${identifier}$" for identifier in re.findall(r'codes "([a-z0-9-]+)"', row_of(variant) if variant else "") if identifier != name]
+    return "|".join(map(re.escape, [name, "-".join(words), "_".join(words), "_".join(words).upper(), camel, "".join(words), "$" + name + "$", *fronts]))
 
 
 def files():
