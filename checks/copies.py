@@ -14,6 +14,11 @@ import re
 from page_texts import TOP, end
 
 LEMMAS_MOST = 10
+# Definitions that stand in two crates for now, and why. The list is to be empty.
+FOR_NOW = {
+    # Its place is pieces, a change of which has every crate proved again: it goes there with the next change of pieces.
+    "or_behind",
+}
 OWN = {"returns", "stayed"}
 
 
@@ -44,7 +49,8 @@ def in_two_crates(folder, pieces):
 
 def main():
     definitions, lemmas = in_two_crates("specs", blocks), in_two_crates("proofs", statements)
-    said = [f"{', '.join(crates)}: the definition {piece[:90]}" for piece, crates in sorted(definitions.items())]
+    said = [f"{', '.join(crates)}: the definition {piece[:90]}" for piece, crates in sorted(definitions.items())
+            if not FOR_NOW & set(piece.split()[:3])]
     if len(lemmas) > LEMMAS_MOST:
         said += [f"{', '.join(crates)}: the lemma {piece[:90]}" for piece, crates in sorted(lemmas.items())]
     end(said, f"copies: {len(definitions)} definitions and {len(lemmas)} lemmas in two crates")
