@@ -5,8 +5,11 @@
    has one sync a change; htpasswd writes its file anew for each.
 2. Changes from a list of 10,000, sent at once; SQLite with a transaction a change.
 3. Checks without a digest (the user has no text of a scheme), a million, beside `pwfile`.
-4. The start with 4,096 users and 100,000 changes behind them: the time of a run over no commands.
+4. The start with 4,096 users and 100,000 changes after them: the time of a run over no commands.
 5. The most memory of a run over a million changes, beside one over ten thousand.
+6. A million checks of 4,096 and of 1,000,000 users, whose texts are locked: of the users in the order of the file, and of users in a mixed
+   order. The time of the start, which is that of a run over no commands, is taken off.
+7. The start with 1,000,000 users, the most memory of it a user beside the bytes of names and texts, and the reply to one user more.
 
 All on one disk, in rounds that take turns; the least time of each counts. It needs the programs pwstore and pwfile, built, and gcc.
 
@@ -86,12 +89,48 @@ def checks(program, words):
     return answered(program, words, data, b"ok\n" + word * 1_000_000)
 
 
+def many_users(name, users):
+    """A file of so many users with locked texts, written as docs/FORMAT.md says, and the bytes of their names and texts."""
+    rows = [b"set\tuser%d\t!%s\n" % (number, TEXT.encode()) for number in range(users)]
+    with open(name, "wb") as file:
+        file.write(b"#pwstore 1\n" + b"".join(rows) + b"#")
+    os.chmod(name, 0o600)
+    return sum(map(len, rows)) - users * len(b"set\t\t\n")
+
+
+def checks_of(name, users, step):
+    data = b"".join(b"check\tuser%d\tsecret\n" % (n * step % users) for n in range(1_000_000))
+    begin = time.perf_counter()
+    answered(PROGRAM, [name], data, b"locked\n" * 1_000_000)
+    return time.perf_counter() - begin
+
+
 def peak_of(folder, name, data):
     """The most memory of a run in KiB, by bench/peak.c."""
     watcher = os.path.join(folder, "peak")
     subprocess.run(["gcc", "-O2", "-o", watcher, os.path.join(HERE, "peak.c")], check=True)
     done = subprocess.run([watcher, PROGRAM, name], input=data, capture_output=True, check=True)
     return int(done.stderr.split()[-1])
+
+
+def flat(folder, rounds):
+    """Checks, starts and memory with 4,096 and with 1,000,000 users."""
+    counts, times = (4_096, 1_000_000), {}
+    names = {users: os.path.join(folder, f"users{users}") for users in counts}
+    held = {users: many_users(names[users], users) for users in counts}
+    for _ in range(rounds):
+        for users in counts:
+            times.setdefault(("start", users), []).append(timed(answered, PROGRAM, [names[users]], b"", b""))
+            for order, step in (("in order", 1), ("mixed", 7919)):
+                times.setdefault((order, users), []).append(checks_of(names[users], users, step))
+    for order in ("in order", "mixed"):
+        least = [min(times[order, users]) - min(times["start", users]) for users in counts]
+        print(f"a million checks {order}: {least[0]:.3f} s of 4,096 users, {least[1]:.3f} s of 1,000,000, {least[1] / least[0]:.2f} times")
+    print(f"start with 1,000,000 users: least {min(times['start', counts[1]]):.3f} s")
+    peaks = [peak_of(folder, names[users], b"") for users in counts]
+    print(f"memory: {peaks[1]} KiB for 1,000,000 users, {(peaks[1] - peaks[0]) * 1024 / (counts[1] - counts[0]):.0f} bytes a user, of which"
+          f" {held[counts[1]] / counts[1]:.0f} are its name and text")
+    answered(PROGRAM, [names[counts[1]]], b"set\tanother\t*\nset\tuser7\t*\ncheck\tanother\tx\n", b"full\nok\nno-user\n")
 
 
 def main():
@@ -125,6 +164,7 @@ def main():
         for _ in range(rounds):
             note("start with 100,000 changes of 4,096 users", answered, PROGRAM, [name], b"", b"")
         few, many = peak_of(folder, fresh(), lines_of(10_000)), peak_of(folder, fresh(), lines_of(1_000_000))
+        flat(folder, rounds)
     counts = {"one by one: htpasswd -b (100)": 100, "start with 100,000 changes of 4,096 users": 1}
     for what, taken in times.items():
         count = counts.get(what, 1_000_000 if "million" in what else LISTED if "listed" in what else SINGLE)

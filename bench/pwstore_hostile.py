@@ -18,6 +18,7 @@
 9. A file that is moved away, removed or replaced under a run: `disk-fault`, 7, and neither file has the change.
 10. Each request for memory of a session refused in turn (bench/refuse_nth.c, preloaded; wants gcc): the status is 5, or all is as usual;
    the replies are the first ones of a run with memory, and the table is that of them, or of one command more.
+11. A file whose users have 4,096 bytes more than a file may have: checks are answered, changes are `file-full`, and it isn't made anew (65).
 
 usage: bench/pwstore_hostile.py      (PWSTORE is the program, with words behind it where it has other forms: "PATH/pwtool table")
 """
@@ -358,11 +359,22 @@ def refused_memory(folder):
     holds(f"{number - 1} requests for memory refused in turn: status 5 {fives} times, as usual {usual} times, other {others}", not others)
 
 
+def too_long(folder):
+    name, users = os.path.join(folder, "too_long"), (1 << 18) + 4
+    data = b"#pwstore 1\n" + b"".join(b"set\tu%06d\t*%s\n" % (number, b"x" * 1010) for number in range(users)) + b"#"
+    write(name, data)
+    status, out, told = run(name, b"check\tu262147\tx\nset\tu000001\t*\ncheck\tu000001\tx\n")
+    holds(f"a file of {len(data)} bytes: a change is file-full", (status, out, told) == (1, b"locked\nfile-full\nlocked\n", ""))
+    status, out, told = run(name, b"", ("compact",))
+    holds("and it isn't made anew (65), with one line: " + told.strip(), (status, out) == (65, b"") and told.count("\n") == 1 and name in told)
+    holds("it is as it was, and nothing is beside it", open(name, "rb").read() == data and not os.path.exists(os.path.join(folder, ".too_long.pwstore-new")))
+
+
 def main():
     if not os.path.exists(PROGRAM[0]):
         sys.exit(f"{PROGRAM[0]} isn't built")
     with tempfile.TemporaryDirectory(prefix="pwstore_hostile_") as folder:
-        for part in (damaged, full_disk, unwritable, second_process, modes, new_files, closed_streams, first_starts, moved, refused_memory):
+        for part in (damaged, full_disk, unwritable, second_process, modes, new_files, closed_streams, first_starts, moved, refused_memory, too_long):
             part(folder)
     sys.exit(1 if FAILED else 0)
 

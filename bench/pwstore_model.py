@@ -3,6 +3,7 @@ import binascii
 import hashlib
 
 HEADER = b"#pwstore 1\n"
+USERS_MAX = 1_000_000
 HELLO = "$5$saltstring$5B8vYYiY.CVt1RlTTf8KbXBH3hsxY/GNooZaBBGWEc5"
 PASSWORD = "Hello world!"
 
@@ -36,7 +37,7 @@ def read(data):
     while data[place:place + 1] == b"s" and b"\n" in data[place:]:
         end = data.index(b"\n", place)
         row = is_set(data[place:end])
-        if row is None or (row[0] not in table and len(table) == 4096):
+        if row is None or (row[0] not in table and len(table) == USERS_MAX):
             return "bad-line", place
         table[row[0]] = row[1]
         place = end + 1
@@ -82,6 +83,8 @@ class Model:
                 return "text-long"
             if not is_text(text):
                 return "bad-text"
+            if user not in self.table and len(self.table) == USERS_MAX:
+                return "full"
             self.table[user] = text
             return "ok"
         if words[0] == b"check":

@@ -37,7 +37,7 @@ module _ {T V : Type 0} (p : TextPolicy T V) where
   set_cases true None true = refl
 
   set_known : (had : Option (List ℕ)) (n : ℕ) (new : List ℕ) → is_want (set_answer p had n new) ≡ false
-  set_known had n new = set_cases (nat_le (length new) 1024) (p.text_fault new) (has_room had n)
+  set_known had n new = set_cases (nat_le (length new) 1024) (p.text_fault new) (has_room p had n)
 
   checked_cases : (r : Result Bool V) → is_want (checked {T = T} r) ≡ false
   checked_cases (Ok b) = refl

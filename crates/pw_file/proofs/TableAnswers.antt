@@ -79,12 +79,12 @@ is_some_map f None = refl
 is_some_map f (Some a) = refl
 
 -- there is room for the entry
-pub put_room : {A : Type 0} (entries : List (List ℕ × String A)) (rows : Rows) (user : List ℕ) (text : String A)
-    → rows_of entries ≡ rows → has_room (text_in rows user) (length rows) ≡ true
-    → length entries ≤ 4096 → length (insert_entry same_text entries user text) ≤ 4096
-put_room entries rows user text is room few =
+pub put_room : {A T V : Type 0} (p : TextPolicy T V) (entries : List (List ℕ × String A)) (rows : Rows) (user : List ℕ) (text : String A)
+    → rows_of entries ≡ rows → has_room p (text_in rows user) (length rows) ≡ true
+    → length entries ≤ p.users_max → length (insert_entry same_text entries user text) ≤ p.users_max
+put_room p entries rows user text is room few =
     let size : length rows ≡ length entries = ap length (sym is) ∙ rows_length entries in
-    let more = set_few rows user (string_bytes text) (text_in rows user) (length rows) refl refl room
+    let more = set_few p rows user (string_bytes text) (text_in rows user) (length rows) refl refl room
     (omega (arith, size, few)) in
     let same : length (insert_entry same_text entries user text)
     ≡ length (insert_entry same_text rows user (string_bytes text)) =
@@ -107,8 +107,8 @@ module _ {T V : Type 0} (p : TextPolicy T V) where
   room_cases false b c h = absurd cc
 
   pub taken_has_room : (had : Option (List ℕ)) (n : ℕ) (new : List ℕ) → None ≡ set_fault p had n new
-      → has_room had n ≡ true
-  taken_has_room had n new h = room_cases (nat_le (length new) 1024) (p.text_fault new) (has_room had n) h
+      → has_room p had n ≡ true
+  taken_has_room had n new h = room_cases (nat_le (length new) 1024) (p.text_fault new) (has_room p had n) h
 
   exchanged_cases : (user : List ℕ) (had : Option (List ℕ)) (fault : Option (FileError T V))
       → done_of {A = List ℕ × Option (List ℕ)} (value_or_fault (user, had) fault) ≡ value_or_fault tt fault

@@ -8,7 +8,3 @@ name_max = 64
 -- the most bytes of a text
 abbrev pub text_max : ℕ
 text_max = 1024
-
--- the most users
-abbrev pub users_max : ℕ
-users_max = 4096

@@ -21,6 +21,8 @@ pub record TextPolicy (T V : Type 0) : Type 0 where
   pub verdict : List ℕ → List ℕ → Result Bool V
   -- memory may be wanting for it
   pub may_lack : List ℕ → List ℕ → Bool
+  -- the most users of a table
+  pub users_max : ℕ
 
 -- What the laws of tables rest on.
 pub record IsLawful {T V : Type 0} (p : TextPolicy T V) : Type 0 where
@@ -43,3 +45,5 @@ pub record IsLawful {T V : Type 0} (p : TextPolicy T V) : Type 0 where
   pub judged_short : (password text : List ℕ) → is_ok (p.verdict password text) ≡ true → length password ≤ password_max
   -- memory may be wanting only where there is a verdict
   pub lack_judged : (password text : List ℕ) → p.may_lack password text ≡ true → is_ok (p.verdict password text) ≡ true
+  -- a table has room for a second user
+  pub some_users : 2 ≤ p.users_max

@@ -200,4 +200,5 @@ stored_lawful = record {
   fresh_matches = upgraded_matches;
   judged_short = judged_short;
   lack_judged = lack_judged;
+  some_users = omega arith;
 }

@@ -1,5 +1,5 @@
--- The policy of `pwfile`: names of the PHC string format, texts of the modular crypt format, none locked, and verdicts
--- with scrypt as the derivation of keys.
+-- The policy of `pwfile`: names of the PHC string format, texts of the modular crypt format, none locked, verdicts with
+-- scrypt as the derivation of keys, and at most 4,096 users.
 use Rattle.std.specs.Prelude.{ℕ, Bool, false, List, Result}
 use Rattle.std.specs.List.{flat_map}
 use Rattle.std.specs.Option.{option_map}
@@ -31,6 +31,7 @@ stored_texts = record {
   is_locked = λ text. false;
   verdict = verdict_on;
   may_lack = may_lack;
+  users_max = 4096;
 }
 
 -- what is owed for the lines of an input

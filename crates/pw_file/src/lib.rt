@@ -1,7 +1,7 @@
 //! A table of users and their stored texts, the replies to the lines of a command file over it, and the run over all
 //! lines of such a file.
 //!
-//! A [`Policy`] says which names users have, which texts are taken, and how a text is judged. [`StoredTexts`] is that of
+//! A [`Policy`] says which names users have, how many users there may be, which texts are taken, and how a text is judged. [`StoredTexts`] is that of
 //! `pwfile`.
 #![tactic(auto)]
 
@@ -27,5 +27,5 @@ pub use policy::Policy;
 pub use reply::{LineReply, Word, check_word, error_word, set_word, upgrade_word};
 pub use run::{run_commands, run_file, run_file_limited};
 pub use stored_texts::StoredTexts;
-pub use table::{ROW_LINE_MAX, Replaced, TEXT_MAX, Table, USERS_MAX, line_of_row};
+pub use table::{ROW_LINE_MAX, Replaced, TEXT_MAX, Table, line_of_row};
 pub use user::UserName;

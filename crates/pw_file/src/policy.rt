@@ -1,4 +1,4 @@
-//! Which names users have, which texts are taken, and how a text is judged.
+//! Which names users have, how many users there may be, which texts are taken, and how a text is judged.
 
 ghost use Rattle.std.specs.Prelude.{◌≡◌, true, IfOk, OnErr};
 ghost use Rattle.pw_file.specs.Policy.{IsLawful, TextPolicy};
@@ -6,7 +6,7 @@ ghost use Rattle.pw_file.specs.Policy.{IsLawful, TextPolicy};
 use scrypt_plain::ScryptKept;
 use std::alloc::{AllocError, Global};
 
-/// The kind of a table: the names of its users, the texts that it takes, and the verdict on a text.
+/// The kind of a table: the names of its users and their most, the texts that it takes, and the verdict on a text.
 ///
 /// No value of a policy is needed: it is the parameter of [`Table`](crate::Table) and of what goes with it.
 pub trait Policy: Drop {
@@ -43,6 +43,10 @@ pub trait Policy: Drop {
     ) -> Result<Result<bool, Self::VerdictFault>, AllocError>
         ensures verdict { IfOk result (λ answer. answer ≡ policy.verdict password.now text.now) }
         ensures wants { OnErr result (policy.may_lack password.now text.now ≡ true) };
+
+    /// The most users of a table.
+    fn users_max() -> usize
+        ensures { result ≡ policy.users_max };
 
     /// The derivation by scrypt among what is kept, by which an upgraded text is made.
     fn scrypt(kept: &Self::Kept) -> &ScryptKept;

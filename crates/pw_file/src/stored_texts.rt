@@ -11,7 +11,7 @@ use std::alloc::{AllocError, Global};
 use stored_check::{McfFault, StoredError, check_stored, mcf_name};
 
 /// Names of the PHC string format, of 1 to 32 characters of `a-z`, `0-9` and `-`; texts of the modular crypt format, none
-/// of them locked; the verdicts of `check_stored` with scrypt.
+/// of them locked; the verdicts of `check_stored` with scrypt; at most 4,096 users.
 ///
 /// The table of the largest scrypt record so far is kept.
 #[derive(Drop)]
@@ -63,6 +63,10 @@ impl Policy for StoredTexts {
         text: &str,
     ) -> Result<Result<bool, StoredError>, AllocError> {
         told_apart(check_stored(alloc, kept, password, text))
+    }
+
+    fn users_max() -> usize {
+        4_096
     }
 
     fn scrypt(kept: &ScryptKept) -> &ScryptKept {

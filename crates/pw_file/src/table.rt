@@ -7,7 +7,7 @@ ghost use Rattle.pw_file.specs.Calls.{after_check, after_set, after_upgrade, row
 ghost use Rattle.pw_file.specs.History.{History, IsContentOf, text_in};
 ghost use Rattle.pw_file.specs.Replies.{row_line};
 ghost use Rattle.pw_file.specs.Upgraded.{upgraded_text};
-ghost use Rattle.pw_file.specs.Limits.{text_max, users_max};
+ghost use Rattle.pw_file.specs.Limits.{text_max};
 ghost use Rattle.phc_kdf.specs.Limits.{password_max};
 
 use crate::upgraded::upgraded_text;
@@ -21,15 +21,12 @@ use std::marker::Model;
 /// The most bytes of a text.
 pub const TEXT_MAX: usize = 1_024;
 
-/// The most users.
-pub const USERS_MAX: usize = 4_096;
-
 /// The most bytes of a line of a listing: `set`, a tab, a name of 64 bytes, a tab, a text, a line feed.
 pub const ROW_LINE_MAX: usize = 1_094;
 
 /// Users and their stored texts, in the order in which the users came. Contracts see the list of them.
 ///
-/// There are at most 4,096 users, each with one text of at most 1,024 bytes. What the policy keeps from verdict to verdict
+/// There are at most as many users as the policy allows, each with one text of at most 1,024 bytes. What the policy keeps from verdict to verdict
 /// is given back when this is dropped.
 #[derive(Drop)]
 pub struct Table<P: Policy> {
@@ -41,13 +38,12 @@ pub struct Table<P: Policy> {
 impl<P: Policy> Model for Table<P> {
     ghost use Rattle.std.specs.Prelude.{◌≡◌, ◌≤◌, ℕ, List, length, true};
     ghost use Rattle.pw_file.specs.Table.{are_short, rows_of};
-    ghost use Rattle.pw_file.specs.Limits.{users_max};
 
     ghost Value = { List (List ℕ × List ℕ) };
 
     ghost view = { λ t. rows_of t.texts.entries };
 
-    ghost invariant = { λ t. (length t.texts.entries ≤ users_max) × (are_short t.texts.entries ≡ true) };
+    ghost invariant = { λ t. (length t.texts.entries ≤ P.policy.users_max) × (are_short t.texts.entries ≡ true) };
 }
 
 /// A user, and the text that it had before an exchange, if it had one.
@@ -112,7 +108,7 @@ impl<P: Policy> Table<P> {
     /// How many users there are.
     pub fn len(&self) -> usize
         ensures len { result ≡ length self.now }
-        ensures most { result ≤ users_max }
+        ensures most { result ≤ P.policy.users_max }
     {
         self.texts.len()
     }
@@ -203,7 +199,7 @@ impl<P: Policy> Table<P> {
 
     // Makes this the user's text, and gives the one before. A new user goes last. Only a new user can want memory.
     fn put(&mut self, user: &UserName<P>, text: String) -> Result<Replaced<P>, AllocError>
-        requires room { has_room (text_in self.old user.now) (length self.old) ≡ true }
+        requires room { has_room P.policy (text_in self.old user.now) (length self.old) ≡ true }
         requires short { length (string_bytes text) ≤ text_max }
         ensures put { OnOk result (self.new ≡ with_text self.old user.now (string_bytes text)) }
         ensures replaced { IfOk result (λ replaced. replaced ≡ (user.now, text_in self.old user.now)) }
@@ -233,7 +229,7 @@ impl<P: Policy> Table<P> {
         if let Some(e) = P::text_fault(text) {
             return Some(FileError::BadText(e));
         }
-        if !self.has(user) && self.len() >= USERS_MAX {
+        if !self.has(user) && self.len() >= P::users_max() {
             return Some(FileError::Full);
         }
         None
@@ -245,7 +241,7 @@ impl<P: Policy> Table<P> {
         user: &UserName<P>,
         text: &str,
     ) -> Result<Replaced<P>, FileError<P::TextFault, P::VerdictFault>>
-        requires room { has_room (text_in self.old user.now) (length self.old) ≡ true }
+        requires room { has_room P.policy (text_in self.old user.now) (length self.old) ≡ true }
         requires short { length text.now ≤ text_max }
         ensures answer { (result ≡ Ok (user.now, text_in self.old user.now)) ⊎ (result ≡ Err FileError.OutOfMemory) }
         ensures rows { self.new ≡ rows_after_set self.old user.now text.now (done_of result) }

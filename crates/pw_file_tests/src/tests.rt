@@ -16,7 +16,7 @@ fn no_users(alloc: Global) -> Table<StoredTexts> {
 }
 
 // Stops a test at a check that fails, and names the check.
-fn check<R: Abort>(rt: &R, holds: bool, what: &str) {
+pub fn check<R: Abort>(rt: &R, holds: bool, what: &str) {
     assert!(rt; holds, "{what}");
 }
 
@@ -37,9 +37,18 @@ fn answered<R: Abort>(rt: &R, table: &mut Table<StoredTexts>, rows: &[(&str, Wor
 }
 
 // The row of a number is that of this user and text.
-fn has_row<R: Abort>(rt: &R, table: &Table<StoredTexts>, number: usize, name: &str, text: &str) {
+pub fn has_row<P: Policy, R: Abort>(
+    rt: &R,
+    table: &Table<P>,
+    number: usize,
+    name: &str,
+    text: &str,
+) {
+    let Some((user, found)) = table.row(number) else {
+        panic!(rt; "there is no row {number}")
+    };
     assert!(rt;
-        table.row(number) == Some((user(rt, name), text)),
+        user.as_str() == name && found == text,
         "row {number}: {name} {text}"
     );
 }

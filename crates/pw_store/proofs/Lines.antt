@@ -36,19 +36,19 @@ module _ {T V : Type 0} (p : TextPolicy T V) where
   pub record IsGood (had : Option (List ℕ)) (n : ℕ) (new : List ℕ) : Type 0 where
     pub short : length new ≤ 1024
     pub good : p.text_fault new ≡ None
-    pub room : has_room had n ≡ true
+    pub room : has_room p had n ≡ true
 
   pub good : (had : Option (List ℕ)) (n : ℕ) (new : List ℕ) → set_answer p had n new ≡ Ok tt → IsGood had n new
   good had n new ok =
       let none : set_fault p had n new ≡ None = (value_found tt tt (set_fault p had n new) ok).0 in
-      let a = first_none (unless (nat_le (length new) 1024) refused.TextTooLong) (bad_text (p.text_fault new) ∷ (unless (has_room had n) refused.Full ∷ [])) none in
-      let b = first_none (bad_text (p.text_fault new)) (unless (has_room had n) refused.Full ∷ []) a.1 in
-      let c = first_none (unless (has_room had n) refused.Full) [] b.1 in
+      let a = first_none (unless (nat_le (length new) 1024) refused.TextTooLong) (bad_text (p.text_fault new) ∷ (unless (has_room p had n) refused.Full ∷ [])) none in
+      let b = first_none (bad_text (p.text_fault new)) (unless (has_room p had n) refused.Full ∷ []) a.1 in
+      let c = first_none (unless (has_room p had n) refused.Full) [] b.1 in
       let test : nat_le (length new) 1024 ≡ true = unless_none {E = FileError T V} (nat_le (length new) 1024) refused.TextTooLong a.0 in
       record {
         short = grind (arith, nat_tests, test);
         good = no_fault {T = T} {V = V} (p.text_fault new) b.0;
-        room = unless_none {E = FileError T V} (has_room had n) refused.Full c.0;
+        room = unless_none {E = FileError T V} (has_room p had n) refused.Full c.0;
       }
 
 -- ---- its line

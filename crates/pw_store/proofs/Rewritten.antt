@@ -104,26 +104,9 @@ module _ {T V : Type 0} (p : TextPolicy T V) (law : IsLawful p) where
   pub text_whole : (rows : Rows) → AreRows p rows → AreWhole (flat_map row_line rows)
   text_whole rows are = text_is rows ∙ sym (ap joined (text_lines rows are))
 
-  row_short : (row : List ℕ × List ℕ) → IsRow p row → length (row_line row) ≤ 1094
-  row_short row is =
-      let name = is.name in
-      let most : length row.0 ≤ 64 = law.name_short row.0 name in
-      let short = is.short in
-      let size : length (row.0 ++ 9 ∷ row.1) ≡ length row.0 + suc (length row.1) = length-append row.0 (9 ∷ row.1) in
-      let all : length (row_line row) ≡ length (line_of row) + 1 = length-append (line_of row) (10 ∷ []) in
-      omega (arith, most, short, size, all)
-
-  text_short : (rows : Rows) → AreRows p rows → length (flat_map row_line rows) ≤ 1094 * length rows
-  text_short [] are = omega arith
-  text_short (row ∷ rows) are =
-      let one = row_short row are.0 in
-      let more = text_short rows are.1 in
-      let all : length (flat_map row_line (row ∷ rows)) ≡ length (row_line row) + length (flat_map row_line rows) = length-append (row_line row) (flat_map row_line rows) in
-      omega (arith, one, more, all)
-
   -- ---- taken again
 
-  relisted : (done rest all : Rows) → done ++ rest ≡ all → AreRows p rest → Distinct (keys_of all) → length all ≤ 4096 → rows_after p done (map line_of rest) ≡ Some all
+  relisted : (done rest all : Rows) → done ++ rest ≡ all → AreRows p rest → Distinct (keys_of all) → length all ≤ p.users_max → rows_after p done (map line_of rest) ≡ Some all
   relisted done [] all is are d few = ap (λ (r : Rows). Some r) (sym (append-nil done) ∙ is)
   relisted done (row ∷ rest) all is are d few =
       let keys : keys_of all ≡ keys_of done ++ row.0 ∷ keys_of rest =
@@ -137,29 +120,26 @@ module _ {T V : Type 0} (p : TextPolicy T V) (law : IsLawful p) where
       ∙ ap (λ (r : Rows). rows_after p r (map line_of rest)) after
       ∙ relisted (done ++ row ∷ []) rest all (append_assoc done (row ∷ []) rest ∙ is) are.1 d few
     where
-      roomy : (had : Option (List ℕ)) (n : ℕ) → n + 1 ≤ 4096 → has_room had n ≡ true
+      roomy : (had : Option (List ℕ)) (n : ℕ) → n + 1 ≤ p.users_max → has_room p had n ≡ true
       roomy None n room = grind (arith, nat_tests, room)
       roomy (Some old) n room = refl
 
-      set_ok : (rows : Rows) (row : List ℕ × List ℕ) → IsRow p row → length rows + 1 ≤ 4096 → set_answer p (text_in rows row.0) (length rows) row.1 ≡ Ok tt
+      set_ok : (rows : Rows) (row : List ℕ × List ℕ) → IsRow p row → length rows + 1 ≤ p.users_max → set_answer p (text_in rows row.0) (length rows) row.1 ≡ Ok tt
       set_ok rows row is room =
           let short : nat_le (length row.1) 1024 ≡ true = let s = is.short in grind (arith, nat_tests, s) in
           rw (short, is.good, roomy (text_in rows row.0) (length rows) room) refl
 
   pub record IsRewritten (rows : Rows) : Type 0 where
     pub whole : AreWhole (flat_map row_line rows)
-    pub short : length (flat_map row_line rows) ≤ 268435456
     pub again : rows_after p [] (open_lines (flat_map row_line rows)) ≡ Some rows
     pub lines : open_lines (flat_map row_line rows) ≡ map line_of rows
 
-  pub rewritten : (file : List ℕ) (rows : Rows) → recovered_rows p file ≡ Some rows → length rows ≤ 4096 → IsRewritten rows
+  pub rewritten : (file : List ℕ) (rows : Rows) → recovered_rows p file ≡ Some rows → length rows ≤ p.users_max → IsRewritten rows
   rewritten file rows is few =
       let are = rows_good [] rows _ tt (file_is p file rows is) in
       let distinct = content_distinct p _ rows (of_file p file rows is) in
-      let short = text_short rows are in
       record {
         whole = text_whole rows are;
-        short = omega (arith, short, few);
         lines = text_lines rows are;
         again = ap (λ (ls : List (List ℕ)). rows_after p [] ls) (text_lines rows are) ∙ relisted [] rows rows refl are distinct few;
       }
@@ -167,11 +147,10 @@ module _ {T V : Type 0} (p : TextPolicy T V) (law : IsLawful p) where
   -- the same of bytes that are those
   pub record AreAgain (bytes : List ℕ) (rows : Rows) : Type 0 where
     pub whole : AreWhole bytes
-    pub short : length bytes ≤ 268435456
     pub again : rows_after p [] (open_lines bytes) ≡ Some rows
     pub lines : open_lines bytes ≡ map line_of rows
 
-  pub rewritten_as : (file : List ℕ) (rows : Rows) (bytes : List ℕ) → recovered_rows p file ≡ Some rows → length rows ≤ 4096 → bytes ≡ flat_map row_line rows → AreAgain bytes rows
+  pub rewritten_as : (file : List ℕ) (rows : Rows) (bytes : List ℕ) → recovered_rows p file ≡ Some rows → length rows ≤ p.users_max → bytes ≡ flat_map row_line rows → AreAgain bytes rows
   rewritten_as file rows bytes is few same =
       let w = rewritten file rows is few in
-      subst (λ (t : List ℕ). AreAgain t rows) (sym same) (record { whole = w.whole; short = w.short; again = w.again; lines = w.lines })
+      subst (λ (t : List ℕ). AreAgain t rows) (sym same) (record { whole = w.whole; again = w.again; lines = w.lines })

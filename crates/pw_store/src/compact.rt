@@ -1,17 +1,16 @@
 //! A file made anew, of one line for each user.
 
-ghost use Rattle.std.specs.Prelude.{◌≡◌, ◌⊎◌, ◌&&◌, ◌≤◌, ◌++◌, ℕ, List, false, true, length, slice_get, None, Some, Err, Ok, not, IfOk, OnOk};
+ghost use Rattle.std.specs.Prelude.{◌≡◌, ◌⊎◌, ◌&&◌, ◌<◌, ◌≤◌, ◌++◌, ℕ, List, false, true, length, slice_get, None, Some, Err, Ok, not, IfOk, OnOk};
 ghost use Rattle.std.specs.List.{flat_map};
 ghost use Rattle.pieces.specs.FaultCounts.{HasRisen};
 ghost use Rattle.line_log.specs.Device.{LeavesOnly};
-ghost use Rattle.line_log.specs.Log.{recovered};
-ghost use Rattle.pw_file.specs.Limits.{users_max};
+ghost use Rattle.line_log.specs.Log.{file_max, recovered};
 ghost use Rattle.pw_file.specs.Replies.{row_line};
 ghost use Rattle.pw_store.specs.Store.{StandsFor};
 ghost use Rattle.pw_store.specs.Stored.{IsSound, device_of, is_disk_fault, lines_of_rows, rows_of, takes_changes};
 
 use crate::{Store, StoreError};
-use line_log::{Device, Failed};
+use line_log::{Device, FILE_MAX, Failed};
 use pw_file::{FileError, Policy, Table, line_of_row};
 use std::alloc::{AllocError, Global};
 
@@ -33,7 +32,7 @@ fn push_row<P: Policy>(table: &Table<P>, i: usize, lines: &mut Vec<u8>) -> Resul
 // The line of each user.
 fn all_lines<P: Policy>(alloc: Global, table: &Table<P>) -> Result<Vec<u8>, AllocError>
     ensures lines { IfOk result (λ lines. lines.items ≡ flat_map row_line table.now) }
-    ensures few { OnOk result (length table.now ≤ users_max) }
+    ensures few { OnOk result (length table.now ≤ P.policy.users_max) }
 {
     let mut lines = Vec::new(alloc);
     for i in 0..table.len() {
@@ -45,12 +44,14 @@ fn all_lines<P: Policy>(alloc: Global, table: &Table<P>) -> Result<Vec<u8>, Allo
 impl<D: Device, P: Policy> Store<D, P> {
     /// Writes a file of one line for each user in the place of the one that is there. The content is the same.
     ///
-    /// After a fault of a write no further change is taken.
+    /// After a fault of a write no further change is taken. The file is full where the lines have more than 2^28 bytes:
+    /// no run has left such lines.
     pub fn compact(&mut self) -> Result<(), StoreError<P::TextFault, P::VerdictFault>>
         requires sound { IsSound P.policy D.seen D.may_leave self.old }
         ensures answer { (result ≡ Ok tt) ⊎ ((result ≡ Err (StoreError.Table FileError.OutOfMemory))
+            ⊎ (((result ≡ Err StoreError.FileFull) × (file_max < length (flat_map row_line (rows_of self.old))))
             ⊎ ((result ≡ Err StoreError.DiskFault) × ((takes_changes self.old ≡ false)
-            ⊎ HasRisen (D.faults (device_of self.old)) (D.faults (device_of self.new))))) }
+            ⊎ HasRisen (D.faults (device_of self.old)) (D.faults (device_of self.new)))))) }
         ensures open { result ≡ Ok tt → takes_changes self.old ≡ true }
         ensures lines { result ≡ Ok tt → recovered (D.seen (device_of self.new)) ≡ lines_of_rows (rows_of self.old) }
         ensures rows { rows_of self.new ≡ rows_of self.old }
@@ -70,6 +71,9 @@ impl<D: Device, P: Policy> Store<D, P> {
         let Ok(lines) = all_lines(self.alloc, &self.table) else {
             return Err(StoreError::Table(FileError::OutOfMemory));
         };
+        if lines.len() > FILE_MAX {
+            return Err(StoreError::FileFull);
+        }
         match self.log.rewrite(lines.as_slice()) {
             Ok(()) => Ok(()),
             Err(Failed) => {

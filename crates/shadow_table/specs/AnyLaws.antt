@@ -288,4 +288,5 @@ any_lawful = record {
   fresh_matches = fresh_matches;
   judged_short = judged_short;
   lack_judged = lack_judged;
+  some_users = omega arith;
 }

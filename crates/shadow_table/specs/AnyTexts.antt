@@ -1,4 +1,4 @@
--- A policy: names and texts as shadow(5) has them, and the verdict for every scheme.
+-- A policy: names and texts as shadow(5) has them, the verdict for every scheme, and at most 1,000,000 users.
 use Rattle.std.specs.Prelude.{None}
 use Rattle.pieces.specs.Faults.{unless}
 use Rattle.any_check.specs.Given.{given_may_lack, given_verdict}
@@ -16,4 +16,5 @@ any_texts = record {
   is_locked = is_locked_text;
   verdict = given_verdict None;
   may_lack = given_may_lack None;
+  users_max = 1000000;
 }

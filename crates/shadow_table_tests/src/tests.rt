@@ -223,6 +223,25 @@ fn upgraded(rt: HostRuntime) {
     check(&rt, answer == Ok(false), "a mismatch behind the upgrade");
 }
 
+// More users than `pwfile` takes.
+#[test]
+fn many_users(rt: HostRuntime) {
+    check(&rt, AnyTexts::users_max() == 1_000_000, "the most users");
+    let mut table = no_users(rt.alloc());
+    for i in 0..4_098 {
+        let Ok(name) = format!(in rt.alloc(); "u{i}") else {
+            panic!(rt; "there is memory")
+        };
+        assert!(rt; table.set(&user(&rt, &name), "*") == Ok(()), "user {i}");
+    }
+    check(&rt, table.len() == 4_098, "each user has a text");
+    check(
+        &rt,
+        table.get(&user(&rt, "u4097")) == Some("*"),
+        "the last one",
+    );
+}
+
 // A command file, its output and the status.
 #[test]
 fn command_file(rt: HostRuntime) {

@@ -26,7 +26,7 @@ Statuses:
    7  a write of FILE failed; changes since then are answered disk-fault
    8  a word of the command line isn't UTF-8
   64  the words of the command line are no form of the program
-  65  FILE isn't one that a run can have left; it is not changed
+  65  FILE isn't one that a run can have left, or is too long to be written anew; it is not changed
   66  FILE can't be opened
   73  the new file that is to be FILE isn't made: what has its name, or a right of others, is in the way
   75  another process has FILE open";

@@ -161,6 +161,13 @@ fn compact_store<'a>(
             speaker.say(rt, "out of memory for the new file");
             NO_MEMORY
         }
+        BAD_FILE => {
+            speaker.say_at(
+                rt,
+                "its users have more bytes than a file may have: it isn't written anew",
+            );
+            BAD_FILE
+        }
         _ => ALL_GOOD,
     }
 }

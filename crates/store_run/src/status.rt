@@ -1,6 +1,6 @@
 //! The statuses beside those of `line_program` and `pw_store`.
 
-/// The file isn't one that a run can have left.
+/// The file isn't one that a run can have left, or is too long to be written anew.
 pub const BAD_FILE: u8 = 65;
 
 /// The file can't be opened.

@@ -1,18 +1,21 @@
 //! What a program does over any device: the table of its file, the commands on it, the file made anew.
 
-ghost use Rattle.std.specs.Prelude.{◌≡◌, ◌≢◌, ◌⊎◌, ◌≤◌, ◌^◌, [], false, true, Some, IfErr, IfOk, IfSome};
+ghost use Rattle.std.specs.Prelude.{◌≡◌, ◌≢◌, ◌⊎◌, ◌<◌, ◌≤◌, ◌^◌, [], false, true, length, Some, IfErr, IfOk, IfSome};
+ghost use Rattle.std.specs.List.{flat_map};
 ghost use Rattle.shadow_table.specs.AnyTexts.{any_texts};
 ghost use Rattle.line_io.specs.Devices.{WhereTold};
 ghost use Rattle.line_io.specs.Lines.{lines};
 ghost use Rattle.line_log.specs.Device.{LeavesOnly};
-ghost use Rattle.line_log.specs.Log.{Stands, recovered};
+ghost use Rattle.line_log.specs.Log.{Stands, file_max, recovered};
 ghost use Rattle.line_log.specs.Taker.{is_refusal};
 ghost use Rattle.pieces.specs.FaultCounts.{HasRisen};
 ghost use Rattle.pw_file.specs.History.{Rows};
+ghost use Rattle.pw_file.specs.Replies.{row_line};
 ghost use Rattle.pw_store.specs.Run.{IsLeftBy, StoreOutcome};
 ghost use Rattle.pw_store.specs.Store.{StandsFor, recovered_rows, store_fault};
 ghost use Rattle.pw_store.specs.Stored.{IsSound, device_of, lines_of_rows, rows_of, size_of, takes_changes};
 
+use crate::status::BAD_FILE;
 use line_io::{Failed, INPUT_MAX, Sink, Source};
 use line_log::{Device, OpenError};
 use line_program::status::{ALL_GOOD, NO_MEMORY};
@@ -139,11 +142,13 @@ pub fn serve<D: Device, S: Source, K: Sink>(
     run_store(store, source, sink, INPUT_MAX)
 }
 
-/// Writes the file anew, a line for each user, and gives the status: 0, 5 where memory is wanting, or 7.
+/// Writes the file anew, a line for each user, and gives the status: 0, 5 where memory is wanting, 7, or 65 where the lines
+/// have more than 2^28 bytes, which no run has left.
 pub fn compact<D: Device>(store: &mut Store<D, AnyTexts>) -> u8
     requires open { takes_changes store.old ≡ true }
     requires sound { IsSound any_texts D.seen D.may_leave store.old }
-    ensures statuses { (result ≡ 0) ⊎ ((result ≡ 5) ⊎ (result ≡ 7)) }
+    ensures statuses { (result ≡ 0) ⊎ ((result ≡ 5) ⊎ ((result ≡ 7) ⊎ (result ≡ 65))) }
+    ensures too_long { result ≡ 65 → file_max < length (flat_map row_line (rows_of store.old)) }
     ensures lines { result ≡ 0 → recovered (D.seen (device_of store.new)) ≡ lines_of_rows (rows_of store.old) }
     ensures disk_fault { result ≡ 7 → HasRisen (D.faults (device_of store.old)) (D.faults (device_of store.new)) }
     ensures any_moment { LeavesOnly D.moment D.left_since (device_of store.old) (device_of store.new) (StandsFor any_texts (rows_of store.old)) }
@@ -151,6 +156,7 @@ pub fn compact<D: Device>(store: &mut Store<D, AnyTexts>) -> u8
     match store.compact() {
         Ok(()) => ALL_GOOD,
         Err(StoreError::DiskFault) => DISK_FAULT,
+        Err(StoreError::FileFull) => BAD_FILE,
         Err(_) => NO_MEMORY,
     }
 }

@@ -1,4 +1,4 @@
-use Rattle.std.proofs.Common.{rules, ◌≡◌, ◌⊎◌, ⊎_elim, ℕ, List, true, ◌∙◌}
+use Rattle.std.proofs.Common.{rules, ◌≡◌, ◌⊎◌, ⊎_elim, ℕ, List, length, true, ap, ◌∙◌, arith}
 use Rattle.line_log.specs.Log.{Stands, open_lines, recovered}
 use Rattle.line_log.proofs.Moments.{weaker}
 use Rattle.pw_store.specs.Store.{StandsFor}
@@ -14,8 +14,8 @@ rewrite-requires-clause-whole g c =
 
 pub rewrite-requires-clause-short : goal.rewrite-requires-clause-short
 rewrite-requires-clause-short g c =
-    let is_open : takes_changes c.args.self.now ≡ true = search rules in
-    (rewritten_as g.P.Policy.policy g.met.P.Policy.lawful (g.D.Device.seen c.args.self.now.log.device) (rows_of c.args.self.now) _ (c.requires.sound.rows is_open) c.in-Ok.ensures.few (c.as_slice.ensures.value ∙ c.in-Ok.ensures.lines)).short
+    let size = ap length c.as_slice.ensures.value in
+    omega (arith, size, c.len.ensures, c.if-len-gt-FILE_MAX.false)
 
 pub returns-in-Ok-rewrite-clause-sound : goal.returns-in-Ok-rewrite-clause-sound
 returns-in-Ok-rewrite-clause-sound g c =

@@ -1,0 +1,124 @@
+//! A table of at most three users: the policy of `pwfile` with another number.
+
+use crate::tests::{check, has_row};
+use pw_file::{FileError, LineReply, Policy, StoredTexts, Table, UserName, Word, answer_line};
+use scrypt_plain::ScryptKept;
+use std::alloc::{AllocError, Global};
+use stored_check::{McfFault, StoredError};
+
+// As `StoredTexts`, with at most three users.
+#[derive(Drop)]
+struct ThreeUsers;
+
+impl Policy for ThreeUsers {
+    ghost use Rattle.std.proofs.Common.{arith};
+    ghost use Rattle.pw_file.specs.StoredTexts.{stored_texts};
+    ghost use Rattle.pw_file.specs.StoredLaws.{stored_lawful};
+
+    type TextFault = McfFault;
+
+    type VerdictFault = StoredError;
+
+    type Kept = ScryptKept;
+
+    ghost policy = { record stored_texts { users_max = 3 } };
+
+    fn is_name(name: &str) -> bool {
+        StoredTexts::is_name(name)
+    }
+
+    fn text_fault(text: &str) -> Option<McfFault> {
+        StoredTexts::text_fault(text)
+    }
+
+    fn is_locked(text: &str) -> bool {
+        StoredTexts::is_locked(text)
+    }
+
+    fn verdict(
+        alloc: Global,
+        kept: &ScryptKept,
+        password: &str,
+        text: &str,
+    ) -> Result<Result<bool, StoredError>, AllocError> {
+        StoredTexts::verdict(alloc, kept, password, text)
+    }
+
+    fn users_max() -> usize {
+        3
+    }
+
+    fn scrypt(kept: &ScryptKept) -> &ScryptKept {
+        kept
+    }
+
+    ghost lawful = { record {
+        name_short = stored_lawful.name_short;
+        name_utf8 = stored_lawful.name_utf8;
+        name_tabless = stored_lawful.name_tabless;
+        name_feedless = stored_lawful.name_feedless;
+        text_utf8 = stored_lawful.text_utf8;
+        text_feedless = stored_lawful.text_feedless;
+        fresh_taken = stored_lawful.fresh_taken;
+        fresh_open = stored_lawful.fresh_open;
+        fresh_matches = stored_lawful.fresh_matches;
+        judged_short = stored_lawful.judged_short;
+        lack_judged = stored_lawful.lack_judged;
+        some_users = omega arith;
+    } };
+}
+
+// Commands over one table, and their words: the fourth user has no room, and those who have a text still do.
+const COMMANDS: [(&str, Word); 9] = [
+    ("set\tcleo\t$1$a$b", Word::Done),
+    ("set\tann\t$5", Word::Done),
+    ("set\tdora\t$", Word::BadText),
+    ("set\tbob\t$6", Word::Done),
+    ("set\tdora\t$", Word::BadText),
+    ("set\tdora\t$6", Word::Full),
+    ("check\tdora\tx", Word::NoUser),
+    ("set\tann\t$1$c$d", Word::Done),
+    ("set\teve\t$5", Word::Full),
+];
+
+#[test]
+fn full_by_the_policy(rt: HostRuntime) {
+    let mut table: Table<ThreeUsers> = Table::new(rt.alloc(), ScryptKept::new(rt.alloc()));
+    for (line, word) in COMMANDS {
+        let reply = answer_line(&mut table, line.as_bytes());
+        assert!(rt; reply == Some(LineReply::Word(word)), "{line:?}");
+    }
+    has_row(&rt, &table, 0, "cleo", "$1$a$b");
+    has_row(&rt, &table, 1, "ann", "$1$c$d");
+    has_row(&rt, &table, 2, "bob", "$6");
+    check(&rt, table.len() == 3, "three users");
+}
+
+#[test]
+fn room_again(rt: HostRuntime) {
+    let mut table: Table<ThreeUsers> = Table::new(rt.alloc(), ScryptKept::new(rt.alloc()));
+    let (Some(ann), Some(bob), Some(cleo), Some(dora)) = (
+        UserName::new("ann"),
+        UserName::new("bob"),
+        UserName::new("cleo"),
+        UserName::new("dora"),
+    ) else {
+        panic!(rt; "they are names")
+    };
+    check(&rt, table.set(&ann, "$5") == Ok(()), "the first user");
+    check(&rt, table.set(&bob, "$6") == Ok(()), "the second user");
+    let Ok(last) = table.exchange(&cleo, "$1$a$b") else {
+        panic!(rt; "there is room for one more")
+    };
+    let is_full = matches!(table.exchange(&dora, "$5"), Err(FileError::Full));
+    check(&rt, is_full, "no room is left");
+    table.put_back(last);
+    check(&rt, table.set(&dora, "$5") == Ok(()), "there is room again");
+    has_row(&rt, &table, 2, "dora", "$5");
+}
+
+#[test]
+fn most_users(rt: HostRuntime) {
+    check(&rt, StoredTexts::users_max() == 4_096, "of pwfile");
+    check(&rt, ThreeUsers::users_max() == 3, "of this test");
+}
