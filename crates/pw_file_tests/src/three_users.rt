@@ -53,18 +53,18 @@ impl Policy for ThreeUsers {
     }
 
     ghost lawful = { record {
-        name_short = stored_lawful.name_short;
-        name_utf8 = stored_lawful.name_utf8;
-        name_tabless = stored_lawful.name_tabless;
-        name_feedless = stored_lawful.name_feedless;
-        text_utf8 = stored_lawful.text_utf8;
-        text_feedless = stored_lawful.text_feedless;
-        fresh_taken = stored_lawful.fresh_taken;
-        fresh_open = stored_lawful.fresh_open;
-        fresh_matches = stored_lawful.fresh_matches;
-        judged_short = stored_lawful.judged_short;
-        lack_judged = stored_lawful.lack_judged;
-        some_users = omega arith;
+      name_short = stored_lawful.name_short;
+      name_utf8 = stored_lawful.name_utf8;
+      name_tabless = stored_lawful.name_tabless;
+      name_feedless = stored_lawful.name_feedless;
+      text_utf8 = stored_lawful.text_utf8;
+      text_feedless = stored_lawful.text_feedless;
+      fresh_taken = stored_lawful.fresh_taken;
+      fresh_open = stored_lawful.fresh_open;
+      fresh_matches = stored_lawful.fresh_matches;
+      judged_short = stored_lawful.judged_short;
+      lack_judged = stored_lawful.lack_judged;
+      some_users = omega arith;
     } };
 }
 
