@@ -235,19 +235,38 @@ fn short_buffers(rt: HostRuntime) {
             ) == NO_ROOM
     );
     assert!(rt;
-        pwcheck_sha256_crypt_text(HORSE, b"x", 999_999_999, &mut out[..64], &mut len) == NO_ROOM
-            && pwcheck_sha512_crypt_text(HORSE, SALT, 999_999_999, &mut out[..122], &mut len)
-                == NO_ROOM
-            && pwcheck_pbkdf2_sha256_text(rt.alloc(), HORSE, SALT, 10_000_000, &mut [], &mut len)
-                == NO_ROOM
+        pwcheck_pbkdf2_sha256_text(rt.alloc(), HORSE, SALT, 10_000_000, &mut [], &mut len)
+            == NO_ROOM
     );
     assert!(rt; out == [0xa5; 128] && len == 99);
+}
+
+// The same of SHA-crypt.
+#[test]
+fn short_buffers_of_sha_crypt(rt: HostRuntime) {
+    let (mut short, mut long, mut len) = ([0xa5; 64], [0xa5; 122], 99);
+    assert!(rt;
+        pwcheck_sha256_crypt_text(HORSE, b"x", 999_999_999, &mut short, &mut len) == NO_ROOM
+    );
+    assert!(rt;
+        pwcheck_sha512_crypt_text(HORSE, SALT, 999_999_999, &mut long, &mut len) == NO_ROOM
+    );
+    assert!(rt; short == [0xa5; 64] && long == [0xa5; 122] && len == 99);
+}
+
+// Causes that are said before the want of room.
+#[test]
+fn causes_before_room(rt: HostRuntime) {
+    let mut len = 99;
     assert!(rt;
         pwcheck_bcrypt_text(rt.alloc(), b"\0", SALT, 31, &mut [], &mut len) == REFUSED_ZERO
-            && pwcheck_bcrypt_text(rt.alloc(), HORSE, SALT, 32, &mut [], &mut len) == OUT_OF_RANGE
-            && pwcheck_sha256_crypt_text(b"\xff", b"x", 5_000, &mut [], &mut len) == OUT_OF_RANGE
-            && pwcheck_scrypt_text(rt.alloc(), HORSE, b"x", 4, 8, 1, &mut [], &mut len)
-                == OUT_OF_RANGE
+    );
+    assert!(rt;
+        pwcheck_bcrypt_text(rt.alloc(), HORSE, SALT, 32, &mut [], &mut len) == OUT_OF_RANGE
+    );
+    assert!(rt; pwcheck_sha256_crypt_text(b"\xff", b"x", 5_000, &mut [], &mut len) == OUT_OF_RANGE);
+    assert!(rt;
+        pwcheck_scrypt_text(rt.alloc(), HORSE, b"x", 4, 8, 1, &mut [], &mut len) == OUT_OF_RANGE
     );
 }
 
