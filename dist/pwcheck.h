@@ -137,8 +137,8 @@ enum pwcheck_status {
     PWCHECK_DONE = 0,
     PWCHECK_OUT_OF_RANGE = -1,      /* a number or a length isn't taken; nothing was written */
     PWCHECK_NO_MEMORY = -2,         /* there is no memory for the key; nothing was written */
-    PWCHECK_NO_ROOM = -3,           /* the buffer is too short; nothing was written. A maker has hashed before it says
-                                     * so: give it PWCHECK_TEXT_MAX bytes */
+    PWCHECK_NO_ROOM = -3,           /* the buffer is too short; nothing was written. A maker says so before it hashes;
+                                     * PWCHECK_TEXT_MAX bytes are always enough */
     PWCHECK_NOT_BASE64 = -4,        /* the text is the encoding of no bytes */
 
     /* -5 to -7, from version 1.1 on: the password is refused, and nothing was written. Its user may choose another */
@@ -240,8 +240,8 @@ struct pwcheck_limits {
     {sizeof(struct pwcheck_limits), 5248000, 15, 15, 32, 0, 4800000, 17, 32, 10, 262144, 8, 8}
 
 /* Checks a password against a stored text of every scheme: SHA-crypt ($5$, $6$), md5-crypt ($1$, $apr1$), bcrypt ($2a$,
- * $2b$, $2y$), yescrypt ($y$), scrypt ($7$), or a PHC record of scrypt, PBKDF2 (with SHA-256 or SHA-512) or Argon2. A valid
- * text that asks for more than a limit is answered by PWCHECK_OVER_COST, and nothing is hashed for it. Compare the answer
+ * $2b$, $2y$), bcrypt of a digest ($bcrypt-sha256$, $bcrypt-sha256-hex$, $wp$), yescrypt ($y$), scrypt ($7$), or a PHC record
+ * of scrypt, PBKDF2 (with SHA-256 or SHA-512) or Argon2. A valid text that asks for more than a limit is answered by PWCHECK_OVER_COST, and nothing is hashed for it. Compare the answer
  * with PWCHECK_MATCH, and with nothing less. Limits whose size is no multiple of 4 from 4 to 1,024, or that bound a number
  * which this version doesn't know, are PWCHECK_OUT_OF_RANGE, and nothing is read of the text. From version 1.1 on. */
 PWCHECK_MUST_USE PWCHECK_NONNULL
