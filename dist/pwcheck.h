@@ -17,7 +17,7 @@
  * - The stored text sets the time of a check: its rounds, or the parameters of scrypt. SHA-crypt's grows with the
  *   square of the password's length too, so it takes passwords of at most 4,096 bytes. A stored text of another's
  *   choice may ask for hours: bound it by pwcheck_check_limited, or by the limits of pwcheck_check_any.
- * - The processor is x86-64-v2 or later. No call takes more than 8,192 bytes of stack beside malloc's, as
+ * - The processor is x86-64-v2 or later. No call takes more than 9,472 bytes of stack beside malloc's, as
  *   checks/stack.py measures: a thread of PTHREAD_STACK_MIN (16 KB) is enough.
  * - After each call that takes a password the stack that it used, the vector registers and the memory that it took are
  *   overwritten or given back to the system. The caller's own copies, swap and core dumps are not the library's.
