@@ -322,7 +322,8 @@ fn bounds_passed(rt: HostRuntime) {
     ] {
         for (i, stored) in TEXTS.into_iter().enumerate() {
             let got = word_of(&check_any_within(rt.alloc(), &kdf, &kept, &low, "secret", stored));
-            if i == number {
+            // bcrypt's bound is that of bcrypt of a digest too.
+            if i == number || (number == 6 && i == 16) {
                 assert!(rt; got == "too-costly", "{stored}: {got}");
             } else if number != 2 && number != 4 {
                 assert!(rt; got == "match", "{stored}: {got}");
