@@ -7,7 +7,7 @@ What is missing is built by `rt lib` and `rt run`. The library is laid out (bind
 the one that is named. Each line of examples/passwords.txt and of the lines below is answered by `pwcheck check`, by the
 C caller (static and shared, by pkg-config), by Python and by Rust, and the words have to be the same. What Python's own
 library knows, scrypt, Base64 and texts by `crypt`, is compared too, and texts that others made of every other scheme; what is
-refused has to be refused, and leave `out` as it was; a key under too little memory has to be answered by want of memory. What this
+refused has to be refused, and leave `out` as it was; a key under too little memory has to be answered by out of memory. What this
 machine lacks is said and left out.
 """
 import base64
@@ -329,9 +329,9 @@ def compare_memory(pwcheck):
                 call.pwcheck_argon2id_text(b"password", 8, bytes(16), 16, 65536, 1, 1, ctypes.cast(out, ctypes.c_char_p), 97,
                                            ctypes.byref(n))]
     resource.setrlimit(resource.RLIMIT_AS, (soft, hard))
-    need([pwcheck.word(answer) for answer in answers] == ["no-memory"] * 2, "want of memory isn't told")
-    need(statuses == [-2] * 4, "want of memory isn't told")
-    need(bytes(out) == bytes(range(97)) and n.value == 77, "want of memory leaves something in `out`")
+    need([pwcheck.word(answer) for answer in answers] == ["no-memory"] * 2, "out of memory isn't answered")
+    need(statuses == [-2] * 4, "out of memory isn't answered")
+    need(bytes(out) == bytes(range(97)) and n.value == 77, "out of memory leaves something in `out`")
     need(pwcheck.check_limited(b"password", big, 0, 1) == pwcheck.Answer.OVER_COST, "a bound on bytes isn't kept")
 
 

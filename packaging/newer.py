@@ -64,7 +64,7 @@ class Build:
         return place
 
     def words(self, uses):
-        """What rattle is told of the libraries and the logic."""
+        """The words for rattle that name the libraries and the logic."""
         words = ["--extern", f"std={self.kit}/rlibs/std.rlib", "-L", f"dependency={self.kit}/rlibs"]
         for name in uses[self.crate]:
             words += ["--extern", f"{name}={self.rlib(name)}"]
@@ -74,7 +74,7 @@ class Build:
                 "--links", self.crate + "=", "--jobs", "1", "--toolchain", f"{self.kit}/toolchain", "--backend", "llvm", "--cpu", CPU]
 
     def is_new(self, uses):
-        """Whether what stands there is newer than all that it is made of."""
+        """Whether the built file is newer than all that it is made of."""
         sources = [os.path.join(self.folder, part) for part in ("src", "specs", "proofs")]
         libraries = [self.rlib(name) for name in below(uses, self.crate)]
         return os.path.exists(self.file) and os.path.getmtime(self.file) > newest(*sources, *libraries)
