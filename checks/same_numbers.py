@@ -70,7 +70,7 @@ FACTS = [
     ("the logic", None, [r"rattle-kit-\w+ logic ([0-9a-f]+)"], 1),
     ("the words that the first command prints", ("examples/passwords.txt", len), [r"prints (\d+) words"], 1),
     ("the lines of 81 makers", None, [r"([\d,]+) lines(?: of 81 makers|,? every answer (?:was )?as the maker says)"], 1),
-    ("the processor minutes of the gate", None, [r"from nothing it takes some (\d+)\s+minutes of processor time", r"some 125 for edits, (\d+) in all"], 2),
+    ("the processor minutes of the gate", None, [r"from nothing it takes some (\d+)\s+minutes of processor time", r"so the whole takes some (\d+) minutes there"], 2),
     ("the minutes of the first answer", None, [r"prints the same: (\d+) minutes on four cores", r"first\.sh` took (\d+) minutes by the clock"], 2),
     ("the processor minutes of the first answer", None, [r"minutes on four cores and (\d+) of processor time", r"first answer (\d+) of processor time"], 2),
     ("the status of bad words", ("crates/pwtool_forms/src/status.rt", r"BAD_WORDS: u8 = (\d+)"),
