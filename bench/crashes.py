@@ -391,6 +391,8 @@ def explored(lab, is_long):
         wrong += wrong_states(lab, record, most)
         if status != 0:
             wrong.append(f"{name}: status {status}")
+        if run.words and not any(call.label == "new file" for call in calls):
+            wrong.append(f"{name}: no new file is made")
         for count in range(len(calls) + 1):
             second, more = following(lab, record, count, 3)
             records.append(second)

@@ -44,7 +44,9 @@ REASONS = {
     "copies": (Reason("J", r"sha_crypt::digest::.*", 5, "the scheme's own: the salt is taken 16 + a[0] times"), BOTH),
     "rows": (Reason("A", r"scrypt_plain::ro_mix::.*", 6,
                     "the scheme's own: the row of the table is named by the block"), BOTH),
-    "utf8": (Reason("J", r"pwcheck_c::check::text_of", 10, "whether bytes are ASCII, and UTF-8"), BOTH),
+    # The kit's search of eight bytes a step is a function of its own in the build by LLVM: of a byte that isn't ASCII, or of a `$`.
+    "utf8": (Reason("J", r"pwcheck_c::check::text_of|core::str::str::from_utf8|core::slice::words::first::.*", 10,
+                    "whether bytes are ASCII, and UTF-8"), BOTH),
     "utf8_place": (Reason("A", r"pwcheck_c::check::text_of", 8, "where bytes aren't ASCII"), OWN),
     "cuts": (Reason("J", r"pieces::.*|core::iter::words::find_ascii|sha_crypt::fields::(from_salt|text_parts)", 4,
                     "where the stored text has a `$`"), BOTH),

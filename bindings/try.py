@@ -155,7 +155,9 @@ def compare_types(pwcheck):
     limits = pwcheck.Limits()
     for attempt in (lambda: setattr(limits, "bcrypt_cots", 3), lambda: pwcheck.Limits(bcrypt_cots=3), lambda: setattr(limits, "bcrypt_cost", 2.5),
                     lambda: pwcheck.check_any(b"a", b"b", {}), lambda: pwcheck.check_any(b"a", b"b", 0), lambda: pwcheck.check_any("a", b"b"),
-                    lambda: pwcheck.make("sha512-crypt", "a"), lambda: pwcheck.make("bcrypt", b"a", salt="a" * 16), lambda: pwcheck.same("a", b"a")):
+                    lambda: pwcheck.make("sha512-crypt", "a"), lambda: pwcheck.make("bcrypt", b"a", salt="a" * 16), lambda: pwcheck.same("a", b"a"),
+                    lambda: pwcheck.make(5, b"a"), lambda: pwcheck.make(b"bcrypt", b"a"), lambda: pwcheck.word(1.5), lambda: pwcheck.word(None),
+                    lambda: pwcheck.sha_check("256", b"a", b"b")):
         try:
             attempt()
         except TypeError:

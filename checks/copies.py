@@ -16,8 +16,6 @@ from page_texts import TOP, end
 LEMMAS_MOST = 10
 # Definitions that stand in two crates for now, and why. The list is to be empty.
 FOR_NOW = {
-    # Its place is pieces, a change of which has every crate proved again: it goes there with the next change of pieces.
-    "or_behind",
 }
 OWN = {"returns", "stayed"}
 

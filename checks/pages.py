@@ -13,7 +13,9 @@ import sys
 from page_texts import TOP, end, page_texts
 
 # The pages that are held to sentences of at most LONG words. The others are reported by `sentences`.
-PLAIN = ("README.md", "SECURITY.md", "CONTRIBUTING.md", "CHANGELOG.md", "docs/FORMAT.md", "docs/GUIDE.md", "docs/PROOF.md", "docs/README.md", "bench/README.md")
+PLAIN = ("README.md", "SECURITY.md", "CONTRIBUTING.md", "CHANGELOG.md", "docs/DEFINITIONS.md", "docs/DIFFERENCES.md", "docs/FORMAT.md", "docs/GUIDE.md",
+         "docs/PROGRAMS.md", "docs/PROMISES.md", "docs/PROOF.md", "docs/README.md", "docs/SPEED.md", "docs/internals/ARCHITECTURE.md",
+         "docs/internals/DECISIONS.md", "docs/internals/HOSTILE.md", "bench/README.md")
 LONG = 40
 ROOTS = ("crates", "docs", "bench", "examples", "bindings", "include", "man", "scale", "packaging", "checks", "crypt3", "face")
 
@@ -52,10 +54,13 @@ def dead_edits(text):
 
 
 def sentences(text):
-    """The sentences of a page's paragraphs, list items and quotations: no blocks, no headings, no cells of tables."""
+    """The sentences of a page's paragraphs, list items and quotations: no blocks, no headings, no cells of tables.
+
+    Two blanks at the end of a line break it, as after each form of a synopsis: a sentence ends there.
+    """
     text = re.sub(r"^```.*?^```$", "", text, flags=re.M | re.S)
     found = []
-    for paragraph in re.split(r"\n\s*\n|\n(?=\s*(?:[-*]|\d+\.) )", text):
+    for paragraph in re.split(r"\n\s*\n|  \n|\n(?=\s*(?:[-*]|\d+\.) )", text):
         if re.match(r"\s*(#|\||!|    )", paragraph.strip("\n")):
             continue
         plain = " ".join(re.sub(r"^\s*>\s?", "", paragraph, flags=re.M).split())

@@ -14,6 +14,7 @@ import io
 import json
 import os
 import re
+import resource
 import subprocess
 import sys
 import tempfile
@@ -218,9 +219,9 @@ class Tool:
             file.write(text if isinstance(text, bytes) else text.encode())
         return name
 
-    def run(self, words, given=b"", out=subprocess.PIPE, source=None):
+    def run(self, words, given=b"", out=subprocess.PIPE, source=None, **how):
         done = subprocess.run([self.program, *words], cwd=self.folder, input=None if source else given, stdin=source, stdout=out,
-                              stderr=subprocess.PIPE, timeout=60, check=False)
+                              stderr=subprocess.PIPE, timeout=60, check=False, **how)
         return (done.stdout or b"").decode(errors="replace"), done.returncode, done.stderr.decode(errors="replace")
 
     def case(self, words, given, wanted, status, said="", **how):
@@ -539,6 +540,16 @@ def makes(tool):
     tool.case(["make", "bcrypt", "--cost", "4"], "\nx\n", "", 1, "the password is empty")
     tool.case(["make", "bcrypt", "--cost", "4", "--empty"], "\nx\n", lambda got: got.startswith("$2b$04$") and len(got) == 61, 0)
     tool.case(["make", "bcrypt", "--cost", "4", "--empty"], "", "", 1, "there is no line")
+    # However long the first line is, no more is read than the longest line, its line feed and a byte.
+    for line, ended in ((b"secret\n", 0), (b"x" * 8193 + b"\n", 1), (b"x" * 1000000 + b"\n", 1)):
+        with open(os.path.join(tool.folder, tool.file("password", line + b"x" * 1000000)), "rb") as file:
+            tool.case(["make", "bcrypt", "--cost", "4"], "", lambda got: True, ended, source=file)
+            place = os.lseek(file.fileno(), 0, os.SEEK_CUR)
+        tool.count += 1
+        if place > 8194:
+            tool.faults.append(f"pwtool make: {place} bytes are read of a line of {len(line)}")
+    with open("/dev/zero", "rb") as zeros:
+        tool.case(["make", "bcrypt", "--cost", "4"], "", "", 1, "the first line has more than 8192 bytes", source=zeros)
 
 
 def streams(tool):
@@ -558,10 +569,91 @@ def tables(tool):
     path = os.path.join(tool.folder, "table")
     tool.case(["table", path], f"set\tann\t{MD5}\ncheck\tann\tsecret\ncheck\tann\tx\ncheck\tbob\tx\n", "ok\nmatch\nmismatch\nno-user\n", 1)
     tool.case(["table", path], "list\n", f"set\tann\t{MD5}\n", 0)
+    tool.case(["table", path], f"set\tann\t*\nset\tann\t{MD5}\n", "ok\nok\n", 0)
     os.chmod(path, 0o600)
     tool.case(["table", path, "compact"], "", "", 0)
+    tool.count += 1
+    with open(path, encoding="utf-8") as file:
+        lines = file.read()
+    if lines != f"#pwstore 1\nset\tann\t{MD5}\n#":
+        tool.faults.append(f"pwtool table FILE compact: {lines[:200]!r}")
     tool.case(["table", path], "check\tann\tsecret\n", "match\n", 0)
     tool.case(["table", path, "expand"], "", "", 64)
+
+
+# What `make` refuses, and the rule that its message names: those of pwtool(1).
+RULES = [
+    ("scrypt", ["--ln", "19"], "128 r 2^ln is at most 2^28"), ("scrypt", ["--ln", "16", "--r", "1"], "--ln is below 16 r"),
+    ("scrypt", ["--p", "1025"], "--p is at most 1024"), ("scrypt", ["--ln", "1", "--r", "131073"], "r p is at most 131072"),
+    ("scrypt", ["--r", "0"], "--ln, --r and --p are at least 1"), ("yescrypt", ["--ln", "1"], "--ln is at least 2"),
+    ("yescrypt", ["--r", "524288"], "--r is from 1 to 524287"), ("yescrypt", ["--t", "1025"], "--t is at most 1024"),
+    ("yescrypt", ["--ln", "19"], "128 r 2^ln is at most 2^30"), ("argon2id", ["--memory", "31"], "--memory is at least 8 KiB for each lane"),
+    ("argon2id", ["--memory", "2097153"], "--memory is at most 2097152 KiB"), ("argon2id", ["--passes", "257"], "passes times memory is at most 2^24 KiB"),
+    ("argon2id", ["--lanes", "0"], "--passes and --lanes are at least 1"), ("bcrypt", ["--cost", "32"], "--cost is from 4 to 31"),
+    ("sha512-crypt", ["--rounds", "999"], "--rounds is from 1000 to 999999999"), ("pbkdf2-sha512", ["--rounds", "0"], "--rounds is from 1 to 10000000"),
+]
+
+# Texts whose numbers are the greatest that their schemes take: no bound on another scheme refuses them.
+GREATEST = [record("argon2id$v=19$m=2097152,t=8,p=262144"), record("scrypt$ln=20,r=2,p=1024"), record("scrypt$ln=11,r=1024,p=128")]
+
+
+def told(tool):
+    """What is said: the word that is missing, the rule of a cost, what wanted memory, help and version, a pipe whose reader has gone."""
+    lines = tool.file("lines", f"secret\t{MD5}\n")
+    for words, missing in ((["join", lines], "<PASSWORDS>"), (["make"], "<SCHEME>"), (["table"], "<FILE>"), (["wrap"], "<W>"), (["unwrap"], "<W>")):
+        tool.case(words, "", "", 64, f"required arguments were not provided: {missing}\n")
+    for scheme, words, rule in RULES:
+        tool.case(["make", scheme, *words], "secret\n", "", 64, f"pwtool: {scheme}: the cost isn't taken: {rule}\n")
+    bounds = {bound for _, _, rule in RULES for bound in re.findall(r"2\^\d+|\d\d+|16 r|r p|128 r 2\^ln", rule)}
+    tool.case(["make", "--help"], "", lambda got: all(bound in got for bound in bounds), 0)
+    tool.case([], "", "", 64, "pwtool: 'pwtool' requires a subcommand but one was not provided: 'pwtool --help' has more\n")
+    with open(os.path.join(TOP, "CHANGELOG.md"), encoding="utf-8") as file:
+        version = re.search(r"^## ([0-9.]+)", file.read(), re.M)[1]
+    tool.case(["--version"], "", f"pwtool {version}\n", 0)
+    for form in ("check", "join", "survey", "make", "table", "normalize", "wrap", "unwrap"):
+        help_of_form = tool.run([form, "--help"])[0]
+        tool.case(["help", form], "", help_of_form, 0)
+        tool.case([form, "--version"], "", lambda got: got.endswith(f" {version}\n"), 0)
+    # With little memory.
+    few = {"preexec_fn": lambda: resource.setrlimit(resource.RLIMIT_AS, (1 << 25, 1 << 25))}
+    for text in GREATEST:
+        tool.case(["check", "--max-bcrypt-cost", "4"], f"secret\t{text}\n", "", 5, "pwtool: standard input: out of memory for the key of a line\n", **few)
+    tool.case(["make", "argon2id"], "secret\n", "", 5, "pwtool: out of memory for the key\n", **few)
+    many = tool.file("many", "".join(f"user{n}:{'x' * 40}\n" for n in range(300000)))
+    tool.case(["join", "-", many], f"ann:{MD5}\n", "", 5, f"pwtool: {many}: out of memory for the table of users\n", **few)
+    tool.case(["join", "--no-text", many, "-"], "ann:secret\n", "", 5, f"pwtool: {many}: out of memory for the table of users\n", **few)
+    # The reader of a pipe has gone.
+    wrapped = tool.file("wrapped", "AAAA\n" * 50000 + "AAAA")
+    table = os.path.join(tool.folder, "left")
+    for words, given in ((["survey", many], ""), (["normalize", many], ""), (["wrap", "76", many], ""), (["unwrap", "4", wrapped], ""), (["check", many], ""),
+                         (["check", "--users"], f"ann:secret\t{MD5}\n"), (["join", many, lines], ""), (["join", lines, many], ""),
+                         (["join", "--no-text", lines, many], ""), (["make", "bcrypt", "--cost", "4"], "secret\n"),
+                         (["table", table], f"set\tann\t{MD5}\nlist\n")):
+        reader, writer = os.pipe()
+        os.close(reader)
+        tool.count += 1
+        _, status, said = tool.run(words, given.encode(), out=writer)
+        os.close(writer)
+        if status != 4 or said:
+            tool.faults.append(f"pwtool {' '.join(words)}, a pipe without a reader: status {status}, {said!r}")
+
+
+def progresses(tool):
+    """`--progress`: a named pipe is opened once; each second a line that names what is read."""
+    path = os.path.join(tool.folder, "pipe")
+    os.mkfifo(path)
+    for words, given, wanted in ((["check", "--progress", path], f"secret\t{MD5}\n", "match\n"),
+                                 (["survey", "--progress", path], "ann:!\n", "ann\t-\t-\tlocked\n\n1\tlocked\n")):
+        for _ in range(4):
+            with subprocess.Popen(["sh", "-c", 'cat >"$1"', "sh", path], stdin=subprocess.PIPE) as writer:
+                writer.stdin.write(given.encode())
+                writer.stdin.close()
+                tool.case(words, "", wanted, 0)
+    slow = ["sh", "-c", "for n in 1 2 3; do echo 'ann:secret'; sleep 1.1; done"]
+    texts = tool.file("texts", f"ann:{MD5}\n")
+    for words, wanted in ((["survey", "--quiet", "--progress"], lambda got: got.count("ann\t") == 3), (["join", "--progress", texts, "-"], "ann\tmatch\n")):
+        with subprocess.Popen(slow, stdout=subprocess.PIPE) as source:
+            tool.case(words, "", wanted, lambda status: status in (0, 1), "pwtool: standard input: lines: ", source=source.stdout)
 
 
 def faults(tool):
@@ -592,7 +684,7 @@ def main():
     begin = time.time()
     with tempfile.TemporaryDirectory() as folder:
         tool = Tool(os.path.abspath(program), folder)
-        for part in (checks, joins, surveys, brought, directories, statuses, makes, streams, tables, faults):
+        for part in (checks, joins, surveys, brought, directories, statuses, makes, streams, tables, told, progresses, faults):
             part(tool)
     print("\n".join(f"pwtool_cases.py: {fault}" for fault in tool.faults) or f"pwtool_cases.py: {tool.count} cases, {time.time() - begin:.0f} s")
     return 1 if tool.faults else 0

@@ -1,7 +1,7 @@
 #!/usr/bin/env bash
 # The repository's own checks, after the prover's. Each ends with a status that isn't 0 where it finds a fault.
 #
-#     checks/run.sh quick    the numbers of the header and of the bindings, what the pages name, the blocks of README and GUIDE, the examples of the manual pages, the layers, the pictures, dist/ and its
+#     checks/run.sh quick    the numbers of the header and of the bindings, what the pages name, the blocks of README and GUIDE, the examples of the manual pages, the layers, the places of a scheme, the pictures, dist/ and its
 #                            comparison; and of what the gate built (dist/ where nothing is built) the faces in C, their binary interface, a release and its README, pwtool over each form and
 #                            option, and what crashes leave of a table of pwstore. In a minute or two, without any proof: for each push; it
 #                            needs strace
@@ -24,6 +24,8 @@ command -v mandoc >/dev/null 2>&1 || apt-get install -y mandoc >/dev/null 2>&1 |
 python3 checks/programs.py
 python3 checks/layers.py
 python3 checks/copies.py
+# The scheme that was added last.
+python3 checks/scheme.py bcrypt-digest >"$work/log" || { cat "$work/log" >&2; exit 1; }
 python3 bench/pictures.py check
 python3 bench/run.py --check
 python3 checks/dist.py
@@ -56,6 +58,8 @@ python3 bindings/library.py "$work/lib"
 python3 checks/exports.py "$work/lib"
 python3 bindings/try.py "$work/try"
 checks/sanitizers.sh "$made"
+# No jump and no address of the built calls depends on secret bytes but where a reason is given: so a comparison by `==` is seen.
+LIBPWCHECK_C=$made/libpwcheck_c.a python3 bench/taint.py
 if [ -e "$made/x86-64-v3" ] && /lib64/ld-linux-x86-64.so.2 --help | grep -q 'x86-64-v3 (supported'; then checks/sanitizers.sh "$made/x86-64-v3"; fi
 if [ -e /usr/include/crypt.h ]; then
   python3 crypt3/library.py "$work/crypt"

@@ -44,7 +44,7 @@ FACTS = [
       r"PWCHECK_PASSWORD_MAX ([\d,]+)", r"PASSWORD_TOO_LONG = 4, (?:/\*)? ?more than ([\d,]+) bytes"], 9),
     ("the longest text of a table", ("crates/pw_file/src/table.rt", r"TEXT_MAX: usize = ([\d_]+)"),
      [r"text-long`?,? \(more than ([\d,]+) bytes\)"], 2),
-    ("the users of pwfile", ("crates/pw_file/src/stored_texts.rt", r"fn users_max\(\) -> usize \{\s*([\d_]+)"),
+    ("the users of pwfile", ("crates/pw_file/src/stored_texts.rt", r"pub const USERS_MAX: usize = ([\d_]+)"),
      [r"crypt format\)\W+full\W+\(the user has no text, and ([\d,]+) users have one", r"`pwfile` keeps its ([\d,]+)"], 2),
     ("the users of pwstore", ("crates/shadow_table/src/any_texts.rt", r"fn users_max\(\) -> usize \{\s*([\d_]+)"),
      [r"or a colon\)\W+full\W+\(the user has no text, and ([\d,]+) users have one", r"and the table at most ([\d,]+) users",

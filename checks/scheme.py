@@ -7,8 +7,9 @@ What a file names tells what it is a place for: one that names all schemes is fo
 is for such, and so with the methods of crypt(3) and with texts in a form of their own. A file that names all of them by what their texts ask
 for (`CostFamily`, `SchemeCosts`) is for a scheme with numbers of its own. So no list of places has to be kept. What scheme_list says of NAME
 decides which of these count; before it says something all of them do. A file that reads the table of texts, pwtool's stored run, names what
-stands there. What a compiler finds (a `match` without an arm) is among the places. It ends with 1 where one that counts is left; those where
-the texts of other programs are compared are told, and count for no scheme, since not every scheme has a maker.
+is in that table. What a compiler finds (a `match` without an arm) is among the places. It ends with 1 where one that counts is left. Two kinds are
+told and count for no scheme. They are the causes of faults, which a scheme may share with another, and the places where the texts of other
+programs are compared, since not every scheme has a maker.
 """
 import os
 import re
@@ -44,6 +45,11 @@ OTHERWISE = {
     "bindings/rust/src/lib.rs": "family",
     "crates/shadow_survey/specs/Leasts.antt": "family",
     "crates/shadow_survey/src/least.rt": "family",
+    # Causes and their numbers. What scheme_list says doesn't tell whether a scheme has faults of its own.
+    "crates/any_check/src/error.rt": "fault",
+    "crates/pwcheck_c/src/answer.rt": "fault",
+    # What a word mostly means in a file that people have.
+    "man/pwcheck.1": None,
     # Each call once: texts of every scheme are tried by checks/c_calls.c, from the table.
     "crates/pwcheck_c/src/any_tests.rt": None,
     "bindings/rust/src/tests.rs": None,
@@ -56,7 +62,9 @@ OTHERWISE = {
 }
 HEADS = {"all": "for every scheme", "own": "where its texts are no records", "made": "where texts of it are made",
          "method": "where it is a method of crypt(3)", "family": "where it has numbers of its own",
+         "fault": "where it has faults of its own (not counted)",
          "maker": "where other programs write its texts (not counted)"}
+NOT_COUNTED = {"fault", "maker"}
 
 
 def source(*path):
@@ -152,9 +160,9 @@ def main():
     told = [kind for kind in HEADS if kind in found and counts.get(kind, True)]
     for kind in told:
         print(f"scheme.py: {HEADS[kind]}:", *found[kind], sep="\n  ")
-    if not set(told) - {"maker"}:
+    if not set(told) - NOT_COUNTED:
         print(f"scheme.py: {name} is named wherever it has to be")
-    return 1 if set(told) - {"maker"} else 0
+    return 1 if set(told) - NOT_COUNTED else 0
 
 
 if __name__ == "__main__":

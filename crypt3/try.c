@@ -251,26 +251,70 @@ static void try_grown(void)
     free(data);
 }
 
-/* In a child with little memory: the token and ENOMEM, and never the setting. */
-static void try_no_memory(void)
+/* Whether a function, called in a child, gives 0. */
+static bool child_does(int (*function)(void))
 {
     fflush(NULL);
     pid_t child = fork();
     NEED(child >= 0);
-    if (!child) {
-        static struct crypt_data data;
-        struct rlimit little = {32 << 20, 32 << 20};
-        char setting[] = "$y$jFT$0123456789ab";
-        if (setrlimit(RLIMIT_AS, &little))
-            _exit(2);
-        errno = 0;
-        char *text = crypt_r("pw", setting, &data);
-        int error = errno;
-        bool none = !crypt_rn("pw", setting, &data, sizeof data) && errno == ENOMEM && !strcmp(data.output, "*0");
-        _exit(!strcmp(text, "*0") && error == ENOMEM && none ? 0 : 1);
-    }
+    if (!child)
+        _exit(function());
     int status = 0;
-    NEED(waitpid(child, &status, 0) == child && WIFEXITED(status) && WEXITSTATUS(status) == 0);
+    return waitpid(child, &status, 0) == child && WIFEXITED(status) && WEXITSTATUS(status) == 0;
+}
+
+/* Where memory can't grow crypt_ra keeps what it was given: its caller reads it and frees it once. */
+static int grow_without_memory(void)
+{
+    static char *volatile taken;
+    struct rlimit none = {0, 0};
+    void *data = malloc(5);
+    int size = 5;
+    if (!data || setrlimit(RLIMIT_AS, &none))
+        return 2;
+    memcpy(data, "kept", 5);
+    do
+        taken = malloc(64);
+    while (taken);
+    errno = 0;
+    void *before = data;
+    if (crypt_ra("pw", TEXTS[0], &data, &size) || errno != ENOMEM || data != before || size != 5 || strcmp(data, "kept"))
+        return 1;
+    free(data);
+    return 0;
+}
+
+/* A setting is read to its end, however long it is. */
+static void try_long_settings(void)
+{
+    static struct crypt_data data;
+    static char setting[5000];
+    for (size_t n = 100; n < sizeof setting; n += 700) {
+        memset(setting, 'a', n);
+        memcpy(setting, "$1$saltsalt$", 12);
+        setting[n] = '\0';
+        NEED(!strcmp(crypt_r("pw", setting, &data), TEXTS[0]));
+        NEED(crypt_checksalt(setting) == CRYPT_SALT_METHOD_LEGACY);
+        setting[n - 1] = ':';
+        errno = 0;
+        NEED(!strcmp(crypt_r("pw", setting, &data), "*0") && errno == EINVAL);
+        NEED(crypt_checksalt(setting) == CRYPT_SALT_INVALID);
+    }
+}
+
+/* In a child with little memory: the token and ENOMEM, and never the setting. */
+static int text_without_memory(void)
+{
+    static struct crypt_data data;
+    struct rlimit little = {32 << 20, 32 << 20};
+    char setting[] = "$y$jFT$0123456789ab";
+    if (setrlimit(RLIMIT_AS, &little))
+        return 2;
+    errno = 0;
+    char *text = crypt_r("pw", setting, &data);
+    int error = errno;
+    bool none = !crypt_rn("pw", setting, &data, sizeof data) && errno == ENOMEM && !strcmp(data.output, "*0");
+    return !strcmp(text, "*0") && error == ENOMEM && none ? 0 : 1;
 }
 
 /* Every text in a thread of the least stack that the system has. */
@@ -298,8 +342,10 @@ int main(void)
     try_drawn();
     try_kept();
     try_grown();
+    try_long_settings();
     if (!SANITIZED) {
-        try_no_memory();
+        NEED(child_does(grow_without_memory));
+        NEED(child_does(text_without_memory));
         try_small_thread();
     }
     try_phrases();

@@ -9,15 +9,16 @@
  *   No call can check these two points; every other input is answered by a number or a length.
  * - Nothing is kept between calls, nothing is read or written but what is passed, errno is left alone where malloc and
  *   getrandom leave it, and no call prints or exits. pwcheck_make alone may wait: getrandom does, early in a boot.
- * - These calls take memory, by malloc and free, and give it back: pwcheck_check, pwcheck_check_limited, pwcheck_scrypt
- *   and pwcheck_scrypt_text at most 304 MiB, pwcheck_check_login at most 513 MiB, pwcheck_make 64 MiB. pwcheck_check_any
+ * - These calls take memory and give it back: pwcheck_check, pwcheck_check_limited, pwcheck_scrypt and
+ *   pwcheck_scrypt_text at most 304 MiB, pwcheck_check_login at most 513 MiB, pwcheck_make 64 MiB. pwcheck_check_any
  *   takes what the stored text asks for, up to 2 GiB for Argon2: bound it. pwcheck_yescrypt_text and
- *   pwcheck_argon2id_text take what the numbers of the call ask for. No other call takes memory. These calls are not for
- *   signal handlers, nor for the forked child of a process with threads.
+ *   pwcheck_argon2id_text take what the numbers of the call ask for. No other call takes memory. A piece of 2 MiB or more
+ *   is a mapping (mmap and munmap), a smaller one, and one for which there is no mapping, comes of malloc. These calls
+ *   are not for signal handlers, nor for the forked child of a process with threads.
  * - The stored text sets the time of a check: its rounds, or the parameters of scrypt. SHA-crypt's grows with the
  *   square of the password's length too, so it takes passwords of at most 4,096 bytes. A stored text of another's
  *   choice may ask for hours: bound it by pwcheck_check_limited, or by the limits of pwcheck_check_any.
- * - The processor is x86-64-v2 or later. No call takes more than 9,472 bytes of stack beside malloc's, as
+ * - The processor is x86-64-v2 or later. No call takes more than 8,192 bytes of stack beside malloc's, as
  *   checks/stack.py measures: a thread of PTHREAD_STACK_MIN (16 KB) is enough.
  * - After each call that takes a password the stack that it used, the vector registers and the memory that it took are
  *   overwritten or given back to the system. The caller's own copies, swap and core dumps are not the library's.
@@ -240,10 +241,11 @@ struct pwcheck_limits {
     {sizeof(struct pwcheck_limits), 5248000, 15, 15, 32, 0, 4800000, 17, 32, 10, 262144, 8, 8}
 
 /* Checks a password against a stored text of every scheme: SHA-crypt ($5$, $6$), md5-crypt ($1$, $apr1$), bcrypt ($2a$,
- * $2b$, $2y$), bcrypt of a digest ($bcrypt-sha256$, $bcrypt-sha256-hex$, $wp$), yescrypt ($y$), scrypt ($7$), or a PHC record
- * of scrypt, PBKDF2 (with SHA-256 or SHA-512) or Argon2. A valid text that asks for more than a limit is answered by PWCHECK_OVER_COST, and nothing is hashed for it. Compare the answer
- * with PWCHECK_MATCH, and with nothing less. Limits whose size is no multiple of 4 from 4 to 1,024, or that bound a number
- * which this version doesn't know, are PWCHECK_OUT_OF_RANGE, and nothing is read of the text. From version 1.1 on. */
+ * $2b$, $2y$), bcrypt of a digest ($bcrypt-sha256$, $bcrypt-sha256-hex$, $wp$), yescrypt ($y$), scrypt ($7$), or a PHC
+ * record of scrypt, PBKDF2 (with SHA-256 or SHA-512) or Argon2. A valid text that asks for more than a limit is
+ * answered by PWCHECK_OVER_COST, and nothing is hashed for it. Compare the answer with PWCHECK_MATCH, and with nothing
+ * less. Limits whose size is no multiple of 4 from 4 to 1,024, or that bound a number which this version doesn't know,
+ * are PWCHECK_OUT_OF_RANGE, and nothing is read of the text. From version 1.1 on. */
 PWCHECK_MUST_USE PWCHECK_NONNULL
 int32_t pwcheck_check_any(const uint8_t *password, size_t password_len, const uint8_t *stored, size_t stored_len,
                           const struct pwcheck_limits *limits);
@@ -319,9 +321,10 @@ int32_t pwcheck_sha512_crypt_text(const uint8_t *password, size_t password_len, 
 PWCHECK_MUST_USE PWCHECK_NONNULL
 int32_t pwcheck_make(const uint8_t *password, size_t password_len, uint8_t *out, size_t out_len, size_t *len);
 
-/* Whether a stored text is another one than pwcheck_make makes: its cost is below what its source recommends (as `pwtool
- * survey` judges), it is of another scheme than Argon2id, or it has no verdict. Nothing is hashed. Ask after a match, and
- * then store the text that pwcheck_make makes of the same password. From version 1.1 on. */
+/* Whether a text of pwcheck_make is to take the place of a stored text: this one's cost is below what its source
+ * recommends (as `pwtool survey` judges), it is of another scheme than Argon2id, or it has no verdict. A text of Argon2id
+ * that isn't weak stays, whatever its numbers are. Nothing is hashed. Ask after a match, and then store the text that
+ * pwcheck_make makes of the same password. From version 1.1 on. */
 PWCHECK_MUST_USE PWCHECK_NONNULL
 bool pwcheck_needs_remake(const uint8_t *stored, size_t stored_len);
 

@@ -9,7 +9,7 @@
 /* The bytes of stack that are wiped after a call: at least as many as a proved call takes below its caller, which
  * checks/stack.py measures. This many are libpwcheck's, where a check of SHA-512-crypt takes most; libpwcrypt sets fewer. */
 #ifndef FACE_STACK
-#define FACE_STACK 9216
+#define FACE_STACK 7968
 #endif
 
 /* Wipes the stack below the caller and the vector registers. A face calls it after the proved call has returned. */

@@ -231,7 +231,7 @@ LIMITS_LOGIN = Limits(sha_rounds=5248000, bcrypt_cost=15, yescrypt_ln=15, yescry
 
 def _of(calls: Dict[int, Any], bits: int) -> Any:
     """The entry of SHA-256-crypt or SHA-512-crypt."""
-    if bits not in calls:
+    if _natural(bits) not in calls:
         raise ValueError(f"{bits} is neither 256 nor 512")
     return calls[bits]
 
@@ -292,8 +292,8 @@ def check_login(password: Data, stored: Data) -> Answer:
 
 
 def needs_remake(stored: Data) -> bool:
-    """Whether a stored text is another one than `make_recommended` makes: weak, of another scheme, or without a verdict. Nothing
-    is hashed. Ask after a match, and then store the text of the same password that `make_recommended` makes."""
+    """Whether a text of `make_recommended` is to take the place of a stored text: this one is weak, of another scheme than Argon2id, or
+    without a verdict. Nothing is hashed. Ask after a match, and then store the text that `make_recommended` makes of the same password."""
     return bool(_needs_remake(*_data(stored)))
 
 
@@ -304,6 +304,8 @@ def sha_check(bits: int, password: Data, stored: Data) -> Answer:
 
 def word(answer: int) -> str:
     """The word of an answer, as `pwcheck check` writes it."""
+    if not isinstance(answer, int):
+        raise TypeError(f"a number is wanted, not {type(answer).__name__}")
     if not -1 << 31 <= answer < 1 << 31:
         raise ValueError(f"{answer} is out of range")
     told = _told(WORD_SIZE, _word, answer)
@@ -372,6 +374,8 @@ def make(scheme: str, password: Data, salt: Optional[Data] = None, **costs: int)
     cost=13)`. The salt is drawn by `secrets` unless it is given: 16 bytes, for SHA-crypt 12. A password of more than 4,096 bytes
     (bcrypt: 72), that isn't UTF-8, or has a zero byte (SHA-crypt, bcrypt, yescrypt) raises PasswordRefused.
     """
+    if not isinstance(scheme, str):
+        raise TypeError(f"the name of a scheme is wanted, not {type(scheme).__name__}")
     if scheme not in RECOMMENDED:
         raise ValueError(f"no texts of {scheme} are made")
     numbers = {**RECOMMENDED[scheme], **costs}

@@ -362,8 +362,9 @@ pub fn check_login(password: &[u8], stored: &[u8]) -> Answer {
     Answer::of(unsafe { c::pwcheck_check_login(p.as_ptr(), p.len(), s.as_ptr(), s.len()) })
 }
 
-/// Whether a stored text is another one than [`make_recommended`] makes: weak, of another scheme, or without a verdict. Nothing is
-/// hashed. Ask after a match, and then store the text of the same password that [`make_recommended`] makes.
+/// Whether a text of [`make_recommended`] is to take the place of a stored text: this one is weak, of another scheme than Argon2id,
+/// or without a verdict. Nothing is hashed. Ask after a match, and then store the text that [`make_recommended`] makes of the same
+/// password.
 ///
 /// ```
 /// use pwcheck::{make_recommended, needs_remake};

@@ -1,9 +1,9 @@
 -- The first line of a source, and what is written for it.
-use Rattle.std.proofs.Common.{◌≡◌, ℕ, Bool, ◌+◌, ◌-◌, ◌^◌, ◌<◌, ◌≤◌, List, [], ◌∷◌, ◌++◌, length, take, drop, refl, sym, ap, ◌∙◌, arith}
+use Rattle.std.proofs.Common.{◌≡◌, ℕ, Bool, ◌+◌, ◌-◌, ◌<◌, ◌≤◌, List, [], ◌∷◌, ◌++◌, length, take, drop, refl, sym, ap, ◌∙◌, arith}
 use Rattle.std.proofs.Common.{append-nil, append_assoc, take-append-drop, subst, inl, inr, Some, None, Option}
 use Rattle.std.specs.Io.KnownBytes.{Appends}
 use Rattle.std.proofs.lemmas.Bool.{false≢true}
-use Rattle.std.proofs.lemmas.List.{length-append, length-take, length-take-le}
+use Rattle.std.proofs.lemmas.List.{length-take-le}
 use Rattle.line_io.specs.Buffer as buffer
 use Rattle.line_io.specs.Devices.{WhereTold}
 use Rattle.line_io.specs.Runs.{IsCall, IsNew}
@@ -25,27 +25,24 @@ found : (held bytes left line pending : List ℕ) → held ≡ bytes ++ left →
 found held bytes left line pending is cut =
     is ∙ ap (λ (b : List ℕ). b ++ left) cut ∙ append_assoc line (10 ∷ pending) left
 
--- a buffer holds few bytes
-pending_few : (b : LineBuffer) → length (buffer.pending b) ≤ 16384
-unfolding buffer.pending
-pending_few b =
-    let size = length-take (b.end - b.start) (drop b.start b.bytes) in
-    let most = b.within in
-    omega (arith, size, most)
+-- a call on a new buffer takes few bytes, as no more are taken than count and one
+few_taken : (before now : LineBuffer) → IsNew 8193 before → buffer.taken now ≤ buffer.max_bytes now + 1
+    → (answer : Line) (left left_now : Option (List ℕ)) (call : IsCall answer left left_now before now)
+    → length call.takes.bytes ≤ 8194
+few_taken before now new past answer left left_now call =
+    let counted = call.takes.counted in
+    let none = new.taken_none in
+    let max_same = call.max_same in
+    let max_is = new.max_same in
+    omega (arith, counted, none, max_same, max_is, past)
 
--- what was taken with a line that its line feed ends
-few_with : (bytes line pending : List ℕ) → bytes ≡ line ++ 10 ∷ pending → length pending ≤ 16384
-    → length bytes ≤ length line + 1 + 16384
-few_with bytes line pending cut few =
-    omega (arith, ap length cut, length-append line (10 ∷ pending), few)
-
-module _ (held left : List ℕ) (before now : LineBuffer) (new : IsNew (2 ^ 40) before) where
+module _ (held left : List ℕ) (before now : LineBuffer) (new : IsNew 8193 before) where
   open_end : buffer.KnowsEnd before (Some held)
   open_end = λ ended. absurd (false≢true (sym new.unended ∙ ended))
 
   -- the line of a whole answer
   first_line : (n : ℕ) (call : IsCall (line.Whole n) (Some held) (Some left) before now)
-      → IsFirstLine held call.takes.bytes (buffer.line now)
+      → IsFirstLine held (buffer.line now)
   first_line n call =
       let takes = call.takes in
       let bytes = takes.bytes in
@@ -61,10 +58,6 @@ module _ (held left : List ℕ) (before now : LineBuffer) (new : IsNew (2 ^ 40) 
                 ∙ ap (λ (b : List ℕ). buffer.line now ++ b) (call.at_end open_end last.2) ∙ append-nil (buffer.line now),
             last.1,
           )
-        ],
-        elim answered.3 [
-          | inl feed ↦ few_with bytes (buffer.line now) (buffer.pending now) feed.0 (pending_few now)
-          | inr last ↦ omega (arith, ap length last.0)
         ],
       )
 
@@ -114,16 +107,17 @@ module _ (held left : List ℕ) (before now : LineBuffer) (new : IsNew (2 ^ 40) 
 
 -- ---- outcomes
 
-module _ (c : MakeCost) (salt : List ℕ) (takes_empty : Bool) (held taken : List ℕ) where
+module _ (c : MakeCost) (salt : List ℕ) (takes_empty : Bool) (held taken : List ℕ) (few : length taken ≤ 8194) where
   abbrev Ends : MakeEnd → List ℕ → Type 0
   Ends end added = MakeOutcome c salt takes_empty end held taken added
 
-  of_text : (end : MakeEnd) (l : List ℕ) (written written_now : Option (List ℕ)) → IsFirstLine held taken l
+  of_text : (end : MakeEnd) (l : List ℕ) (written written_now : Option (List ℕ)) → IsFirstLine held l
       → WritesText c takes_empty l salt written written_now end → (added : List ℕ) × Appends written written_now added × Ends end added
   of_text Made l written written_now first h = (
     h.0 ++ 10 ∷ [],
     h.3,
     record {
+      few = few;
       done = λ e. (l, h.0, first, h.1, h.2, refl);
       refused = λ f e. absurd cc;
       no_line = λ e. absurd cc;
@@ -137,6 +131,7 @@ module _ (c : MakeCost) (salt : List ℕ) (takes_empty : Bool) (held taken : Lis
     h.3.0,
     h.3.3,
     record {
+      few = few;
       done = λ e. absurd cc;
       refused = λ f e. absurd cc;
       no_line = λ e. absurd cc;
@@ -150,6 +145,7 @@ module _ (c : MakeCost) (salt : List ℕ) (takes_empty : Bool) (held taken : Lis
     [],
     h.2,
     record {
+      few = few;
       done = λ e. absurd cc;
       refused = λ g e. (l, first, h.0, subst (λ (x : MakeFault). IsMakeFault c (made c l salt) x) (fault_once f g e) h.1);
       no_line = λ e. absurd cc;
@@ -166,6 +162,7 @@ module _ (c : MakeCost) (salt : List ℕ) (takes_empty : Bool) (held taken : Lis
     [],
     h.1,
     record {
+      few = few;
       done = λ e. absurd cc;
       refused = λ g e. absurd cc;
       no_line = λ e. absurd cc;
@@ -181,6 +178,7 @@ module _ (c : MakeCost) (salt : List ℕ) (takes_empty : Bool) (held taken : Lis
 
   pub none_read : Ends ReadFault []
   none_read = record {
+    few = few;
     done = λ e. absurd cc;
     refused = λ f e. absurd cc;
     no_line = λ e. absurd cc;
@@ -192,6 +190,7 @@ module _ (c : MakeCost) (salt : List ℕ) (takes_empty : Bool) (held taken : Lis
 
   pub none_there : held ≡ [] → Ends NoLine []
   none_there is = record {
+    few = few;
     done = λ e. absurd cc;
     refused = λ f e. absurd cc;
     no_line = λ e. is;
@@ -203,6 +202,7 @@ module _ (c : MakeCost) (salt : List ℕ) (takes_empty : Bool) (held taken : Lis
 
   pub too_long : HasLongLine held → Ends LongLine []
   too_long is = record {
+    few = few;
     done = λ e. absurd cc;
     refused = λ f e. absurd cc;
     no_line = λ e. absurd cc;
@@ -217,7 +217,12 @@ module _ (c : MakeCost) (salt : List ℕ) (takes_empty : Bool) (held taken : Lis
 appends_none : (written : List ℕ) → written ≡ written ++ []
 appends_none written = sym (append-nil written)
 
-module _ (c : MakeCost) (salt : List ℕ) (takes_empty : Bool) (before now : LineBuffer) (new : IsNew (2 ^ 40) before) where
+module _ (c : MakeCost) (salt : List ℕ) (takes_empty : Bool) (before now : LineBuffer) (new : IsNew 8193 before)
+    (past : buffer.taken now ≤ buffer.max_bytes now + 1) where
+  few_of : (answer : Line) (held rest : List ℕ) (call : IsCall answer (Some held) (Some rest) before now)
+      → length call.takes.bytes ≤ 8194
+  few_of answer held rest call = few_taken before now new past answer (Some held) (Some rest) call
+
   abbrev Told : Option (List ℕ) → Option (List ℕ) → Option (List ℕ) → Option (List ℕ) → MakeEnd → Type 0
   Told left left_now written written_now end =
       WhereTold left left_now written written_now (λ held taken added. MakeOutcome c salt takes_empty end held taken added)
@@ -236,25 +241,25 @@ module _ (c : MakeCost) (salt : List ℕ) (takes_empty : Bool) (before now : Lin
   pub told_read : (left left_now written : Option (List ℕ)) → IsCall line.Failed left left_now before now
       → Told left left_now written written ReadFault
   told_read left left_now written call =
-      nothing_written left left_now written line.Failed ReadFault (λ held rest is. none_read c salt takes_empty held is.takes.bytes) call
+      nothing_written left left_now written line.Failed ReadFault (λ held rest is. none_read c salt takes_empty held is.takes.bytes (few_of line.Failed held rest is)) call
 
   pub told_none : (left left_now written : Option (List ℕ)) → IsCall line.End left left_now before now
       → Told left left_now written written NoLine
   told_none left left_now written call =
       nothing_written left left_now written line.End NoLine
-      (λ held rest is. none_there c salt takes_empty held is.takes.bytes (no_line held rest before now new is)) call
+      (λ held rest is. none_there c salt takes_empty held is.takes.bytes (few_of line.End held rest is) (no_line held rest before now new is)) call
 
   pub told_long : (left left_now written : Option (List ℕ)) → IsCall line.TooLong left left_now before now
       → Told left left_now written written LongLine
   told_long left left_now written call =
       nothing_written left left_now written line.TooLong LongLine
-      (λ held rest is. too_long c salt takes_empty held is.takes.bytes (long_line held rest before now new is)) call
+      (λ held rest is. too_long c salt takes_empty held is.takes.bytes (few_of line.TooLong held rest is) (long_line held rest before now new is)) call
 
   pub told_budget : (left left_now written : Option (List ℕ)) → IsCall line.Budget left left_now before now
       → Told left left_now written written LongLine
   told_budget left left_now written call =
       nothing_written left left_now written line.Budget LongLine
-      (λ held rest is. too_long c salt takes_empty held is.takes.bytes (budget_line held rest before now new is)) call
+      (λ held rest is. too_long c salt takes_empty held is.takes.bytes (few_of line.Budget held rest is) (budget_line held rest before now new is)) call
 
   pub told_text : (n : ℕ) (left left_now written written_now : Option (List ℕ)) (end : MakeEnd)
       → IsCall (line.Whole n) left left_now before now
@@ -264,5 +269,6 @@ module _ (c : MakeCost) (salt : List ℕ) (takes_empty : Bool) (before now : Lin
   told_text n (Some held) None (Some old) written_now end call h = absurd call.takes.consumed
   told_text n (Some held) (Some rest) (Some old) written_now end call h =
       let first = first_line held rest before now new n call in
-      let text = of_text c salt takes_empty held call.takes.bytes end (buffer.line now) (Some old) written_now first h in
+      let few = few_of (line.Whole n) held rest call in
+      let text = of_text c salt takes_empty held call.takes.bytes few end (buffer.line now) (Some old) written_now first h in
       (call.takes.bytes, text.0, call.takes.consumed, text.1, text.2)

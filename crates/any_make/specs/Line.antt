@@ -1,5 +1,5 @@
 -- What a run that makes the text of one line did.
-use Rattle.std.specs.Prelude.{◌≡◌, ◌⊎◌, ◌<◌, ◌≤◌, ◌+◌, ◌||◌, ℕ, Bool, true, false, List, [], ◌∷◌, ◌++◌, length, nat_lt, Ok, Option}
+use Rattle.std.specs.Prelude.{◌≡◌, ◌⊎◌, ◌<◌, ◌≤◌, ◌||◌, ℕ, Bool, true, false, List, [], ◌∷◌, ◌++◌, length, nat_lt, Ok, Option}
 use Rattle.std.specs.Io.KnownBytes.{Appends}
 use Rattle.line_io.specs.Devices.{AppendsPrefix}
 use Rattle.line_io.specs.Limits.{line_max}
@@ -11,17 +11,15 @@ use Rattle.any_make.specs.declared.line.MakeEnd.{MakeEnd}
 use Rattle.any_make.specs.declared.line.MakeEnd.TheVariants.{EmptyLine, LongLine, Made, NoLine, Refused, WriteFault}
 use Rattle.any_make.specs.declared.scheme.MakeCost.{MakeCost}
 
--- the most bytes behind the first line that are taken: as many as a buffer of lines holds
-abbrev pub behind_max : ℕ
-behind_max = 16384
+-- the most bytes that are taken: those of the longest line, its line feed and one more
+abbrev pub taken_max : ℕ
+taken_max = 8194
 
--- Some bytes begin with a line and its line feed; or they are one nonempty line without a line feed. No more of them are taken
--- than the line, its line feed and as many bytes as a buffer holds.
-abbrev pub IsFirstLine : List ℕ → List ℕ → List ℕ → Type 0
-IsFirstLine held taken line =
+-- some bytes begin with a line and its line feed; or they are one nonempty line without a line feed
+abbrev pub IsFirstLine : List ℕ → List ℕ → Type 0
+IsFirstLine held line =
     (length line ≤ line_max) × NoFeed line
     × (((rest : List ℕ) × (held ≡ line ++ 10 ∷ rest)) ⊎ ((held ≡ line) × (0 < length line)))
-    × (length taken ≤ length line + 1 + behind_max)
 
 -- some bytes begin with more than a line may have and no line feed among them
 abbrev pub HasLongLine : List ℕ → Type 0
@@ -34,22 +32,24 @@ is_password takes_empty line = takes_empty || nat_lt 0 (length line)
 
 -- The table of outcomes. The source held `held`, of which `taken` was taken; `added` was added to the sink.
 pub record MakeOutcome (c : MakeCost) (salt : List ℕ) (takes_empty : Bool) (end : MakeEnd) (held taken added : List ℕ) : Type 0 where
+  -- whatever the source holds, few bytes of it are taken
+  pub few : length taken ≤ taken_max
   -- the text of the first line, and a line feed
   pub done : end ≡ Made
-      → (line : List ℕ) × (text : List ℕ) × IsFirstLine held taken line × (is_password takes_empty line ≡ true)
+      → (line : List ℕ) × (text : List ℕ) × IsFirstLine held line × (is_password takes_empty line ≡ true)
       × (made c line salt ≡ Ok text) × (added ≡ text ++ 10 ∷ [])
   -- the first line is a password of which no text is made, or memory was refused
   pub refused : (e : MakeFault) → end ≡ Refused e
-      → (line : List ℕ) × IsFirstLine held taken line × (is_password takes_empty line ≡ true)
+      → (line : List ℕ) × IsFirstLine held line × (is_password takes_empty line ≡ true)
       × IsMakeFault c (made c line salt) e
   -- the first line is no password
-  pub empty_line : end ≡ EmptyLine → (line : List ℕ) × IsFirstLine held taken line × (is_password takes_empty line ≡ false)
+  pub empty_line : end ≡ EmptyLine → (line : List ℕ) × IsFirstLine held line × (is_password takes_empty line ≡ false)
   -- there is no line, or it is too long
   pub no_line : end ≡ NoLine → held ≡ []
   pub long_line : end ≡ LongLine → HasLongLine held
   -- a write failed: what was written is the beginning of the text and the line feed
   pub write_fault : end ≡ WriteFault
-      → (line : List ℕ) × (text : List ℕ) × IsFirstLine held taken line × (is_password takes_empty line ≡ true)
+      → (line : List ℕ) × (text : List ℕ) × IsFirstLine held line × (is_password takes_empty line ≡ true)
       × (made c line salt ≡ Ok text) × IsPrefix added (text ++ 10 ∷ [])
   -- otherwise nothing is written
   pub nothing : (end ≡ Made) ⊎ (end ≡ WriteFault) ⊎ (added ≡ [])

@@ -6,7 +6,7 @@ ghost use Rattle.pieces.specs.FaultCounts.{HasRisen};
 ghost use Rattle.any_make.specs.Line.{MakeOutcome, WritesText, is_password};
 
 use crate::{MakeCost, MakeFault, TEXT_MAX, made_text};
-use line_io::{Failed, INPUT_MAX, Line, LineBuffer, Sink, Source, write_all};
+use line_io::{Failed, Line, LineBuffer, Sink, Source, write_all};
 use pieces::short_bytes::ShortBytes;
 use std::alloc::Global;
 
@@ -31,6 +31,9 @@ pub enum MakeEnd {
 
 // Room for a text and a line feed.
 const LINE_ROOM: usize = 155;
+
+// The bytes of a source that count: those of the longest line and its line feed.
+const READ_MAX: u64 = 8_193;
 
 // A text with a line feed behind it.
 fn with_feed(text: &ShortBytes<TEXT_MAX>) -> ShortBytes<LINE_ROOM>
@@ -74,8 +77,8 @@ fn write_text<K: Sink>(
 
 /// Reads the first line of a source, a password, and writes its text for a cost and a salt, and a line feed.
 ///
-/// The line ends with a line feed, which is no part of it, or with the source; no other line is read, though at most 16,384
-/// bytes behind the first may be taken from the source. The salt has
+/// The line ends with a line feed, which is no part of it, or with the source. No other line is read, though bytes after the
+/// first may be taken from the source: at most 8,194 are taken in all, however long the first line is. The salt has
 /// [`MakeCost::salt_length`] bytes. A line without a byte is a password where `takes_empty` says so. Nothing is written before
 /// the text is made.
 pub fn run_make<S: Source, K: Sink>(
@@ -91,11 +94,11 @@ pub fn run_make<S: Source, K: Sink>(
     ensures outcome { WhereTold (S.left source.old) (S.left source.new) (K.written sink.old) (K.written sink.new)
         (λ held taken added. MakeOutcome cost salt.now takes_empty result held taken added) }
 {
-    let mut lines = LineBuffer::new(INPUT_MAX);
+    let mut lines = LineBuffer::new(READ_MAX);
     match lines.next_line(source) {
         Line::Whole(_) => write_text(alloc, cost, takes_empty, lines.line(), salt, sink),
         Line::TooLong => MakeEnd::LongLine,
-        // More bytes than may be read, and no line feed among them.
+        // More bytes than the longest line and its line feed have, and no line feed among these.
         Line::Budget => MakeEnd::LongLine,
         Line::End => MakeEnd::NoLine,
         Line::Failed => MakeEnd::ReadFault,

@@ -6,7 +6,7 @@ use any_make::{
     Argon2Cost, MakeCost, MakeEnd, MakeFault, NameFault, Pbkdf2Hash, Scheme, TEXT_MAX, made_text,
     make_text, recommended, run_make, scheme_named,
 };
-use line_io::{MemorySink, MemorySource};
+use line_io::{MemorySink, MemorySource, Source};
 use scheme_list::SCHEMES;
 use sha_crypt::Family;
 use std::alloc::Global;
@@ -578,6 +578,74 @@ fn first_lines(rt: HostRuntime) {
             let got = run_make(rt.alloc(), cost, salt, takes_empty, &mut source, &mut sink);
             assert!(rt; got == end, "{chunk}: {got:?}, and not {end:?}");
             assert!(rt; sink.bytes() == output, "{chunk}: {end:?}");
+        }
+    }
+}
+
+// How many bytes a source still gives.
+fn count_left(source: &mut MemorySource<'_>) -> usize {
+    let mut buffer = [0; 1_000];
+    let mut left: usize = 0;
+    for _ in 0..100_000 {
+        match source.read(&mut buffer) {
+            Ok(0) | Err(_) => return left,
+            Ok(count) => left = left.saturating_add(count),
+        }
+    }
+    left
+}
+
+// Few bytes of a source are taken, however long its first line is. What it gives at a read, the place of its first line feed, how
+// many bytes of it are taken, and the end.
+#[test]
+fn what_is_taken(rt: HostRuntime) {
+    let is_refused = MakeEnd::Refused(MakeFault::PasswordTooLong);
+    for (step, feed, taken, end) in [
+        (1, 6, 7, MakeEnd::Made),
+        (5, 6, 10, MakeEnd::Made),
+        (20_000, 6, 8_194, MakeEnd::Made),
+        (1, 8_192, 8_193, is_refused),
+        (20_000, 8_192, 8_194, is_refused),
+        (1, 8_193, 8_194, MakeEnd::LongLine),
+        (20_000, 8_193, 8_194, MakeEnd::LongLine),
+        (5, 19_999, 8_194, MakeEnd::LongLine),
+        (20_000, 19_999, 8_194, MakeEnd::LongLine),
+    ] {
+        let mut bytes = [b'a'; 20_000];
+        if let Some(b) = bytes.get_mut(feed) {
+            *b = b'\n';
+        }
+        let mut room = [0; 100];
+        let mut source = MemorySource::new(&bytes, step.max(1), &[]);
+        let mut sink = MemorySink::new(&mut room, 100, &[]);
+        let cost = MakeCost::Bcrypt(4);
+        let got = run_make(rt.alloc(), cost, FIRST_SALT, false, &mut source, &mut sink);
+        assert!(rt; got == end, "{step}, {feed}: {got:?}");
+        let left = count_left(&mut source);
+        assert!(rt;
+            left.saturating_add(taken) == 20_000,
+            "{step}, {feed}: {left}"
+        );
+    }
+}
+
+// A line that the source ends has as many bytes at most as one that a line feed ends.
+#[test]
+fn last_lines(rt: HostRuntime) {
+    let is_refused = MakeEnd::Refused(MakeFault::PasswordTooLong);
+    let bytes = [b'a'; 8_194];
+    for (length, end) in [
+        (8_192, is_refused),
+        (8_193, MakeEnd::LongLine),
+        (8_194, MakeEnd::LongLine),
+    ] {
+        for step in [1, 10_000] {
+            let mut room = [0; 100];
+            let mut source = MemorySource::new(read_front(&bytes, length), step, &[]);
+            let mut sink = MemorySink::new(&mut room, 100, &[]);
+            let cost = MakeCost::Bcrypt(4);
+            let got = run_make(rt.alloc(), cost, FIRST_SALT, false, &mut source, &mut sink);
+            assert!(rt; got == end, "{step}, {length}: {got:?}");
         }
     }
 }

@@ -12,17 +12,16 @@ use Rattle.base64ct.proofs.GoodBlocks.{below-append}
 use Rattle.base64ct.proofs.Padding.{encoding-is, length-encoding}
 use Rattle.hex.specs.Hex.{encode_with, lower_digits}
 use Rattle.hex.proofs.HexLemmas.{length-encode_with}
-use Rattle.hmac_plain.specs.Hmac.{hmac, hmac_sha256}
-use Rattle.hmac_plain.specs.Lengths.{length-hmac_sha256}
+use Rattle.hmac_plain.specs.Hmac.{hmac, hmac_sha256, hmac_sha384}
+use Rattle.hmac_plain.specs.Lengths.{length-hmac_sha256, length-hmac_sha384}
 use Rattle.pieces.proofs.NumberBytes.{high_first}
 use Rattle.sha2.specs.Sha256 as of_256
 use Rattle.sha2.specs.Sha256.{sha256}
 use Rattle.sha2.specs.Sha512 as of_512
 use Rattle.sha2.specs.Sha512.{sha384}
 use Rattle.sha2.proofs.Facts256.{length-sha256}
-use Rattle.sha2.proofs.Facts512.{length-sha384}
 use Rattle.bcrypt_plain.specs.Check.{has_zero}
-use Rattle.bcrypt_digest.specs.Front.{front_text, hmac_sha384, trimmed}
+use Rattle.bcrypt_digest.specs.Front.{front_text, trimmed}
 use Rattle.bcrypt_digest.specs.Laws.{AllBytesCount}
 use Rattle.bcrypt_digest.specs.declared.front.Front.TheVariants.{Hex, Plain, Salted, WordPress}
 
@@ -60,10 +59,6 @@ hmac_256_below key m = sha256_below _
 hmac_384_below : (key m : List ℕ) → EachBelow 256 (hmac_sha384 key m)
 unfolding hmac
 hmac_384_below key m = sha384_below _
-
-hmac_384_long : (key m : List ℕ) → length (hmac_sha384 key m) ≡ 48
-unfolding hmac
-hmac_384_long key m = length-sha384 _
 
 -- ---- no zero byte
 
@@ -137,4 +132,4 @@ all_bytes_count Salted salt password =
     base64_all (hmac_sha256 salt password) (hmac_256_below salt password) (omega (arith, length-hmac_sha256 salt password))
 all_bytes_count WordPress salt password =
     base64_all (hmac_sha384 (codes "wp-sha384") (trimmed password)) (hmac_384_below _ (trimmed password))
-    (omega (arith, hmac_384_long (codes "wp-sha384") (trimmed password)))
+    (omega (arith, length-hmac_sha384 (codes "wp-sha384") (trimmed password)))

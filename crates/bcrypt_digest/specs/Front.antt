@@ -4,15 +4,10 @@ use Rattle.std.specs.Prelude.{ℕ, ◌||◌, ◌==◌, Bool, List, [], ◌∷◌
 use Rattle.base64ct.specs.Alphabets.{base64}
 use Rattle.base64ct.specs.Encoding.{encoding}
 use Rattle.hex.specs.Hex.{encode_lower}
-use Rattle.hmac_plain.specs.Hmac.{hmac, hmac_sha256}
+use Rattle.hmac_plain.specs.Hmac.{hmac_sha256, hmac_sha384}
 use Rattle.sha2.specs.Sha256.{sha256}
-use Rattle.sha2.specs.Sha512.{sha384}
 use Rattle.bcrypt_digest.specs.declared.front.Front.{Front}
 use Rattle.bcrypt_digest.specs.declared.front.Front.TheVariants.{Hex, Plain, Salted, WordPress}
-
--- HMAC-SHA-384 of a message under a key, whose block has 128 bytes
-abbrev pub hmac_sha384 : List ℕ → List ℕ → List ℕ
-hmac_sha384 key text = hmac sha384 128 key text
 
 -- a blank, a tab, a line feed, a carriage return, a zero byte or a vertical tab: the characters of PHP's trim
 abbrev pub is_trimmed : ℕ → Bool

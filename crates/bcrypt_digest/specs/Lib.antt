@@ -1,4 +1,3 @@
-pub mod Fits
 pub mod Front
 pub mod Text
 pub mod Views

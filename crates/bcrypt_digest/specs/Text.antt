@@ -4,7 +4,7 @@ use Rattle.std.specs.Prelude.{ℕ, ◌+◌, ◌-◌, ◌*◌, ◌/◌, ◌%◌, 
 use Rattle.std.specs.Prelude.{Option, Some, None, Result, Ok, Err, if◌then◌else◌, codes}
 use Rattle.pieces.specs.Characters.{dollar}
 use Rattle.pieces.specs.Lists.{is_empty}
-use Rattle.pieces.specs.Pieces.{begins, behind, pieces_at}
+use Rattle.pieces.specs.Pieces.{begins, behind, or_behind, pieces_at}
 use Rattle.bcrypt_plain.specs.Made.{two_digits}
 use Rattle.bcrypt_plain.specs.Text.{is_cost, is_digit}
 use Rattle.bcrypt_plain.specs.declared.error.BcryptFault.{BcryptFault}
@@ -12,11 +12,6 @@ use Rattle.bcrypt_plain.specs.declared.error.BcryptFault.TheVariants.{Cost, Leng
 use Rattle.bcrypt_digest.specs.declared.front.Front.{Front}
 use Rattle.bcrypt_digest.specs.declared.front.Front.TheVariants.{Hex, Plain, Salted, WordPress}
 use Rattle.bcrypt_digest.specs.declared.text.DigestParts.{DigestParts}
-
--- what is read after a front, where the text begins with it; else the other
-abbrev pub or_behind : {A : Type 0} → (List ℕ → A) → Option (List ℕ) → A → A
-or_behind read None other = other
-or_behind read (Some rest) other = read rest
 
 -- a text of bcrypt that is there as it is: it has 60 bytes
 abbrev pub beneath : Front → List ℕ → Result DigestParts BcryptFault

@@ -59,6 +59,7 @@ pub fn digest_cost(stored: &str) -> Result<u32, BcryptFault>
 /// texts `NoHash`, `Trailing`, and `Cost` for a cost that is no decimal of 4 to 31; `Length` for salt and hash of another
 /// length, or for a text of bcrypt that doesn't have 60 bytes; then the first fault of the text of bcrypt beneath. `ZeroByte` never
 /// comes: a digest as text has no zero byte. And else `HashMismatch` for another password.
+#[inline(never)]
 #[tactic(auto, unfolding(crate::specs::Check::digest_answer))]
 pub fn digest_check(password: &str, stored: &str) -> Result<(), BcryptError>
     ensures answer { result ≡ digest_answer password.now stored.now }

@@ -7,10 +7,9 @@ ghost use Rattle.hex.specs.Hex.{encode_lower};
 ghost use Rattle.sha2.specs.Sha256.{sha256};
 ghost use Rattle.bcrypt_digest.specs.Front.{front_text, is_trimmed, trimmed, without_front};
 
-use crate::keyed::hmac_sha384;
 use base64ct::{Base64, Encoding};
 use hex::encode_to_slice;
-use hmac_plain::hmac_sha256;
+use hmac_plain::{hmac_sha256, hmac_sha384};
 use pieces::short_bytes::ShortBytes;
 use sha2::{Digest, Sha256};
 

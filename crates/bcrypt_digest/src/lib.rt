@@ -18,7 +18,6 @@
 
 mod check;
 mod front;
-mod keyed;
 pub mod laws;
 mod text;
 

@@ -9,8 +9,8 @@ use Rattle.base64ct.specs.Encoding.{Alphabet}
 use Rattle.phc.specs.Parts.{output_of_bytes, salt_of_bytes}
 use Rattle.phc.specs.Record.{record_text}
 use Rattle.phc.specs.declared.error.Error as phc_error
-use Rattle.pieces.specs.Pieces.{pieces_at}
-use Rattle.foreign_text.specs.Answers.{Answer, or_behind, stored_or_unread}
+use Rattle.pieces.specs.Pieces.{or_behind, pieces_at}
+use Rattle.foreign_text.specs.Answers.{Answer, stored_or_unread}
 use Rattle.foreign_text.specs.Encoded.{either_fields, either_pbkdf2, encoded_fields, encoded_pbkdf2}
 use Rattle.foreign_text.specs.Fields.{Five, Three, field_bytes, in_five, in_three, pbkdf2_cost, three_of}
 use Rattle.foreign_text.specs.Names.{begins}

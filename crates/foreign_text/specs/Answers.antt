@@ -9,11 +9,6 @@ use Rattle.foreign_text.specs.declared.fault.Unread.TheVariants.{Other}
 abbrev pub Answer : Type 0
 Answer = Result (List ℕ) ForeignFault
 
--- what is read after a front, where the text begins with it; else the other
-abbrev pub or_behind : {A : Type 0} → (List ℕ → A) → Option (List ℕ) → A → A
-or_behind read None other = other
-or_behind read (Some rest) other = read rest
-
 -- a stored text that is there as it is: it has to begin with this
 abbrev pub as_it_is : List ℕ → List ℕ → Answer
 as_it_is sign rest = if begins rest sign then Ok rest else Err Form

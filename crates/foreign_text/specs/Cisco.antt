@@ -4,8 +4,8 @@ use Rattle.std.specs.Char.{is_ascii_alphanumeric}
 use Rattle.std.specs.List.{list_all}
 use Rattle.base64ct.specs.Alphabets.{base64_crypt}
 use Rattle.pieces.specs.Characters.{dollar}
-use Rattle.pieces.specs.Pieces.{behind, pieces_at}
-use Rattle.foreign_text.specs.Answers.{Answer, or_behind, stored_or_unread}
+use Rattle.pieces.specs.Pieces.{behind, or_behind, pieces_at}
+use Rattle.foreign_text.specs.Answers.{Answer, stored_or_unread}
 use Rattle.foreign_text.specs.Fields.{field_bytes}
 use Rattle.foreign_text.specs.Records.{with_kdf}
 use Rattle.foreign_text.specs.declared.fault.ForeignFault.TheVariants.{Form}

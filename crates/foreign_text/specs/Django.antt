@@ -2,8 +2,8 @@
 use Rattle.std.specs.Prelude.{ℕ, ◌==◌, ◌&&◌, List, ◌++◌, length, Some, Ok, Err, if◌then◌else◌, codes}
 use Rattle.base64ct.specs.Alphabets.{base64}
 use Rattle.pieces.specs.Characters.{dollar}
-use Rattle.pieces.specs.Pieces.{behind, pieces_at}
-use Rattle.foreign_text.specs.Answers.{Answer, as_it_is, or_behind}
+use Rattle.pieces.specs.Pieces.{behind, or_behind, pieces_at}
+use Rattle.foreign_text.specs.Answers.{Answer, as_it_is}
 use Rattle.foreign_text.specs.Fields.{field_bytes, five_of, in_five, in_three, pbkdf2_cost, scrypt_cost, three_of}
 use Rattle.foreign_text.specs.Names.{begins, django_unread}
 use Rattle.foreign_text.specs.Records.{with_kdf}

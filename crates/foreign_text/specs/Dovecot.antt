@@ -1,6 +1,7 @@
 -- Dovecot's texts: a scheme in braces, and what it makes (Dovecot 2.3, `doveadm pw`).
 use Rattle.std.specs.Prelude.{ℕ, ◌||◌, List, Err, if◌then◌else◌, codes}
-use Rattle.foreign_text.specs.Answers.{Answer, as_it_is, or_behind}
+use Rattle.pieces.specs.Pieces.{or_behind}
+use Rattle.foreign_text.specs.Answers.{Answer, as_it_is}
 use Rattle.foreign_text.specs.Ldap.{ldap_crypt}
 use Rattle.foreign_text.specs.Names.{behind_tag, is_tagged, ldap_unread}
 use Rattle.foreign_text.specs.declared.fault.ForeignFault.TheVariants.{Unread}

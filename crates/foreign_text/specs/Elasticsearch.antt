@@ -1,8 +1,8 @@
 -- Elasticsearch's texts (`xpack.security.authc.password_hashing.algorithm`, by their published form).
 use Rattle.std.specs.Prelude.{ℕ, List, Err, codes}
 use Rattle.base64ct.specs.Alphabets.{base64}
-use Rattle.pieces.specs.Pieces.{behind}
-use Rattle.foreign_text.specs.Answers.{Answer, or_behind}
+use Rattle.pieces.specs.Pieces.{behind, or_behind}
+use Rattle.foreign_text.specs.Answers.{Answer}
 use Rattle.foreign_text.specs.Encoded.{encoded_pbkdf2}
 use Rattle.foreign_text.specs.Names.{ldap_unread}
 use Rattle.foreign_text.specs.declared.fault.ForeignFault.TheVariants.{Unread}

@@ -1,7 +1,7 @@
 -- GRUB's texts (grub-mkpasswd-pbkdf2 2.06).
 use Rattle.std.specs.Prelude.{ℕ, List, Err, codes}
-use Rattle.pieces.specs.Pieces.{behind, pieces_at}
-use Rattle.foreign_text.specs.Answers.{Answer, or_behind}
+use Rattle.pieces.specs.Pieces.{behind, or_behind, pieces_at}
+use Rattle.foreign_text.specs.Answers.{Answer}
 use Rattle.foreign_text.specs.Characters.{full_stop}
 use Rattle.foreign_text.specs.Fields.{in_three, pbkdf2_cost, plain_hex, three_of}
 use Rattle.foreign_text.specs.Records.{with_kdf}

@@ -1,7 +1,8 @@
 -- Texts of LDAP's `userPassword`: a tag, and what the module of that name writes.
 use Rattle.std.specs.Prelude.{ℕ, Bool, ◌||◌, ◌==◌, List, length, nat_lt, Ok, Err, if◌then◌else◌, codes}
 use Rattle.std.specs.List.{list_any}
-use Rattle.foreign_text.specs.Answers.{Answer, as_it_is, or_behind}
+use Rattle.pieces.specs.Pieces.{or_behind}
+use Rattle.foreign_text.specs.Answers.{Answer, as_it_is}
 use Rattle.foreign_text.specs.Characters.{colon}
 use Rattle.foreign_text.specs.Encoded.{either_pbkdf2}
 use Rattle.foreign_text.specs.Names.{begins, behind_tag, ldap_unread}

@@ -3,8 +3,8 @@ use Rattle.std.specs.Prelude.{ℕ, Bool, true, false, ◌||◌, ◌==◌, List, 
 use Rattle.std.specs.Prelude.{if◌then◌else◌, codes}
 use Rattle.std.specs.Cmp.Lexicographic.{pointwise}
 use Rattle.base64ct.specs.Alphabets.{base64}
-use Rattle.pieces.specs.Pieces.{behind, pieces_at}
-use Rattle.foreign_text.specs.Answers.{Answer, or_behind}
+use Rattle.pieces.specs.Pieces.{behind, or_behind, pieces_at}
+use Rattle.foreign_text.specs.Answers.{Answer}
 use Rattle.foreign_text.specs.Characters.{colon}
 use Rattle.foreign_text.specs.Fields.{field_bytes, five_of, in_five, number_of, pbkdf2_cost}
 use Rattle.foreign_text.specs.Names.{begins}

@@ -1,8 +1,8 @@
 -- Mosquitto's texts (mosquitto_passwd 2.0).
 use Rattle.std.specs.Prelude.{ℕ, List, Err, if◌then◌else◌, codes}
 use Rattle.base64ct.specs.Alphabets.{base64}
-use Rattle.pieces.specs.Pieces.{behind}
-use Rattle.foreign_text.specs.Answers.{Answer, or_behind, stored_or_unread}
+use Rattle.pieces.specs.Pieces.{behind, or_behind}
+use Rattle.foreign_text.specs.Answers.{Answer, stored_or_unread}
 use Rattle.foreign_text.specs.Encoded.{encoded_pbkdf2}
 use Rattle.foreign_text.specs.Names.{begins}
 use Rattle.foreign_text.specs.declared.fault.ForeignFault.TheVariants.{Unread}

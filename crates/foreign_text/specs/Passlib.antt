@@ -2,8 +2,8 @@
 use Rattle.std.specs.Prelude.{ℕ, Bool, false, List, [], ◌∷◌, Option, Some, None, Ok, Err, if◌then◌else◌, codes}
 use Rattle.std.specs.Char.{is_ascii_digit}
 use Rattle.base64ct.specs.Alphabets.{base64_pbkdf2}
-use Rattle.pieces.specs.Pieces.{behind}
-use Rattle.foreign_text.specs.Answers.{Answer, or_behind}
+use Rattle.pieces.specs.Pieces.{behind, or_behind}
+use Rattle.foreign_text.specs.Answers.{Answer}
 use Rattle.foreign_text.specs.Encoded.{encoded_pbkdf2}
 use Rattle.foreign_text.specs.Names.{passlib_unread}
 use Rattle.foreign_text.specs.declared.fault.ForeignFault.TheVariants.{Unread}

@@ -3,8 +3,8 @@ use Rattle.std.specs.Prelude.{ℕ, ◌||◌, ◌==◌, List, [], ◌∷◌, ◌+
 use Rattle.std.specs.Prelude.{if◌then◌else◌, codes}
 use Rattle.base64ct.specs.Alphabets.{base64}
 use Rattle.pieces.specs.Characters.{dollar}
-use Rattle.pieces.specs.Pieces.{behind, pieces_at}
-use Rattle.foreign_text.specs.Answers.{Answer, as_it_is, or_behind}
+use Rattle.pieces.specs.Pieces.{behind, or_behind, pieces_at}
+use Rattle.foreign_text.specs.Answers.{Answer, as_it_is}
 use Rattle.foreign_text.specs.Fields.{field_bytes, in_three, small_hex, three_of}
 use Rattle.foreign_text.specs.Names.{begins, behind_tag}
 use Rattle.foreign_text.specs.Records.{with_kdf}

@@ -1,8 +1,8 @@
 -- Werkzeug's texts, which Flask's programs store: `METHOD$SALT$KEY` (werkzeug 3.1.8 and 2.2.2, werkzeug.security).
 use Rattle.std.specs.Prelude.{ℕ, ◌||◌, List, [], ◌∷◌, Some, Result, Err, if◌then◌else◌, codes}
 use Rattle.pieces.specs.Characters.{dollar}
-use Rattle.pieces.specs.Pieces.{behind, pieces_at}
-use Rattle.foreign_text.specs.Answers.{Answer, or_behind}
+use Rattle.pieces.specs.Pieces.{behind, or_behind, pieces_at}
+use Rattle.foreign_text.specs.Answers.{Answer}
 use Rattle.foreign_text.specs.Characters.{colon}
 use Rattle.foreign_text.specs.Fields.{in_three, pbkdf2_cost, scrypt_cost, small_hex, three_of}
 use Rattle.foreign_text.specs.Names.{begins}

@@ -1,8 +1,11 @@
--- A digest is no longer than a block, and a block is small: proofs, which stand here as implementations of a trait name them.
+-- A digest is no longer than a block, and a block is small: proofs, which are here since implementations of a trait name them.
 use Rattle.std.proofs.Common.{◌≤◌, arith}
 
 pub fits_32 : 32 ≤ 64
 fits_32 = omega arith
+
+pub fits_48 : 48 ≤ 128
+fits_48 = omega arith
 
 pub fits_64 : 64 ≤ 128
 fits_64 = omega arith

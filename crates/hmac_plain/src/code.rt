@@ -2,11 +2,11 @@
 
 ghost use Rattle.std.specs.Prelude.{◌≡◌, ℕ, ◌-◌, ◌≤◌, ◌++◌, List, [], length, replicate};
 ghost use Rattle.word_lists.specs.Lists.{xor_bytes};
-ghost use Rattle.hmac_plain.specs.Hmac.{block_key, hmac, hmac_sha256, hmac_sha512};
+ghost use Rattle.hmac_plain.specs.Hmac.{block_key, hmac, hmac_sha256, hmac_sha384, hmac_sha512};
 ghost use Rattle.hmac_plain.specs.Held.{HoldsHmac};
 
 use crate::HashFunction;
-use sha2::{Sha256, Sha512};
+use sha2::{Sha256, Sha384, Sha512};
 use std::alloc::AllocError;
 use word_lists::xor_bytes;
 
@@ -66,6 +66,9 @@ pub struct Hmac<const B: usize, const N: usize, H> {
 
 /// HMAC over SHA-256.
 pub type HmacSha256 = Hmac<64, 32, Sha256>;
+
+/// HMAC over SHA-384.
+pub type HmacSha384 = Hmac<128, 48, Sha384>;
 
 /// HMAC over SHA-512.
 pub type HmacSha512 = Hmac<128, 64, Sha512>;
@@ -133,6 +136,15 @@ pub fn hmac_sha256(key: &[u8], message: &[u8]) -> [u8; 32]
     ensures { result ≡ hmac_sha256 key.now message.now }
 {
     let mut state = HmacSha256::new(key);
+    state.update(message);
+    state.finalize()
+}
+
+/// HMAC-SHA-384 of a message under a key, both of any length.
+pub fn hmac_sha384(key: &[u8], message: &[u8]) -> [u8; 48]
+    ensures { result ≡ hmac_sha384 key.now message.now }
+{
+    let mut state = HmacSha384::new(key);
     state.update(message);
     state.finalize()
 }

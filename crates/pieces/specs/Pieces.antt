@@ -35,6 +35,11 @@ lent (Some text) = Some text.now
 abbrev pub behind : List ℕ → List ℕ → Option (List ℕ)
 behind text front = if starts_with nat_eq text front then Some (drop (length front) text) else None
 
+-- what is read after a front, where the text begins with it; else the other
+abbrev pub or_behind : {A : Type 0} → (List ℕ → A) → Option (List ℕ) → A → A
+or_behind read None other = other
+or_behind read (Some rest) other = read rest
+
 -- no byte of the text is c
 abbrev pub LacksByte : ℕ → List ℕ → Type 0
 LacksByte c text = (i : ℕ) → i < length text → slice_index text i ≢ c

@@ -26,6 +26,6 @@ pub use listing::put_reply;
 pub use policy::Policy;
 pub use reply::{LineReply, Word, check_word, error_word, set_word, upgrade_word};
 pub use run::{run_commands, run_file, run_file_limited};
-pub use stored_texts::StoredTexts;
+pub use stored_texts::{StoredTexts, USERS_MAX};
 pub use table::{ROW_LINE_MAX, Replaced, TEXT_MAX, Table, line_of_row};
 pub use user::UserName;

@@ -17,6 +17,9 @@ use stored_check::{McfFault, StoredError, check_stored, mcf_name};
 #[derive(Drop)]
 pub struct StoredTexts;
 
+/// The most users of a table of stored texts.
+pub const USERS_MAX: usize = 4_096;
+
 // An answer of `check_stored`, with want of memory told apart.
 fn told_apart(answer: Result<bool, StoredError>) -> Result<Result<bool, StoredError>, AllocError>
     ensures answer { IfOk result (λ told. told ≡ answer) }
@@ -66,7 +69,7 @@ impl Policy for StoredTexts {
     }
 
     fn users_max() -> usize {
-        4_096
+        USERS_MAX
     }
 
     fn scrypt(kept: &ScryptKept) -> &ScryptKept {

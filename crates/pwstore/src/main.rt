@@ -18,10 +18,17 @@ use clap::error::ErrorKind;
 use line_program::status::{ALL_GOOD, NO_MEMORY, NO_WORDS, WRITE_FAULT};
 use std::process::ExitCode;
 use std::{env, io};
+use store_run::messages::Speaker;
 use store_run::{compact_file, serve_file};
 
 // The name that messages begin with.
 const PROGRAM: &str = "pwstore";
+
+// The program before it knows its file.
+const SPEAKER: Speaker<'static> = Speaker {
+    program: PROGRAM,
+    file: "",
+};
 
 // The words of the command line, or the status.
 fn words(rt: &HostRuntime) -> Result<Vec<String>, u8> {
@@ -67,8 +74,8 @@ fn answer_refused(rt: &HostRuntime, error: &clap::Error) -> u8 {
     match error.kind() {
         ErrorKind::DisplayHelp | ErrorKind::DisplayVersion => match error.print(rt) {
             Ok(()) => ALL_GOOD,
-            Err(_) => {
-                say(rt, "standard output: a write failed");
+            Err(error) => {
+                SPEAKER.say_write(rt, Some(error.kind()));
                 WRITE_FAULT
             }
         },

@@ -15,6 +15,7 @@ use pwtool_forms::fault::{say, say_refused};
 use pwtool_forms::form::{check_form, survey_form};
 use pwtool_forms::make::make_form;
 use pwtool_forms::pair::join_form;
+use pwtool_forms::reports::say_write;
 use pwtool_forms::small_forms::{normalize_form, stream_form};
 use pwtool_forms::status::BAD_WORDS;
 pub use schemes::help_of_check;
@@ -94,8 +95,8 @@ fn answer_refused(rt: &HostRuntime, error: &clap::Error) -> u8 {
     match error.kind() {
         ErrorKind::DisplayHelp | ErrorKind::DisplayVersion => match error.print(rt) {
             Ok(()) => ALL_GOOD,
-            Err(_) => {
-                say(rt, "standard output: a write failed");
+            Err(error) => {
+                say_write(rt, Some(error.kind()));
                 WRITE_FAULT
             }
         },

@@ -17,8 +17,18 @@ it:
   pbkdf2-sha512  --rounds 210000                       OWASP
   sha512-crypt   --rounds 656000                       passlib 1.7.4
   sha256-crypt   --rounds 535000                       passlib 1.7.4
-No text of md5-crypt is made, and none of an empty password without --empty. The kit of this program can't keep a terminal from showing what is
-typed, so it reads none, unless --echo is given. To type a password unseen:
+What the numbers may be:
+  yescrypt       ln at least 2, r 1 to 524287, t at most 1024, 128 r 2^ln at most 2^30
+  argon2id       passes and lanes at least 1, memory (in KiB) at least 8 for each lane and at most
+                 2097152, memory times passes at most 2^24
+  scrypt         ln, r and p at least 1, p at most 1024, r p at most 131072, ln below 16 r,
+                 128 r 2^ln at most 2^28
+  bcrypt         cost 4 to 31
+  pbkdf2-sha256, pbkdf2-sha512   rounds 1 to 10000000
+  sha512-crypt, sha256-crypt     rounds 1000 to 999999999
+No text of md5-crypt is made, and none of an empty password without --empty. The kit of this
+program can't keep a terminal from showing what is typed, so it reads none, unless --echo is given.
+To type a password unseen:
   (trap 'stty echo' EXIT INT; stty -echo; head -n 1) | pwtool make yescrypt
 Status 0: the text is written; 1: no text is made of the line; pwtool --help has the rest.";
 

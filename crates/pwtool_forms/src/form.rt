@@ -62,7 +62,7 @@ pub fn answer<R: Read + Drop, W: Write + Drop>(
     let status = answer_given(rt.alloc(), matches, &mut source, &mut sink);
     let status = told(rt, name, KEY, tally.fault(), status);
     tell_met(rt, matches, name, &source);
-    summarize(rt, reporting, &tally.counts());
+    summarize(rt, reporting, tally.fault(), &tally.counts());
     judging.status(status)
 }
 

@@ -27,14 +27,29 @@ struct Names<'a> {
     passwords: &'a str,
 }
 
+/// What memory a run asked for at the file at which it ended. The users of the passwords are kept in a table, but with `--no-text`,
+/// which takes no key, those of the texts.
+pub fn memory_at(end: JoinEnd, is_no_text: bool) -> &'static str {
+    match (end, is_no_text) {
+        (JoinEnd::Passwords(_), false) | (JoinEnd::Texts(_), true) => "the table of users",
+        (JoinEnd::Texts(_), false) => "the key of a line",
+        (JoinEnd::Passwords(_), true) => "a line",
+    }
+}
+
 impl Names<'_> {
     // Says at which file a run ended early, if it did, and gives the status.
-    fn told(&self, rt: &HostRuntime, fault: Option<ErrorKind>, end: JoinEnd) -> u8 {
+    fn told(
+        &self,
+        rt: &HostRuntime,
+        fault: Option<ErrorKind>,
+        end: JoinEnd,
+        is_no_text: bool,
+    ) -> u8 {
+        let memory = memory_at(end, is_no_text);
         match end {
-            JoinEnd::Passwords(status) => {
-                told(rt, self.passwords, "the table of users", fault, status)
-            }
-            JoinEnd::Texts(status) => told(rt, self.texts, "the key of a line", fault, status),
+            JoinEnd::Passwords(status) => told(rt, self.passwords, memory, fault, status),
+            JoinEnd::Texts(status) => told(rt, self.texts, memory, fault, status),
         }
     }
 }
@@ -94,15 +109,16 @@ fn join<P: Read + Drop, T: Read + Drop>(
     let texts = watched(rt, reporting, names.texts, sizes.texts, texts);
     let mut texts = brought_texts(matches, texts);
     let mut sink = StdSink::new(&mut tally);
-    let end = if matches.get_flag("no-text") {
+    let is_no_text = matches.get_flag("no-text");
+    let end = if is_no_text {
         tell_no_text(rt.alloc(), keys, &mut texts, &mut passwords, &mut sink)
     } else {
         join_given(rt, matches, keys, &mut passwords, &mut texts, &mut sink)
     };
-    let status = names.told(rt, tally.fault(), end);
+    let status = names.told(rt, tally.fault(), end, is_no_text);
     tell_met_of_texts(rt, matches, names.texts, &texts);
     tell_met(rt, matches, names.passwords, &passwords);
-    summarize(rt, reporting, &tally.counts());
+    summarize(rt, reporting, tally.fault(), &tally.counts());
     judging.status(status)
 }
 
@@ -154,12 +170,12 @@ fn join_small(
         ),
     };
     let status = match end {
-        Ok(end) => names.told(rt, tally.fault(), end),
+        Ok(end) => names.told(rt, tally.fault(), end, false),
         Err(status) => told(rt, names.texts, "the table of users", tally.fault(), status),
     };
     tell_met_of_texts(rt, matches, names.texts, &users);
     tell_met(rt, matches, names.passwords, &passwords);
-    summarize(rt, reporting, &tally.counts());
+    summarize(rt, reporting, tally.fault(), &tally.counts());
     judging.status(status)
 }
 

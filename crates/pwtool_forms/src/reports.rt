@@ -57,9 +57,14 @@ pub fn size_of(file: &File) -> Option<u64> {
     }
 }
 
-/// Says how many lines were answered, and how.
-pub fn summarize(rt: &HostRuntime, reporting: Reporting, counts: &Counts) {
-    if reporting.has_summary {
+/// Says how many lines were answered, and how. Where the reader of a pipe has gone, which `fault` tells, nothing is said.
+pub fn summarize(
+    rt: &impl Eprint,
+    reporting: Reporting,
+    fault: Option<ErrorKind>,
+    counts: &Counts,
+) {
+    if reporting.has_summary && fault != Some(ErrorKind::BrokenPipe) {
         let lines = counts.lines();
         let (matches, mismatches, others) = (counts.matches, counts.mismatches, counts.others);
         let _ = eprintln!(rt;
@@ -69,7 +74,7 @@ pub fn summarize(rt: &HostRuntime, reporting: Reporting, counts: &Counts) {
 }
 
 /// Says why a write to standard output failed. Where the reader of a pipe has gone, nobody waits for the rest, so nothing is said.
-pub(crate) fn say_write(rt: &impl Eprint, fault: Option<ErrorKind>) {
+pub fn say_write(rt: &impl Eprint, fault: Option<ErrorKind>) {
     match fault {
         Some(ErrorKind::BrokenPipe) => {}
         Some(kind) => {

@@ -5,11 +5,14 @@ use any_check::{Costs, NO_COSTS, SchemeCosts};
 use any_make::{MakeCost, MakeEnd, MakeFault, recommended, scheme_named};
 use pwtool_cli::{command, table_form};
 use pwtool_forms::bounds::{bound_of, least_of};
+use pwtool_forms::fault::more_of;
 use pwtool_forms::form::{answer, survey, survey_of};
 use pwtool_forms::good::{good_of_check, good_of_join, good_of_survey};
 use pwtool_forms::make::{cost_of, told};
+use pwtool_forms::pair::memory_at;
 use pwtool_forms::reports;
 use pwtool_forms::tally::{Counts, Tally};
+use shadow_check::JoinEnd;
 use shadow_survey::LeastCosts;
 use std::cell::Cell;
 use std::fmt::Display;
@@ -417,6 +420,105 @@ fn a_pipe_without_a_reader_is_left_quietly(rt: HostRuntime) {
     assert!(rt; reports::told(&ear, "-", "a key", gone, 4) == 4);
     assert!(rt; told(&ear, gone, MakeEnd::WriteFault) == 4);
     assert!(rt; ear.lines.get() == 0);
+}
+
+// Why the last write failed, and how many lines are said of what was answered: none where the reader of a pipe has gone.
+const SUMMARIES: [(Option<ErrorKind>, usize); 3] = [
+    (None, 1),
+    (Some(ErrorKind::StorageFull), 1),
+    (Some(ErrorKind::BrokenPipe), 0),
+];
+
+#[test]
+fn what_was_answered_is_said(rt: HostRuntime) -> Result<(), Fail> {
+    for (words, is_said) in [
+        (["pwtool", "check", "-"], true),
+        (["pwtool", "check", "--quiet"], false),
+    ] {
+        let Ok(matches) = command(rt.alloc(), "")?.try_get_matches_from(&words) else {
+            panic!(rt; "the words are of a form")
+        };
+        let Some((_, matches)) = matches.subcommand() else {
+            panic!(rt; "a form is named")
+        };
+        let reporting = reports::reporting_of(&rt, matches);
+        for (fault, lines) in SUMMARIES {
+            let ear = Ear {
+                lines: Cell::new(0),
+            };
+            reports::summarize(&ear, reporting, fault, &Counts::none());
+            let lines = if is_said { lines } else { 0 };
+            assert!(rt; ear.lines.get() == lines, "{words:?} {fault:?}");
+        }
+    }
+    Ok(())
+}
+
+// Where a run of `join` ended, whether it has --no-text, and what wanted memory there.
+const ENDS_OF_JOIN: [(JoinEnd, bool, &str); 4] = [
+    (JoinEnd::Passwords(5), false, "the table of users"),
+    (JoinEnd::Texts(5), false, "the key of a line"),
+    (JoinEnd::Passwords(5), true, "a line"),
+    (JoinEnd::Texts(5), true, "the table of users"),
+];
+
+#[test]
+fn what_wanted_memory(rt: HostRuntime) {
+    for (end, is_no_text, memory) in ENDS_OF_JOIN {
+        assert!(rt;
+            memory_at(end, is_no_text) == memory,
+            "{end:?} {is_no_text}"
+        );
+    }
+}
+
+// Words of no form, and what is said beside the first line of the parser's text; none where that leads to the help.
+const REFUSALS: [(&[&str], Option<&str>); 5] = [
+    (&["pwtool"], None),
+    (&["pwtool", "make"], Some("<SCHEME>")),
+    (&["pwtool", "join", "a"], Some("<PASSWORDS>")),
+    (&["pwtool", "check", "a", "b"], None),
+    (
+        &["pwtool", "chek"],
+        Some("a similar subcommand exists: 'check'"),
+    ),
+];
+
+#[test]
+fn what_more_is_said_of_a_refusal(rt: HostRuntime) -> Result<(), Fail> {
+    for (words, more) in REFUSALS {
+        let Err(error) = command(rt.alloc(), "")?.try_get_matches_from(words) else {
+            panic!(rt; "the words are of no form")
+        };
+        let text = format!(in rt.alloc(); "{error}")?;
+        assert!(rt; more_of(text.as_str()) == more, "{words:?}: {text}");
+    }
+    Ok(())
+}
+
+// What the help of `make` says of the numbers of each scheme, as the messages of a refusal do.
+const RULES: [&str; 8] = [
+    "ln at least 2, r 1 to 524287, t at most 1024, 128 r 2^ln at most 2^30",
+    "passes and lanes at least 1, memory (in KiB) at least 8 for each lane",
+    "memory times passes at most 2^24",
+    "ln, r and p at least 1, p at most 1024, r p at most 131072, ln below 16 r",
+    "128 r 2^ln at most 2^28",
+    "cost 4 to 31",
+    "rounds 1 to 10000000",
+    "rounds 1000 to 999999999",
+];
+
+#[test]
+fn rules_in_the_help_of_make(rt: HostRuntime) -> Result<(), Fail> {
+    let words = ["pwtool", "make", "--help"];
+    let Err(error) = command(rt.alloc(), "")?.try_get_matches_from(&words) else {
+        panic!(rt; "a help is asked for")
+    };
+    let help = format!(in rt.alloc(); "{error}")?;
+    for rule in RULES {
+        assert!(rt; help.as_str().contains(rule), "{rule}");
+    }
+    Ok(())
 }
 
 #[test]

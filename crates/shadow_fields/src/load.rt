@@ -1,8 +1,7 @@
 //! A table of passwords from the lines of a source.
 
 ghost use Rattle.std.specs.Prelude.{◌≡◌, ◌≢◌, ◌≤◌, ◌^◌, [], false, true};
-ghost use Rattle.line_io.specs.Devices.{WhereTold};
-ghost use Rattle.pieces.specs.FaultCounts.{HasRisen};
+ghost use Rattle.line_program.specs.Outcome.{RunTold};
 ghost use Rattle.shadow_fields.specs.Loads.{Loaded};
 
 use crate::cut::cut_user;
@@ -56,12 +55,9 @@ pub fn load_passwords<S: Source, K: Sink>(
 ) -> u8
     requires bound { max ≤ 2 ^ 40 }
     requires empty { loading.old.passwords ≡ [] }
-    ensures statuses { (result ≤ 6) × (result ≢ 2) }
-    ensures read_fault { result ≡ 3 → HasRisen (S.faults source.old) (S.faults source.new) }
-    ensures write_fault { result ≡ 4 → HasRisen (K.faults sink.old) (K.faults sink.new) }
-    ensures count { K.faults sink.old ≤ K.faults sink.new }
-    ensures loaded { WhereTold (S.left source.old) (S.left source.new) (K.written sink.old) (K.written sink.new)
+    ensures told { RunTold S.left S.faults source.old source.new K.written K.faults sink.old sink.new result
         (λ held taken added. Loaded loading.new.passwords result max held taken added) }
+    ensures count { K.faults sink.old ≤ K.faults sink.new }
 {
     run_state_lines(loading, source, sink, max)
 }

@@ -1,8 +1,7 @@
 //! A table of the passwords of those users alone who are wanted.
 
 ghost use Rattle.std.specs.Prelude.{◌≡◌, ◌≢◌, ◌≤◌, ◌^◌, [], false, true, OnErr, OnOk, if◌then◌else◌};
-ghost use Rattle.line_io.specs.Devices.{WhereTold};
-ghost use Rattle.pieces.specs.FaultCounts.{HasRisen};
+ghost use Rattle.line_program.specs.Outcome.{RunTold};
 ghost use Rattle.shadow_fields.specs.Passwords.{with_password};
 ghost use Rattle.shadow_fields.specs.Wanted.{LoadedWanted, is_in};
 
@@ -71,12 +70,9 @@ pub fn load_wanted<S: Source, K: Sink>(
 ) -> u8
     requires bound { max ≤ 2 ^ 40 }
     requires empty { loading.old.passwords ≡ [] }
-    ensures statuses { (result ≤ 6) × (result ≢ 2) }
-    ensures read_fault { result ≡ 3 → HasRisen (S.faults source.old) (S.faults source.new) }
-    ensures write_fault { result ≡ 4 → HasRisen (K.faults sink.old) (K.faults sink.new) }
-    ensures count { K.faults sink.old ≤ K.faults sink.new }
-    ensures loaded { WhereTold (S.left source.old) (S.left source.new) (K.written sink.old) (K.written sink.new)
+    ensures told { RunTold S.left S.faults source.old source.new K.written K.faults sink.old sink.new result
         (λ held taken added. LoadedWanted (is_in loading.old.users) loading.new.passwords result max held taken added) }
+    ensures count { K.faults sink.old ≤ K.faults sink.new }
 {
     run_state_lines(loading, source, sink, max)
 }

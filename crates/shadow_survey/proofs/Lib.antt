@@ -1,5 +1,6 @@
 mod Forms
 mod Judging
+mod PlainTable
 mod Plainness
 mod Putting
 mod Surveying

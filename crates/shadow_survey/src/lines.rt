@@ -1,18 +1,19 @@
 //! The lines of a survey, and how many of each judgement there are.
 
 ghost use Rattle.std.specs.Prelude.{◌≡◌, ◌≢◌, ◌≤◌, ◌<◌, ◌^◌, ◌++◌, ◌∷◌, ◌&&◌, [], List, ℕ, decimal, false, true, length, replicate};
+ghost use Rattle.std.specs.List.{list_all};
 ghost use Rattle.std.specs.Str.{is_utf8};
 ghost use Rattle.line_io.specs.Output.{Puts};
 ghost use Rattle.line_program.specs.Outcome.{EndedOutcome, RunTold};
 ghost use Rattle.shadow_survey.specs.Counting.{counted, kind_of, no_counts};
-ghost use Rattle.shadow_survey.specs.Rows.{front_text, is_good, row_text, surveyed};
+ghost use Rattle.shadow_survey.specs.Rows.{front_text, is_good, is_plain, row_text, surveyed};
 ghost use Rattle.shadow_survey.specs.Rules.{survey_ending, survey_rules};
 
 use crate::cells::Format;
 use crate::counts::Counts;
 use crate::judgement::{Judgement, judged};
 use crate::least::LeastCosts;
-use crate::rows::{is_good, put_counts, put_front, put_row};
+use crate::rows::{are_plain, is_good, put_counts, put_front, put_row};
 use line_io::{OutputBuffer, Sink, Source};
 use line_program::{Ending, Responder, run_ended};
 use pieces::text::text_of;
@@ -27,6 +28,20 @@ pub struct SurveyLines {
     pub counts: Counts,
     /// Whether a line was read, so that what is before the first row is written.
     pub has_begun: bool,
+}
+
+// Whether a text is UTF-8, of which it is known whether each byte is plain.
+fn is_name(text: &[u8], all_plain: bool) -> bool
+    requires plain { all_plain ≡ list_all is_plain text.now }
+    ensures name { result ≡ is_utf8 text.now }
+{
+    if all_plain {
+        return true;
+    }
+    match text_of(text) {
+        Some(_) => true,
+        None => false,
+    }
 }
 
 impl SurveyLines {
@@ -49,33 +64,38 @@ impl SurveyLines {
     fn put_counted<K: Sink>(
         &mut self,
         user: &[u8],
+        all_plain: bool,
         judgement: Judgement,
         out: &mut OutputBuffer,
         sink: &mut K,
     ) -> bool
+        requires plain { all_plain ≡ list_all is_plain user.now }
         ensures row { Puts (K.written sink.old) (K.written sink.new) (K.faults sink.old) (K.faults sink.new) out.old out.new
             (front_text self.old.has_begun self.old.format ++ row_text self.old.format user.now judgement) }
         ensures count { self.new ≡ record self.old { has_begun = true; counts = counted self.old.counts (kind_of judgement) } }
         ensures good { result ≡ is_good judgement }
     {
         put_front(self.has_begun, self.format, out, sink);
-        put_row(self.format, user, &judgement, out, sink);
+        put_row(self.format, user, all_plain, &judgement, out, sink);
         self.has_begun = true;
         self.counts.count(judgement.kind());
         is_good(&judgement)
     }
 
-    // The user of a line, and the judgement on its text.
-    fn surveyed<'a>(&self, line: &'a [u8]) -> (&'a [u8], Judgement)
+    // The user of a line, whether each form shows its bytes as they are, and the judgement on its text.
+    fn surveyed<'a>(&self, line: &'a [u8]) -> (&'a [u8], bool, Judgement)
         ensures user { result.0.now ≡ (surveyed self.now.least line.now).0 }
-        ensures judgement { result.1 ≡ (surveyed self.now.least line.now).1 }
+        ensures plain { result.1 ≡ list_all is_plain result.0.now }
+        ensures judgement { result.2 ≡ (surveyed self.now.least line.now).1 }
     {
-        match cut_user(line) {
-            Some((user, rest)) => match text_of(user) {
-                Some(_) => (user, judged(&self.least, cut_field(rest))),
-                None => (&[], Judgement::BadLine),
-            },
-            None => (&[], Judgement::BadLine),
+        let Some((user, rest)) = cut_user(line) else {
+            return (&[], true, Judgement::BadLine);
+        };
+        let all_plain = are_plain(user);
+        if is_name(user, all_plain) {
+            (user, all_plain, judged(&self.least, cut_field(rest)))
+        } else {
+            (&[], true, Judgement::BadLine)
         }
     }
 }
@@ -91,12 +111,12 @@ impl Responder for SurveyLines {
         out: &mut OutputBuffer,
         sink: &mut K,
     ) -> Result<bool, AllocError> {
-        let (user, judgement) = self.surveyed(line);
-        Ok(self.put_counted(user, judgement, out, sink))
+        let (user, all_plain, judgement) = self.surveyed(line);
+        Ok(self.put_counted(user, all_plain, judgement, out, sink))
     }
 
     fn answer_long<K: Sink>(&mut self, out: &mut OutputBuffer, sink: &mut K) -> bool {
-        self.put_counted(&[], Judgement::TooLong, out, sink)
+        self.put_counted(&[], true, Judgement::TooLong, out, sink)
     }
 }
 

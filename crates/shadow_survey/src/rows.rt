@@ -118,25 +118,55 @@ fn put_shown<K: Sink>(format: Format, text: &[u8], out: &mut OutputBuffer, sink:
     }
 }
 
-// Whether each form shows a byte as it is.
+// Which bytes each form shows as they are.
+const PLAIN: [bool; 256] = [
+    false, false, false, false, false, false, false, false, false, false, false, false, false,
+    false, false, false, false, false, false, false, false, false, false, false, false, false,
+    false, false, false, false, false, false, true, true, false, true, true, true, true, true,
+    true, true, true, true, true, true, true, true, true, true, true, true, true, true, true, true,
+    true, true, true, true, true, true, true, true, true, true, true, true, true, true, true, true,
+    true, true, true, true, true, true, true, true, true, true, true, true, true, true, true, true,
+    true, true, true, true, false, true, true, true, true, true, true, true, true, true, true,
+    true, true, true, true, true, true, true, true, true, true, true, true, true, true, true, true,
+    true, true, true, true, true, true, true, true, false, false, false, false, false, false,
+    false, false, false, false, false, false, false, false, false, false, false, false, false,
+    false, false, false, false, false, false, false, false, false, false, false, false, false,
+    false, false, false, false, false, false, false, false, false, false, false, false, false,
+    false, false, false, false, false, false, false, false, false, false, false, false, false,
+    false, false, false, false, false, false, false, false, false, false, false, false, false,
+    false, false, false, false, false, false, false, false, false, false, false, false, false,
+    false, false, false, false, false, false, false, false, false, false, false, false, false,
+    false, false, false, false, false, false, false, false, false, false, false, false, false,
+    false, false, false, false, false, false, false, false, false, false, false, false, false,
+    false, false, false, false, false, false,
+];
+
 fn is_plain(b: u8) -> bool
     ensures { result ≡ is_plain b }
 {
-    32 <= b && b < 127 && b != b'"' && b != b'\\'
+    PLAIN[b as usize]
 }
 
-fn are_plain(text: &[u8]) -> bool
-    ensures { result ≡ list_all is_plain text.now }
+/// Whether each form shows each byte as it is.
+pub(crate) fn are_plain(text: &[u8]) -> bool
+    ensures plain { result ≡ list_all is_plain text.now }
 {
     text.iter().all(|b| is_plain(*b))
 }
 
 // Puts a text; at once where each byte is shown as it is.
-fn put_text<K: Sink>(format: Format, text: &[u8], out: &mut OutputBuffer, sink: &mut K)
+fn put_text<K: Sink>(
+    format: Format,
+    text: &[u8],
+    all_plain: bool,
+    out: &mut OutputBuffer,
+    sink: &mut K,
+)
+    requires plain { all_plain ≡ list_all is_plain text.now }
     ensures puts { Puts (K.written sink.old) (K.written sink.new) (K.faults sink.old) (K.faults sink.new) out.old out.new
         (shown_text format text.now) }
 {
-    if are_plain(text) {
+    if all_plain {
         out.put(sink, text);
     } else {
         put_shown(format, text, out, sink);
@@ -256,7 +286,14 @@ fn put_cells<K: Sink>(
     out.put(sink, marks.end);
 }
 
-fn put_tabs_row<K: Sink>(user: &[u8], judgement: &Judgement, out: &mut OutputBuffer, sink: &mut K)
+fn put_tabs_row<K: Sink>(
+    user: &[u8],
+    all_plain: bool,
+    judgement: &Judgement,
+    out: &mut OutputBuffer,
+    sink: &mut K,
+)
+    requires plain { all_plain ≡ list_all is_plain user.now }
     ensures puts { Puts (K.written sink.old) (K.written sink.new) (K.faults sink.old) (K.faults sink.new) out.old out.new
         (tabs_row user.now judgement.now) }
 {
@@ -266,11 +303,18 @@ fn put_tabs_row<K: Sink>(user: &[u8], judgement: &Judgement, out: &mut OutputBuf
         cost_end: b"\t",
         end: b"\n",
     };
-    put_text(Format::Tabs, user, out, sink);
+    put_text(Format::Tabs, user, all_plain, out, sink);
     put_cells(Format::Tabs, &marks, judgement, out, sink);
 }
 
-fn put_csv_row<K: Sink>(user: &[u8], judgement: &Judgement, out: &mut OutputBuffer, sink: &mut K)
+fn put_csv_row<K: Sink>(
+    user: &[u8],
+    all_plain: bool,
+    judgement: &Judgement,
+    out: &mut OutputBuffer,
+    sink: &mut K,
+)
+    requires plain { all_plain ≡ list_all is_plain user.now }
     ensures puts { Puts (K.written sink.old) (K.written sink.new) (K.faults sink.old) (K.faults sink.new) out.old out.new
         (csv_row user.now judgement.now) }
 {
@@ -282,7 +326,7 @@ fn put_csv_row<K: Sink>(user: &[u8], judgement: &Judgement, out: &mut OutputBuff
     };
     out.put(sink, b"\"");
     out.put(sink, apostrophe(user));
-    put_text(Format::Csv, user, out, sink);
+    put_text(Format::Csv, user, all_plain, out, sink);
     put_cells(Format::Csv, &marks, judgement, out, sink);
 }
 
@@ -296,7 +340,14 @@ fn weak_end(judgement: &Judgement) -> &'static [u8]
     }
 }
 
-fn put_json_row<K: Sink>(user: &[u8], judgement: &Judgement, out: &mut OutputBuffer, sink: &mut K)
+fn put_json_row<K: Sink>(
+    user: &[u8],
+    all_plain: bool,
+    judgement: &Judgement,
+    out: &mut OutputBuffer,
+    sink: &mut K,
+)
+    requires plain { all_plain ≡ list_all is_plain user.now }
     ensures puts { Puts (K.written sink.old) (K.written sink.new) (K.faults sink.old) (K.faults sink.new) out.old out.new
         (json_row user.now judgement.now) }
 {
@@ -307,25 +358,27 @@ fn put_json_row<K: Sink>(user: &[u8], judgement: &Judgement, out: &mut OutputBuf
         end: weak_end(judgement),
     };
     out.put(sink, b"{\"user\":\"");
-    put_text(Format::Json, user, out, sink);
+    put_text(Format::Json, user, all_plain, out, sink);
     put_cells(Format::Json, &marks, judgement, out, sink);
 }
 
-/// Puts the row of a user.
+/// Puts the row of a user, of whom it is known whether each form shows each byte as it is.
 pub(crate) fn put_row<K: Sink>(
     format: Format,
     user: &[u8],
+    all_plain: bool,
     judgement: &Judgement,
     out: &mut OutputBuffer,
     sink: &mut K,
 )
+    requires plain { all_plain ≡ list_all is_plain user.now }
     ensures puts { Puts (K.written sink.old) (K.written sink.new) (K.faults sink.old) (K.faults sink.new) out.old out.new
         (row_text format user.now judgement.now) }
 {
     match format {
-        Format::Tabs => put_tabs_row(user, judgement, out, sink),
-        Format::Csv => put_csv_row(user, judgement, out, sink),
-        Format::Json => put_json_row(user, judgement, out, sink),
+        Format::Tabs => put_tabs_row(user, all_plain, judgement, out, sink),
+        Format::Csv => put_csv_row(user, all_plain, judgement, out, sink),
+        Format::Json => put_json_row(user, all_plain, judgement, out, sink),
     }
 }
 

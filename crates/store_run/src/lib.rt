@@ -7,6 +7,7 @@
 
 mod help;
 pub mod messages;
+mod noted;
 mod opened;
 pub mod status;
 mod table;

@@ -2,6 +2,7 @@
 
 use file_device::{DeviceFault, FileDevice, OpenFault};
 use line_log::OpenError;
+use std::io::ErrorKind;
 
 /// The program that speaks, and the file that it speaks of, by their names.
 #[derive(Clone, Copy, Debug)]
@@ -27,6 +28,13 @@ impl<'a> Failure<'a> {
     }
 }
 
+/// Why a read of standard input and a write of standard output last failed, where one did.
+#[derive(Clone, Copy, Debug)]
+pub struct StreamFaults {
+    pub input: Option<ErrorKind>,
+    pub output: Option<ErrorKind>,
+}
+
 impl Speaker<'_> {
     /// Says a cause. That it can't be said has no consequence: the status tells.
     pub fn say(&self, rt: &impl Eprint, cause: &str) {
@@ -38,6 +46,30 @@ impl Speaker<'_> {
     pub fn say_at(&self, rt: &impl Eprint, cause: &str) {
         let (program, file) = (self.program, self.file);
         let _ = eprintln!(rt; "{program}: {file}: {cause}");
+    }
+
+    /// Says why a read of standard input failed.
+    pub fn say_read(&self, rt: &impl Eprint, fault: Option<ErrorKind>) {
+        let program = self.program;
+        match fault {
+            Some(kind) => {
+                let _ = eprintln!(rt; "{program}: standard input: {kind}");
+            }
+            None => self.say(rt, "standard input: a read failed"),
+        }
+    }
+
+    /// Says why a write of standard output failed. Where the reader of a pipe has gone, nobody waits for the rest, so nothing is
+    /// said.
+    pub fn say_write(&self, rt: &impl Eprint, fault: Option<ErrorKind>) {
+        let program = self.program;
+        match fault {
+            Some(ErrorKind::BrokenPipe) => {}
+            Some(kind) => {
+                let _ = eprintln!(rt; "{program}: standard output: {kind}");
+            }
+            None => self.say(rt, "standard output: a write failed"),
+        }
     }
 
     /// Says that others can read or write the file, where they can.

@@ -6,7 +6,8 @@ ghost use Rattle.file_device.specs.Calls.{MayLeave, seen};
 ghost use Rattle.pw_store.specs.Stored.{IsSound, takes_changes};
 ghost use Rattle.store_run.specs.Statuses.{IsTableStatus, failed_status, unopened_status, untaken_status};
 
-use crate::messages::{Failure, Speaker};
+use crate::messages::{Failure, Speaker, StreamFaults};
+use crate::noted::Noted;
 use crate::status::{BAD_FILE, IN_USE, NO_FILE, NO_NEW_FILE};
 use crate::table::{Untaken, compact, serve, store_of};
 use file_device::{DeviceFault, FileDevice, OpenFault, Opened, open};
@@ -75,17 +76,19 @@ fn store_in<'a>(
     }
 }
 
-/// Says why a run ended before the end of its input, or that a write of the file failed.
+/// Says why a run ended before the end of its input, or that a write of the file failed. Where the reader of a pipe has gone, only the
+/// file is spoken of.
 pub fn tell(
     rt: &impl Eprint,
     speaker: &Speaker<'_>,
     status: u8,
+    streams: StreamFaults,
     takes: bool,
     failure: Failure<'_>,
 ) {
     match status {
-        READ_FAULT => speaker.say(rt, "standard input: a read failed"),
-        WRITE_FAULT => speaker.say(rt, "standard output: a write failed"),
+        READ_FAULT => speaker.say_read(rt, streams.input),
+        WRITE_FAULT => speaker.say_write(rt, streams.output),
         NO_MEMORY => speaker.say(rt, "out of memory for a line"),
         OVER_MAX => speaker.say(rt, "standard input: it has more than 2^40 bytes"),
         _ => {}
@@ -106,13 +109,20 @@ fn serve_store<'a>(
     ensures statuses { (result ≤ 7) × (result ≢ 2) }
 {
     let mut store = store;
-    let mut source = StdSource::new(rt.reader());
-    let mut sink = StdSink::new(io::writer(rt));
+    let mut reader = Noted::new(rt.reader());
+    let mut writer = Noted::new(io::writer(rt));
+    let mut source = StdSource::new(&mut reader);
+    let mut sink = StdSink::new(&mut writer);
     let status = serve(&mut store, &mut source, &mut sink);
+    let streams = StreamFaults {
+        input: reader.fault(),
+        output: writer.fault(),
+    };
     tell(
         rt,
         speaker,
         status,
+        streams,
         store.takes_changes(),
         Failure::of(store.device()),
     );

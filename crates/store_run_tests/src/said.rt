@@ -5,7 +5,8 @@ use line_log::OpenError;
 use std::cell::Cell;
 use std::fmt::Display;
 use std::io;
-use store_run::messages::{Failure, Speaker};
+use std::io::ErrorKind;
+use store_run::messages::{Failure, Speaker, StreamFaults};
 use store_run::tell;
 
 // What counts the lines that are said.
@@ -98,20 +99,44 @@ fn why_a_call_failed(rt: HostRuntime) {
 
 #[test]
 fn how_a_run_ended(rt: HostRuntime) {
-    // The status, whether the store takes changes at the end, and how many lines are said.
-    for (status, takes, lines) in [
-        (0, true, 0),
-        (1, true, 0),
-        (3, true, 1),
-        (4, true, 1),
-        (5, true, 1),
-        (6, true, 1),
-        (7, false, 1),
+    let full = Some(ErrorKind::StorageFull);
+    // The status, why the last read and the last write failed, whether the store takes changes at the end, and how many lines are said.
+    for (status, fault, takes, lines) in [
+        (0, None, true, 0),
+        (1, None, true, 0),
+        (3, None, true, 1),
+        (3, full, true, 1),
+        (4, None, true, 1),
+        (4, full, true, 1),
+        (4, full, false, 2),
+        (5, None, true, 1),
+        (6, None, true, 1),
+        (7, None, false, 1),
     ] {
         let ear = Ear {
             lines: Cell::new(0),
         };
-        tell(&ear, &SPEAKER, status, takes, UNTOLD);
-        assert!(rt; ear.lines.get() == lines, "{status}");
+        let streams = StreamFaults {
+            input: fault,
+            output: fault,
+        };
+        tell(&ear, &SPEAKER, status, streams, takes, UNTOLD);
+        assert!(rt; ear.lines.get() == lines, "{status} {fault:?}");
+    }
+}
+
+// Where the reader of a pipe has gone, only a fault of the file is said, and a fault of standard input is said whatever its cause.
+#[test]
+fn a_pipe_without_a_reader_is_left_quietly(rt: HostRuntime) {
+    let gone = StreamFaults {
+        input: Some(ErrorKind::BrokenPipe),
+        output: Some(ErrorKind::BrokenPipe),
+    };
+    for (status, takes, lines) in [(4, true, 0), (4, false, 1), (3, true, 1)] {
+        let ear = Ear {
+            lines: Cell::new(0),
+        };
+        tell(&ear, &SPEAKER, status, gone, takes, UNTOLD);
+        assert!(rt; ear.lines.get() == lines, "{status} {takes}");
     }
 }

@@ -1,4 +1,4 @@
-//! One verdict on a password and a stored text, whatever the scheme of the text.
+//! One verdict on a password and a stored text of SHA-crypt or a PHC record; `any_check` has the one for every scheme.
 //!
 //! The schemes are SHA-256-crypt and SHA-512-crypt, and the PHC records that a [`PhcKdf`] takes. Nothing here
 //! takes memory but the derivation of a key: for identifiers `5` and `6`, and before a fault, none is taken.

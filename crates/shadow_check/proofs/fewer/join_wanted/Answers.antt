@@ -6,7 +6,7 @@ use Rattle.shadow_check.proofs.fewer.join_wanted.Goals as goal
 pub returns-then-status-gt-SOME_OTHER-clause-outcome : goal.returns-then-status-gt-SOME_OTHER-clause-outcome
 returns-then-status-gt-SOME_OTHER-clause-outcome g c =
     wanted_end (g.J.Joining.join_rules c.args.joining.now) c.load_wanted-status.new.loading.passwords c.load_wanted-status.result c.args.max
-    (is_in c.args.loading.users) c.if-status-gt-SOME_OTHER.true _ _ _ _ _ c.load_wanted-status.ensures.loaded
+    (is_in c.args.loading.users) c.if-status-gt-SOME_OTHER.true _ _ _ _ _ c.load_wanted-status.ensures.told.outcome
 
 pub returns-clause-statuses : goal.returns-clause-statuses
 returns-clause-statuses g c = c.join_texts.ensures.told.statuses
@@ -22,4 +22,4 @@ pub returns-clause-outcome : goal.returns-clause-outcome
 returns-clause-outcome g c =
     wanted_texts_end (g.J.Joining.join_rules c.args.joining.now) c.load_wanted-status.new.loading.passwords c.load_wanted-status.result c.args.max
     (is_in c.args.loading.users) c.join_texts.result c.if-status-gt-SOME_OTHER.false _ _ _ _ _ _ _
-    c.load_wanted-status.ensures.loaded c.join_texts.ensures.told.outcome
+    c.load_wanted-status.ensures.told.outcome c.join_texts.ensures.told.outcome

@@ -1,5 +1,5 @@
 use Rattle.std.proofs.Common.{[]}
-use Rattle.bcrypt_digest.proofs.keyed.hmac_sha384.Goals as goal
+use Rattle.hmac_plain.proofs.code.hmac_sha384.Goals as goal
 
 pub returns : goal.returns
 returns c =

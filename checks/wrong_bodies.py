@@ -1,0 +1,177 @@
+#!/usr/bin/env python3
+"""Tries the must-fail edits of crates, several of one crate in one check, and reads for each the line of the function that it turns.
+
+    checks/wrong_bodies.py [CHECKOUT] [NAME..]     (this checkout, and each crate that has edits, if left out)
+
+`rt ci` tries each edit for itself: a process that loads the crate, and proves what the edit changed. Here the edits of different functions
+are put into one copy of the crate, and an edit counts as refused where the prover says of a function that it turns, and not only of what
+that function calls, that it isn't proved. An edit of which the lines don't say so is tried once more alone. It ends with 1 where an edit
+is not refused, or where its text doesn't compile.
+
+CHECKOUT is one in which `rt ci` has proved the libraries (crates/*/out/rlib). It is a quick look before the gate, and no verdict: the verdict
+is `rt ci`, which tries each edit over a proof from nothing.
+"""
+import collections
+import os
+import re
+import shutil
+import subprocess
+import sys
+import tempfile
+
+TOP = os.path.dirname(os.path.dirname(os.path.abspath(__file__)))
+sys.path.insert(0, os.path.join(TOP, "packaging"))
+from newer import below, used  # noqa: E402
+
+Edit = collections.namedtuple("Edit", "name changes")
+Change = collections.namedtuple("Change", "file old new")
+FUNCTION = re.compile(r"\bfn (\w+)")
+
+
+def read_edit(path):
+    """An edit: for each pair the file, the text that is there, and the text that takes its place."""
+    changes, file, words = [], None, {}
+    with open(path, encoding="utf-8") as lines:
+        key = None
+        for line in lines.read().split("\n"):
+            begin = re.match(r"(file|old|new): ?(.*)", line)
+            if begin:
+                key, rest = begin.groups()
+                if key == "file":
+                    file = rest
+                    continue
+                words[key] = [rest]
+                if key == "new":
+                    changes.append((file, words["old"], words["new"]))
+            elif line.startswith("     ") and key in words:
+                words[key].append(line[5:])
+    name = os.path.basename(path)[:-len(".edit")]
+    return Edit(name, [Change(file, "\n".join(old), "\n".join(new)) for file, old, new in changes])
+
+
+def turned(folder, edit):
+    """The functions whose bodies an edit changes, each as its file and its name."""
+    found = set()
+    for change in edit.changes:
+        with open(os.path.join(folder, change.file), encoding="utf-8") as source:
+            text = source.read()
+        names = FUNCTION.findall(text[:text.find(change.old) + len(change.old)])
+        found.add((change.file, names[-1] if names else ""))
+    return found
+
+
+def in_sets(folder, edits):
+    """The edits in sets in which no function is turned twice. An edit outside of any function is a set of its own."""
+    sets = []
+    for edit in edits:
+        functions = turned(folder, edit)
+        place = next((one for one in sets if not one[0] & functions and "" not in {name for _, name in functions | one[0]}), None)
+        if place is None:
+            place = (set(), [])
+            sets.append(place)
+        place[0].update(functions)
+        place[1].append(edit)
+    return [edits for _, edits in sets]
+
+
+def own_refusals(said):
+    """The functions of which the prover says that they aren't proved for a reason of their own."""
+    return [path for path, rest in re.findall(r"^fn (\S+): (.*)$", said, re.M)
+            if not rest.startswith(("proved", "no proof: it calls")) and "; it calls" not in rest]
+
+
+def is_own(path, file, name):
+    """Whether a function's path is that of a file and a name, be it of a closure in it."""
+    stem = os.path.basename(file)[:-len(".rt")]
+    words = path.split("::")
+    return name in words and (stem in words or stem == "lib")
+
+
+class Crate:
+    """A crate with edits, and what is kept of its proof."""
+
+    def __init__(self, top, kit, name, work):
+        self.top, self.kit, self.name, self.work = top, kit, name, work
+        self.folder = os.path.join(top, "crates", name)
+        self.kept = os.path.join(work, "kept")
+        self.uses = used(top)
+
+    def rlib(self, name):
+        own = os.path.join(self.top, "crates", name, "out", "rlib", name + ".rlib")
+        return own if os.path.isdir(os.path.join(self.top, "crates", name)) else os.path.join(self.kit, "rlibs", name + ".rlib")
+
+    def check(self, folder, kept):
+        """What the prover says of the crate in a folder."""
+        words = ["--extern", f"std={self.kit}/rlibs/std.rlib", "-L", f"dependency={self.kit}/rlibs"]
+        for name in self.uses[self.name]:
+            if "=" not in name and name != "staticlib":
+                words += ["--extern", f"{name}={self.rlib(name)}"]
+        for name in below(self.uses, self.name):
+            words += ["-L", "dependency=" + os.path.dirname(self.rlib(name))]
+        words += ["--antt-project", f"{self.kit}/rattle/logic/antt-project.json", "--logic-built", f"{self.kit}/logic_built"]
+        root = "src/main.rt" if os.path.exists(os.path.join(folder, "src", "main.rt")) else "src/lib.rt"
+        done = subprocess.run([f"{self.kit}/bin/rattle", "check", "--crate-name", self.name, root, *words, "--links", self.name + "=", "--jobs", "1",
+                               "--incremental", kept], cwd=folder, stdin=subprocess.DEVNULL, capture_output=True, text=True, check=False)
+        return done.stdout + done.stderr
+
+    def tried(self, edits):
+        """What the prover says of the crate with these edits."""
+        with tempfile.TemporaryDirectory(dir=self.work) as place:
+            copy, kept = os.path.join(place, self.name), os.path.join(place, "kept")
+            shutil.copytree(self.folder, copy, ignore=shutil.ignore_patterns("out", "must-fail"))
+            shutil.copytree(self.kept, kept)
+            for edit in edits:
+                for change in edit.changes:
+                    path = os.path.join(copy, change.file)
+                    with open(path, encoding="utf-8") as source:
+                        text = source.read()
+                    if text.count(change.old) != 1:
+                        return f"{edit.name}: its text is there {text.count(change.old)} times"
+                    with open(path, "w", encoding="utf-8") as source:
+                        source.write(text.replace(change.old, change.new))
+            return self.check(copy, kept)
+
+    def refused(self, said, edit):
+        """Whether the prover refuses a function that an edit turns for a reason of its own."""
+        own = own_refusals(said)
+        functions = turned(self.folder, edit)
+        if any(not name for _, name in functions):
+            return bool(own)
+        return any(is_own(path, file, name) for path in own for file, name in functions)
+
+    def faults(self):
+        """The edits that aren't refused, each with what is to be said."""
+        edits = sorted(os.listdir(os.path.join(self.folder, "must-fail")))
+        edits = [read_edit(os.path.join(self.folder, "must-fail", name)) for name in edits if name.endswith(".edit")]
+        said = self.check(self.folder, self.kept)
+        if "logic=proved" not in said:
+            return [f"{self.name}: the crate itself isn't proved: {said.strip()[-200:]}"]
+        left, checks = [], 0
+        for some in in_sets(self.folder, edits):
+            said, checks = self.tried(some), checks + 1
+            left += [edit for edit in some if not self.refused(said, edit)]
+        found = []
+        for edit in left:
+            said, checks = self.tried([edit]), checks + 1
+            if not self.refused(said, edit):
+                found.append(f"{self.name} {edit.name}: " + ("not refused" if re.search(r"^fn \S+: ", said, re.M) else "it isn't judged: " + said.strip()[-200:]))
+        print(f"{self.name}: {len(edits)} edits in {checks} checks, {len(edits) - len(found)} refused", flush=True)
+        return found
+
+
+def main():
+    words = sys.argv[1:]
+    top = os.path.abspath(words.pop(0)) if words and os.path.isdir(words[0]) else TOP
+    kit = os.path.dirname(subprocess.run(["rt", "doc"], capture_output=True, text=True, check=True).stdout.strip())
+    names = words or sorted(name for name in os.listdir(os.path.join(top, "crates")) if os.path.isdir(os.path.join(top, "crates", name, "must-fail")))
+    found = []
+    for name in names:
+        with tempfile.TemporaryDirectory() as work:
+            found += Crate(top, kit, name, work).faults()
+    for line in found:
+        print(line)
+    sys.exit(1 if found else 0)
+
+
+if __name__ == "__main__":
+    main()
