@@ -1,7 +1,7 @@
 #!/usr/bin/env python3
 """Kills `pwstore` at random moments of a load, and compares the table that it has then with the replies that were read before.
 
-Each run takes the file that the one before left, sends up to 400 commands (set, upgrade, check) in pieces of random length, and
+Each run takes the file that the one before left, sends up to 400 commands (set, upgrade, remove, check) in pieces of random length, and
 kills the program by SIGKILL after a random time. Then the file is read by a model of docs/FORMAT.md (bench/pwstore_model.py), and a
 new run of the program lists the table: both have to be the table after the first k of the commands, where k is at least the number
 of replies that were read and at most the number of commands that were sent; and every reply has to be the model's. Every tenth run
@@ -35,7 +35,9 @@ def command(chance):
     if kind < 0.02:
         salt = binascii.b2a_base64(chance.randbytes(16)).strip().rstrip(b"=")
         return b"upgrade\t" + user + b"\t" + salt + b"\t" + model.PASSWORD.encode()
-    if kind < 0.2:
+    if kind < 0.1:
+        return b"remove\t" + user
+    if kind < 0.25:
         return b"check\t" + user + b"\t" + chance.choice([model.PASSWORD.encode(), b"other"])
     text = chance.choice([model.HELLO.encode(), b"*%d" % chance.randrange(10**9), b"none%d" % chance.randrange(10**9),
                           b"!" + b"x" * chance.randrange(1000)])

@@ -21,6 +21,13 @@ def is_text(text):
     return len(text) <= 1024 and all(32 <= b <= 126 and b != 58 for b in text)
 
 
+def taken_away(table, user):
+    """The users without this one: the last one takes its place."""
+    rows = list(table.items())
+    rows[list(table).index(user)] = rows[-1]
+    return dict(rows[:-1])
+
+
 def is_set(line):
     """The user and the text of a line that is a `set` with a name and a text that are taken."""
     parts = line.split(b"\t", 2)
@@ -36,7 +43,13 @@ def read(data):
     table, place = {}, len(HEADER)
     while data[place:place + 1] == b"s" and b"\n" in data[place:]:
         end = data.index(b"\n", place)
-        row = is_set(data[place:end])
+        line = data[place:end]
+        user = line[4:]
+        if line.startswith(b"set\t") and b"\t" not in user and user in table:
+            table = taken_away(table, user)
+            place = end + 1
+            continue
+        row = is_set(line)
         if row is None or (row[0] not in table and len(table) == USERS_MAX):
             return "bad-line", place
         table[row[0]] = row[1]
@@ -86,6 +99,11 @@ class Model:
             if user not in self.table and len(self.table) == USERS_MAX:
                 return "full"
             self.table[user] = text
+            return "ok"
+        if words[0] == b"remove":
+            if words[1] not in self.table:
+                return "no-user"
+            self.table = taken_away(self.table, words[1])
             return "ok"
         if words[0] == b"check":
             return self.judge(words[1], words[2])

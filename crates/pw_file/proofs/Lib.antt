@@ -10,6 +10,7 @@ pub mod Entries
 pub mod LineAnswers
 pub mod TableAnswers
 pub mod Output
+pub mod Removing
 pub mod Replacing
 pub mod Seen
 mod StoredVerdicts

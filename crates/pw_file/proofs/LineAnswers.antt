@@ -7,8 +7,8 @@ use Rattle.phc.specs.Grammar.{salt_fault}
 use Rattle.phc.specs.declared.error.Error as phc_error
 use Rattle.pieces.specs.Faults.{first_fault, unless}
 use Rattle.pw_file.specs.Answers.{IsAnswer, bad_text, check_answer, check_may_lack, checked, done_or_fault, has_room}
-use Rattle.pw_file.specs.Answers.{set_answer, upgrade_answer, with_salt, upgrade_may_lack}
-use Rattle.pw_file.specs.Calls.{is_want, rows_after_set, rows_after_upgrade}
+use Rattle.pw_file.specs.Answers.{remove_answer, set_answer, upgrade_answer, with_salt, upgrade_may_lack}
+use Rattle.pw_file.specs.Calls.{is_want, rows_after_remove, rows_after_set, rows_after_upgrade}
 use Rattle.pw_file.specs.Commands as of
 use Rattle.pw_file.specs.History.{Lists, Reply, Rows, Says, change_of, is_done, is_upgraded, text_in}
 use Rattle.pw_file.specs.Lines.{AnswersLineOver, Asks, line_reply}
@@ -38,6 +38,10 @@ module _ {T V : Type 0} (p : TextPolicy T V) where
 
   set_known : (had : Option (List ℕ)) (n : ℕ) (new : List ℕ) → is_want (set_answer p had n new) ≡ false
   set_known had n new = set_cases (nat_le (length new) 1024) (p.text_fault new) (has_room p had n)
+
+  remove_known : (had : Option (List ℕ)) → is_want (remove_answer p had) ≡ false
+  remove_known None = refl
+  remove_known (Some text) = refl
 
   checked_cases : (r : Result Bool V) → is_want (checked {T = T} r) ≡ false
   checked_cases (Ok b) = refl
@@ -138,6 +142,21 @@ module _ {T V : Type 0} (p : TextPolicy T V) (old : Rows) (line : List ℕ) wher
       answered (of.Set user new) (set_answer p (text_in old user) (length old) new) answer _ set_word after asks refl refl
       (set_known p (text_in old user) (length old) new) is (rows ∙ set_next user new answer asks.1)
       (λ want. rows ∙ ap (rows_after_set old user new) want)
+
+  -- ---- remove
+
+  remove_next : (user : List ℕ) (answer : Result (Unit {0}) (FileError T V)) → of.command p line ≡ Some (of.Remove user)
+      → rows_after_remove old user answer ≡ changed old (change_of (of.command p line) (Says (set_word answer)))
+  remove_next user (Ok done) is = rw is refl
+  remove_next user (Err e) is = refusal e
+
+  pub remove_answered : (user : List ℕ) (after : Rows) (answer : Result (Unit {0}) (FileError T V)) → Asks p line (of.Remove user)
+      → answer ≡ remove_answer p (text_in old user) → after ≡ rows_after_remove old user answer
+      → AnswersLineOver p old line after (line_reply answer (set_word answer))
+  remove_answered user after answer asks is rows =
+      answered (of.Remove user) (remove_answer p (text_in old user)) answer false set_word after asks refl refl
+      (remove_known p (text_in old user)) (inl is) (rows ∙ remove_next user answer asks.1)
+      (λ want. rows ∙ ap (rows_after_remove old user) want)
 
   -- ---- check
 

@@ -23,6 +23,8 @@ pub record TextPolicy (T V : Type 0) : Type 0 where
   pub may_lack : List ℕ → List ℕ → Bool
   -- the most users of a table
   pub users_max : ℕ
+  -- `remove`, which takes a user away, is a command
+  pub takes_remove : Bool
 
 -- What the laws of tables rest on.
 pub record IsLawful {T V : Type 0} (p : TextPolicy T V) : Type 0 where

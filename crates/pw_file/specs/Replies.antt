@@ -2,7 +2,7 @@
 use Rattle.std.specs.Prelude.{ℕ, Bool, true, false, List, [], ◌∷◌, ◌++◌, length, nat_lt, map, fold, codes, Option, None}
 use Rattle.std.specs.Prelude.{Some, unwrap_or, Result, Ok, Err, is_ok, if◌then◌else◌}
 use Rattle.std.specs.List.{flat_map}
-use Rattle.pw_file.specs.Answers.{set_answer, check_answer, upgrade_answer, check_may_lack, upgrade_may_lack}
+use Rattle.pw_file.specs.Answers.{set_answer, check_answer, remove_answer, upgrade_answer, check_may_lack, upgrade_may_lack}
 use Rattle.pw_file.specs.Commands.{Command, command, set_line}
 use Rattle.pw_file.specs.Commands as of
 use Rattle.pw_file.specs.History.{History, Reply, Rows, text, users}
@@ -28,7 +28,7 @@ error_word (refused.BadSalt fault) = BadSalt
 error_word (refused.Check fault) = Invalid
 error_word refused.OutOfMemory = Invalid
 
--- the word of the answer of `set`
+-- the word of the answer of `set` and of `remove`
 abbrev pub set_word : {T V : Type 0} → Result (Unit {0}) (FileError T V) → Word
 set_word (Ok done) = Done
 set_word (Err e) = error_word e
@@ -86,6 +86,7 @@ reply_by p text_of count listed (Some (of.Check user password)) =
     Says (check_word (check_answer p (text_of user) password))
 reply_by p text_of count listed (Some (of.Upgrade user salt password)) =
     Says (upgrade_word (upgrade_answer p (text_of user) password salt))
+reply_by p text_of count listed (Some (of.Remove user)) = Says (set_word (remove_answer p (text_of user)))
 reply_by p text_of count listed (Some of.Listing) = Lists listed
 
 -- the reply to a command, over the lines before it
@@ -125,6 +126,7 @@ is_costly_by p text_of count (Some (of.Set user new)) = is_ok (set_answer p (tex
 is_costly_by p text_of count (Some (of.Check user password)) = check_may_lack p (text_of user) password
 is_costly_by p text_of count (Some (of.Upgrade user salt password)) =
     upgrade_may_lack p (text_of user) password salt
+is_costly_by p text_of count (Some (of.Remove user)) = false
 is_costly_by p text_of count (Some of.Listing) = false
 
 -- memory may be wanting for a command

@@ -1,5 +1,5 @@
 -- The policy of `pwfile`: names of the PHC string format, texts of the modular crypt format, none locked, verdicts with
--- scrypt as the derivation of keys, and at most 4,096 users.
+-- scrypt as the derivation of keys, at most 4,096 users, and no command that takes a user away.
 use Rattle.std.specs.Prelude.{ℕ, Bool, false, List, Result}
 use Rattle.std.specs.List.{flat_map}
 use Rattle.std.specs.Option.{option_map}
@@ -32,6 +32,7 @@ stored_texts = record {
   verdict = verdict_on;
   may_lack = may_lack;
   users_max = 4096;
+  takes_remove = false;
 }
 
 -- what is owed for the lines of an input

@@ -48,6 +48,10 @@ pub trait Policy: Drop {
     fn users_max() -> usize
         ensures { result ≡ policy.users_max };
 
+    /// Whether `remove`, which takes a user away, is a command.
+    fn takes_remove() -> bool
+        ensures { result ≡ policy.takes_remove };
+
     /// The derivation by scrypt among what is kept, by which an upgraded text is made.
     fn scrypt(kept: &Self::Kept) -> &ScryptKept;
 

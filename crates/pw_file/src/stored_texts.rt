@@ -11,7 +11,7 @@ use std::alloc::{AllocError, Global};
 use stored_check::{McfFault, StoredError, check_stored, mcf_name};
 
 /// Names of the PHC string format, of 1 to 32 characters of `a-z`, `0-9` and `-`; texts of the modular crypt format, none
-/// of them locked; the verdicts of `check_stored` with scrypt; at most 4,096 users.
+/// of them locked; the verdicts of `check_stored` with scrypt; at most 4,096 users, none of whom is taken away.
 ///
 /// The table of the largest scrypt record so far is kept.
 #[derive(Drop)]
@@ -70,6 +70,10 @@ impl Policy for StoredTexts {
 
     fn users_max() -> usize {
         USERS_MAX
+    }
+
+    fn takes_remove() -> bool {
+        false
     }
 
     fn scrypt(kept: &ScryptKept) -> &ScryptKept {

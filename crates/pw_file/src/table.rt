@@ -2,8 +2,8 @@
 
 ghost use Rattle.std.specs.Prelude.{◌≡◌, ◌≢◌, ◌⊎◌, ◌≤◌, ◌∷◌, ◌++◌, ℕ, List, [], true, Err, None, Ok, is_ok, is_some, length, slice_get, string_bytes, IfErr, IfOk, IfSome, OnErr, OnOk};
 ghost use Rattle.std.specs.Option.{option_copied, option_map};
-ghost use Rattle.pw_file.specs.Answers.{IsAnswer, check_answer, check_may_lack, checked, done_of, exchange_answer, has_room, has_text, open_text, set_answer, set_fault, upgrade_answer, upgrade_may_lack};
-ghost use Rattle.pw_file.specs.Calls.{after_check, after_set, after_upgrade, rows_after_set, rows_after_upgrade, with_text};
+ghost use Rattle.pw_file.specs.Answers.{IsAnswer, check_answer, check_may_lack, checked, done_of, exchange_answer, has_room, has_text, open_text, remove_answer, set_answer, set_fault, upgrade_answer, upgrade_may_lack};
+ghost use Rattle.pw_file.specs.Calls.{after_check, after_remove, after_set, after_upgrade, rows_after_remove, rows_after_set, rows_after_upgrade, with_text};
 ghost use Rattle.pw_file.specs.History.{History, IsContentOf, text_in};
 ghost use Rattle.pw_file.specs.Replies.{row_line};
 ghost use Rattle.pw_file.specs.Upgraded.{upgraded_text};
@@ -328,6 +328,26 @@ impl<P: Policy> Table<P> {
             → IsContentOf P.policy (after_set h user.now text.now result) self.new }
     {
         done_of(self.exchange(user, text))
+    }
+
+    /// Takes the user away. The last user takes its place. It takes no memory.
+    pub fn remove(
+        &mut self,
+        user: &UserName<P>,
+    ) -> Result<(), FileError<P::TextFault, P::VerdictFault>>
+        ensures answer { result ≡ remove_answer P.policy (text_in self.old user.now) }
+        ensures rows { self.new ≡ rows_after_remove self.old user.now result }
+        ensures others { (other : List ℕ) → other ≢ user.now → text_in self.new other ≡ text_in self.old other }
+        ensures content { P.policy.takes_remove ≡ true → (h : History) → IsContentOf P.policy h self.old
+            → IsContentOf P.policy (after_remove h user.now result) self.new }
+    {
+        // That the name is one of the policy, which the prover has from this call.
+        let _name = user.as_str();
+        let removed = self.texts.swap_remove(user);
+        if removed.is_none() {
+            return Err(FileError::NoUser);
+        }
+        Ok(())
     }
 
     /// Whether the user's text matches the password.

@@ -63,7 +63,7 @@ const OVER_A_DIGEST: [(&str, Word); 3] = [
     ("check\tbob\tx", Word::NoUser),
 ];
 
-const WITHOUT_A_DIGEST: [(&str, Word); 8] = [
+const WITHOUT_A_DIGEST: [(&str, Word); 9] = [
     ("set\tann\t$", Word::BadText),
     ("set\tAnn\t$5", Word::BadCommand),
     ("set\tann\t$5", Word::Done),
@@ -72,6 +72,7 @@ const WITHOUT_A_DIGEST: [(&str, Word); 8] = [
     ("upgrade\tann\tabcdabcdabc\tx", Word::Invalid),
     ("upgrade\tbob\tabc\tx", Word::NoUser),
     ("list\t", Word::BadCommand),
+    ("remove\tann", Word::BadCommand),
 ];
 
 // A text that is taken, and matches `Hello world!`.

@@ -1,4 +1,4 @@
-//! A table of at most three users: the policy of `pwfile` with another number.
+//! A table of at most three users, who can be taken away: else the policy is that of `pwfile`.
 
 use crate::tests::{check, has_row};
 use pw_file::{FileError, LineReply, Policy, StoredTexts, Table, UserName, Word, answer_line};
@@ -6,12 +6,12 @@ use scrypt_plain::ScryptKept;
 use std::alloc::{AllocError, Global};
 use stored_check::{McfFault, StoredError};
 
-// As `StoredTexts`, with at most three users.
+// As `StoredTexts`, with at most three users, who can be taken away.
 #[derive(Drop)]
 struct ThreeUsers;
 
 impl Policy for ThreeUsers {
-    ghost use Rattle.std.proofs.Common.{arith};
+    ghost use Rattle.std.proofs.Common.{arith, true};
     ghost use Rattle.pw_file.specs.StoredTexts.{stored_texts};
     ghost use Rattle.pw_file.specs.StoredLaws.{stored_lawful};
 
@@ -21,7 +21,7 @@ impl Policy for ThreeUsers {
 
     type Kept = ScryptKept;
 
-    ghost policy = { record stored_texts { users_max = 3 } };
+    ghost policy = { record stored_texts { users_max = 3; takes_remove = true } };
 
     fn is_name(name: &str) -> bool {
         StoredTexts::is_name(name)
@@ -46,6 +46,10 @@ impl Policy for ThreeUsers {
 
     fn users_max() -> usize {
         3
+    }
+
+    fn takes_remove() -> bool {
+        true
     }
 
     fn scrypt(kept: &ScryptKept) -> &ScryptKept {
@@ -117,8 +121,60 @@ fn room_again(rt: HostRuntime) {
     has_row(&rt, &table, 2, "dora", "$5");
 }
 
+// Commands over one table, and their words: a user who is taken away is as one who was never there.
+const REMOVALS: [(&str, Word); 15] = [
+    ("remove\tann", Word::NoUser),
+    ("set\tann\t$5", Word::Done),
+    ("set\tbob\t$6", Word::Done),
+    ("set\tcleo\t$1$a$b", Word::Done),
+    ("set\tdora\t$5", Word::Full),
+    ("remove\tann", Word::Done),
+    ("check\tann\tx", Word::NoUser),
+    ("upgrade\tann\tabcdabcdabc\tx", Word::NoUser),
+    ("remove\tann", Word::NoUser),
+    ("remove\tAnn", Word::BadCommand),
+    ("remove\tbob\t", Word::BadCommand),
+    ("remove", Word::BadCommand),
+    ("set\tbob", Word::BadCommand),
+    ("set\tdora\t$5", Word::Done),
+    ("set\tann\t$6", Word::Full),
+];
+
+#[test]
+fn taken_away(rt: HostRuntime) {
+    let mut table: Table<ThreeUsers> = Table::new(rt.alloc(), ScryptKept::new(rt.alloc()));
+    for (line, word) in REMOVALS {
+        let reply = answer_line(&mut table, line.as_bytes());
+        assert!(rt; reply == Some(LineReply::Word(word)), "{line:?}");
+    }
+    // The last user took the first one's place.
+    has_row(&rt, &table, 0, "cleo", "$1$a$b");
+    has_row(&rt, &table, 1, "bob", "$6");
+    has_row(&rt, &table, 2, "dora", "$5");
+    check(&rt, table.len() == 3, "three users");
+}
+
+#[test]
+fn the_last_and_the_only_one_taken_away(rt: HostRuntime) {
+    let mut table: Table<ThreeUsers> = Table::new(rt.alloc(), ScryptKept::new(rt.alloc()));
+    let (Some(ann), Some(bob)) = (UserName::new("ann"), UserName::new("bob")) else {
+        panic!(rt; "they are names")
+    };
+    check(&rt, table.set(&ann, "$5") == Ok(()), "the first user");
+    check(&rt, table.set(&bob, "$6") == Ok(()), "the second user");
+    check(&rt, table.remove(&bob) == Ok(()), "the last one");
+    has_row(&rt, &table, 0, "ann", "$5");
+    check(&rt, table.len() == 1, "one user is left");
+    check(&rt, table.remove(&bob) == Err(FileError::NoUser), "again");
+    check(&rt, table.remove(&ann) == Ok(()), "the only one");
+    check(&rt, table.len() == 0, "no user is left");
+    check(&rt, table.set(&bob, "$1$a$b") == Ok(()), "set again");
+    has_row(&rt, &table, 0, "bob", "$1$a$b");
+}
+
 #[test]
 fn most_users(rt: HostRuntime) {
     check(&rt, StoredTexts::users_max() == 4_096, "of pwfile");
     check(&rt, ThreeUsers::users_max() == 3, "of this test");
+    check(&rt, !StoredTexts::takes_remove(), "pwfile keeps its users");
 }

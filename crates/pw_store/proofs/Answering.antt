@@ -3,10 +3,10 @@ use Rattle.std.proofs.Common.{◌≡◌, ◌⊎◌, inl, inr, ℕ, Bool, true, f
 use Rattle.std.specs.Prelude.{is_ok, nat_le}
 use Rattle.pieces.specs.FaultCounts.{HasRisen}
 use Rattle.line_log.specs.Log.{file_max}
-use Rattle.pw_file.specs.Answers.{set_answer, upgrade_answer, upgrade_may_lack}
-use Rattle.pw_file.specs.Calls.{with_text}
+use Rattle.pw_file.specs.Answers.{remove_answer, set_answer, upgrade_answer, upgrade_may_lack}
+use Rattle.pw_file.specs.Calls.{with_text, without}
 use Rattle.pw_file.specs.Commands as of
-use Rattle.pw_file.specs.History.{Reply, Rows, Says, change, change_of, text_in}
+use Rattle.pw_file.specs.History.{Change, Reply, Rows, Says, change, change_of, text_in}
 use Rattle.pw_file.specs.Lines.{AnswersLineOver, Asks, line_reply}
 use Rattle.pw_file.specs.Policy.{TextPolicy}
 use Rattle.pw_file.specs.Replies.{error_word}
@@ -18,9 +18,9 @@ use Rattle.pw_file.specs.declared.reply.LineReply.TheVariants as replies
 use Rattle.pw_file.specs.declared.reply.Word.TheVariants.{Done, Mismatch, Upgraded}
 use Rattle.pw_file.specs.declared.reply.Word.TheVariants as w
 use Rattle.pw_file.proofs.Calls.{no_change, unchanged}
-use Rattle.pw_file.proofs.LineAnswers.{set_answered, upgrade_answered}
+use Rattle.pw_file.proofs.LineAnswers.{remove_answered, set_answered, upgrade_answered}
 use Rattle.pw_store.specs.Run.{state, store_reply}
-use Rattle.pw_store.specs.Stored.{IsStored, by_file, set_by, size_after, stored_set, stored_upgrade, upgrade_by}
+use Rattle.pw_store.specs.Stored.{IsStored, by_file, set_by, size_after, size_changed, stored_remove, stored_set, stored_upgrade, upgrade_by}
 use Rattle.pw_store.specs.declared.error.StoreError.{StoreError}
 use Rattle.pw_store.specs.declared.error.StoreError.TheVariants.{Table, DiskFault, FileFull}
 use Rattle.pw_store.proofs.Fates.{open_reply}
@@ -32,7 +32,7 @@ abbrev pub Stays : {T V : Type 0} → TextPolicy T V → Rows → ℕ → List �
 Stays p rows size line reply = (store_reply p (state rows size None) line ≡ reply) × (change p (line, reply) ≡ None)
 
 -- the reply, which makes this change
-abbrev pub Changes : {T V : Type 0} → TextPolicy T V → Rows → ℕ → List ℕ → Reply → List ℕ × List ℕ → Type 0
+abbrev pub Changes : {T V : Type 0} → TextPolicy T V → Rows → ℕ → List ℕ → Reply → Change → Type 0
 Changes p rows size line reply c = (store_reply p (state rows size None) line ≡ reply) × (change p (line, reply) ≡ Some c)
 
 -- a refusal that isn't want of memory is the reply; where memory may be wanting, there is none
@@ -74,18 +74,18 @@ by_full size a e true t is = absurd (cc (is ∙ ap (λ (x : Bool). cond x (Ok a)
 by_full size a e false t is = (cc (is ∙ ap (λ (x : Bool). cond x (Ok a) (Err FileFull)) t), t)
 
 -- a change for which there is room, or none
-module _ {T V : Type 0} (p : TextPolicy T V) (rows : Rows) (size : ℕ) (line : List ℕ) (said : Reply) (user text : List ℕ) (is : table_reply p rows line ≡ said)
-    (makes : change p (line, said) ≡ Some (user, text)) where
-  pub roomy : nat_le (size_after size user text) file_max ≡ true → Changes p rows size line said (user, text)
+module _ {T V : Type 0} (p : TextPolicy T V) (rows : Rows) (size : ℕ) (line : List ℕ) (said : Reply) (user : List ℕ) (new : Option (List ℕ)) (is : table_reply p rows line ≡ said)
+    (makes : change p (line, said) ≡ Some (user, new)) where
+  pub roomy : nat_le (size_changed size user new) file_max ≡ true → Changes p rows size line said (user, new)
   roomy room = (
-    open_reply p rows size line said (Some (user, text)) is makes
+    open_reply p rows size line said (Some (user, new)) is makes
         ∙ ap (λ (b : Bool). cond b said (Says w.FileFull)) room,
     makes,
   )
 
-  pub full : nat_le (size_after size user text) file_max ≡ false → Stays p rows size line (Says w.FileFull)
+  pub full : nat_le (size_changed size user new) file_max ≡ false → Stays p rows size line (Says w.FileFull)
   full room = (
-    open_reply p rows size line said (Some (user, text)) is makes
+    open_reply p rows size line said (Some (user, new)) is makes
         ∙ ap (λ (b : Bool). cond b said (Says w.FileFull)) room,
     unchanged (of.command p line) w.FileFull refl refl,
   )
@@ -103,21 +103,21 @@ module _ {T V : Type 0} (p : TextPolicy T V) (rows : Rows) (size : ℕ) (line us
       set_answered p rows line user text (with_text rows user text) (Ok tt) asks (inl (sym ok)) refl in
       sym over.0
 
-  set_changes : change p (line, Says Done) ≡ Some (user, text)
+  set_changes : change p (line, Says Done) ≡ Some (user, Some text)
   set_changes = ap (λ (c : Option of.Command). change_of c (Says Done)) asks.1
 
   -- a change that waits is to be answered `ok`
-  pub set_staged : Ok tt ≡ stored_set p true rows size user text → Changes p rows size line (Says Done) (user, text)
+  pub set_staged : Ok tt ≡ stored_set p true rows size user text → Changes p rows size line (Says Done) (user, Some text)
   set_staged is =
       let ok = set_ok (size_after size user text) (set_answer p (text_in rows user) (length rows) text) is in
-      roomy p rows size line (Says Done) user text (set_done ok.0) set_changes ok.1
+      roomy p rows size line (Says Done) user (Some text) (set_done ok.0) set_changes ok.1
 
   set_err : (a : Result (Unit {0}) (FileError T V)) → set_answer p (text_in rows user) (length rows) text ≡ a → (e : StoreError T V)
       → Err e ≡ set_by (size_after size user text) a → Refuses p rows size line e
   set_err (Ok done) ok e is =
       let f = by_full (size_after size user text) tt e (nat_le (size_after size user text) file_max) refl is in
       subst (λ (x : StoreError T V). Refuses p rows size line x) (sym f.0)
-      (full p rows size line (Says Done) user text (set_done ok) set_changes f.1)
+      (full p rows size line (Says Done) user (Some text) (set_done ok) set_changes f.1)
   set_err (Err f) ok e is =
       let same : e ≡ Table f = cc is in
       subst (λ (x : StoreError T V). Refuses p rows size line x) (sym same)
@@ -131,6 +131,53 @@ module _ {T V : Type 0} (p : TextPolicy T V) (rows : Rows) (size : ℕ) (line us
       let same : e ≡ Table refused.OutOfMemory = cc is in
       subst (λ (x : StoreError T V). Refuses p rows size line x) (sym same)
       (set_answered p rows line user text rows (Err refused.OutOfMemory) asks (inr (refl, may)) refl).0
+
+-- ---- remove
+
+module _ {T V : Type 0} (p : TextPolicy T V) (rows : Rows) (size : ℕ) (line user : List ℕ) (asks : Asks p line (of.Remove user)) where
+  remove_done : remove_answer p (text_in rows user) ≡ Ok tt → table_reply p rows line ≡ Says Done
+  remove_done ok =
+      let over : AnswersLineOver p rows line (without rows user) (Some (replies.Word Done)) =
+      remove_answered p rows line user (without rows user) (Ok tt) asks (sym ok) refl in
+      sym over.0
+
+  remove_changes : change p (line, Says Done) ≡ Some (user, None)
+  remove_changes = ap (λ (c : Option of.Command). change_of c (Says Done)) asks.1
+
+  removal : (size_ok : nat_le (size_changed size user None) file_max ≡ true) → remove_answer p (text_in rows user) ≡ Ok tt
+      → Changes p rows size line (Says Done) (user, None)
+  removal room ok = roomy p rows size line (Says Done) user None (remove_done ok) remove_changes room
+
+  remove_err : (a : Result (Unit {0}) (FileError T V)) → remove_answer p (text_in rows user) ≡ a → (e : StoreError T V)
+      → Err e ≡ set_by (size_changed size user None) a → Refuses p rows size line e
+  remove_err (Ok done) ok e is =
+      let f = by_full (size_changed size user None) tt e (nat_le (size_changed size user None) file_max) refl is in
+      subst (λ (x : StoreError T V). Refuses p rows size line x) (sym f.0)
+      (full p rows size line (Says Done) user None (remove_done ok) remove_changes f.1)
+  remove_err (Err f) ok e is =
+      let same : e ≡ Table f = cc is in
+      subst (λ (x : StoreError T V). Refuses p rows size line x) (sym same)
+      (refuses_by p rows size line f (Unit {0}) (remove_answered p rows line user rows (Err f) asks (sym ok) refl))
+
+  -- what an answer of `remove` tells of the reply to its line
+  abbrev TellsRemoval : Result (Unit {0}) (StoreError T V) → ℕ → ℕ → Type 0
+  TellsRemoval answer faults faults_now = IsStored (stored_remove p true rows size user) false (Ok tt) faults faults_now answer
+
+  pub removed_says : (faults faults_now : ℕ) → TellsRemoval (Ok tt) faults faults_now → Changes p rows size line (Says Done) (user, None)
+  removed_says f g (inl is) =
+      let ok = set_ok (size_changed size user None) (remove_answer p (text_in rows user)) is in
+      removal ok.1 ok.0
+  removed_says f g (inr (inl (is, may))) = absurd (cc is)
+  removed_says f g (inr (inr (is, more, risen))) = absurd (cc is)
+
+  -- or the disk failed, where it was to be changed
+  pub unremoved_says : (e : StoreError T V) (faults faults_now : ℕ) → TellsRemoval (Err e) faults faults_now
+      → Refuses p rows size line e ⊎ ((e ≡ DiskFault) × (HasRisen faults faults_now × Changes p rows size line (Says Done) (user, None)))
+  unremoved_says e f g (inl is) = inl (remove_err (remove_answer p (text_in rows user)) refl e is)
+  unremoved_says e f g (inr (inl (is, may))) = absurd (cc may)
+  unremoved_says e f g (inr (inr (is, done, risen))) =
+      let ok = set_ok (size_changed size user None) (remove_answer p (text_in rows user)) (sym done) in
+      inr (cc is, (risen, removal ok.1 ok.0))
 
 -- ---- upgrade
 
@@ -152,12 +199,12 @@ module _ {T V : Type 0} (p : TextPolicy T V) (rows : Rows) (size : ℕ) (line us
       upgrade_answered p rows line user salt password (with_text rows user (upgraded_text password salt)) (Ok true) asks (inl (sym ok)) refl in
       sym over.0
 
-  upgrade_changes : change p (line, Says Upgraded) ≡ Some (user, upgraded_text password salt)
+  upgrade_changes : change p (line, Says Upgraded) ≡ Some (user, Some (upgraded_text password salt))
   upgrade_changes = ap (λ (c : Option of.Command). change_of c (Says Upgraded)) asks.1
 
   matched : upgrade_answer p (text_in rows user) password salt ≡ Ok true → nat_le (size_after size user (upgraded_text password salt)) file_max ≡ true
-      → Changes p rows size line (Says Upgraded) (user, upgraded_text password salt)
-  matched ok room = roomy p rows size line (Says Upgraded) user (upgraded_text password salt) (upgrade_done ok) upgrade_changes room
+      → Changes p rows size line (Says Upgraded) (user, Some (upgraded_text password salt))
+  matched ok room = roomy p rows size line (Says Upgraded) user (Some (upgraded_text password salt)) (upgrade_done ok) upgrade_changes room
 
   unmatched : upgrade_answer p (text_in rows user) password salt ≡ Ok false → Stays p rows size line (Says Mismatch)
   unmatched ok =
@@ -172,7 +219,7 @@ module _ {T V : Type 0} (p : TextPolicy T V) (rows : Rows) (size : ℕ) (line us
       let more = size_after size user (upgraded_text password salt) in
       let f = by_full more true e (nat_le more file_max) refl is in
       subst (λ (x : StoreError T V). Refuses p rows size line x) (sym f.0)
-      (full p rows size line (Says Upgraded) user (upgraded_text password salt) (upgrade_done ok) upgrade_changes f.1)
+      (full p rows size line (Says Upgraded) user (Some (upgraded_text password salt)) (upgrade_done ok) upgrade_changes f.1)
   upgrade_err (Ok false) ok e is = absurd (cc is)
   upgrade_err (Err f) ok e is =
       let same : e ≡ Table f = cc is in
@@ -186,7 +233,7 @@ module _ {T V : Type 0} (p : TextPolicy T V) (rows : Rows) (size : ℕ) (line us
   wants : upgrade_may_lack p (text_in rows user) password salt ≡ true → table_is_costly p rows line ≡ true
   wants may = (upgrade_answered p rows line user salt password rows (Err refused.OutOfMemory) asks (inr (refl, may)) refl).0
 
-  pub told_true : (faults faults_now : ℕ) → Tells (Ok true) faults faults_now → Changes p rows size line (Says Upgraded) (user, upgraded_text password salt)
+  pub told_true : (faults faults_now : ℕ) → Tells (Ok true) faults faults_now → Changes p rows size line (Says Upgraded) (user, Some (upgraded_text password salt))
   told_true f g (inl is) =
       let ok = upgrade_ok (size_after size user (upgraded_text password salt)) (upgrade_answer p (text_in rows user) password salt) is in
       matched ok.0 ok.1
@@ -202,7 +249,7 @@ module _ {T V : Type 0} (p : TextPolicy T V) (rows : Rows) (size : ℕ) (line us
 
   -- or the disk failed, where it was to be changed
   pub told_err : (e : StoreError T V) (faults faults_now : ℕ) → Tells (Err e) faults faults_now
-      → Refuses p rows size line e ⊎ ((e ≡ DiskFault) × (HasRisen faults faults_now × Changes p rows size line (Says Upgraded) (user, upgraded_text password salt)))
+      → Refuses p rows size line e ⊎ ((e ≡ DiskFault) × (HasRisen faults faults_now × Changes p rows size line (Says Upgraded) (user, Some (upgraded_text password salt))))
   told_err e f g (inl is) = inl (upgrade_err (upgrade_answer p (text_in rows user) password salt) refl e is)
   told_err e f g (inr (inl (is, may))) =
       let same : e ≡ Table refused.OutOfMemory = cc is in

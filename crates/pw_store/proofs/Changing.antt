@@ -1,23 +1,25 @@
 -- What a change leaves, and what a refusal does.
-use Rattle.std.proofs.Common.{◌≡◌, ◌⊎◌, inl, inr, ℕ, ◌+◌, Bool, true, false, cond, List, [], length, refl, sym, ap, ◌∙◌, subst, arith, Option, Some, None, Result, Ok, Err}
-use Rattle.std.specs.Prelude.{is_ok}
+use Rattle.std.proofs.Common.{Bor, ◌≡◌, ◌⊎◌, inl, inr, ℕ, ◌+◌, Bool, true, false, cond, List, [], length, refl, sym, ap, ◌∙◌, subst, arith, Option, Some, None, Result, Ok, Err}
+use Rattle.std.specs.Prelude.{is_none, is_ok, nat_le}
+use Rattle.std.specs.Option.{option_copied}
 use Rattle.std.specs.List.{list_any}
 use Rattle.std.specs.Str.{IsUtf8}
 use Rattle.pieces.specs.Characters.{is_tab}
 use Rattle.pw_file.specs.Upgraded.{upgraded_text}
 use Rattle.pieces.proofs.FaultLaws.{err_ok}
 use Rattle.pieces.specs.Faults.{value_or_fault}
+use Rattle.line_log.specs.Log.{file_max}
 use Rattle.line_log.specs.declared.log.LineLog.{LineLog}
-use Rattle.pw_file.specs.Answers.{IsAnswer, exchange_answer, set_answer, set_fault}
-use Rattle.pw_file.specs.Calls.{with_text}
+use Rattle.pw_file.specs.Answers.{IsAnswer, exchange_answer, remove_answer, set_answer, set_fault}
+use Rattle.pw_file.specs.Calls.{with_text, without}
 use Rattle.pw_file.specs.History.{History, IsContentOf, Rows, text_in}
 use Rattle.pw_file.specs.declared.error.FileError.{FileError}
 use Rattle.pw_file.specs.declared.error.FileError.TheVariants as refused
-use Rattle.pw_file.proofs.Calls.{set_content, upgrade_content}
+use Rattle.pw_file.proofs.Calls.{remove_content, set_content, upgrade_content}
 use Rattle.pw_file.proofs.TableAnswers.{error_is_no_value}
 use Rattle.pw_file.specs.Policy.{IsLawful, TextPolicy}
 use Rattle.pw_store.specs.Staged.{IsStaged}
-use Rattle.pw_store.specs.Stored.{after_store_set, after_store_upgrade, set_by, size_after, stored_set}
+use Rattle.pw_store.specs.Stored.{after_store_remove, after_store_set, after_store_upgrade, set_by, size_after, size_changed, stored_remove, stored_set}
 use Rattle.pw_store.specs.declared.error.StoreError.{StoreError}
 use Rattle.pw_store.specs.declared.error.StoreError.TheVariants.{Table, DiskFault, FileFull}
 
@@ -118,3 +120,38 @@ pub upgrade_done : {T V : Type 0} (p : TextPolicy T V) (law : IsLawful p) (h : H
 upgrade_done {T} {V} p law h rows now user password salt is name tabless salt_utf8 utf8 held =
     subst (λ (r : Rows). IsContentOf p (after_store_upgrade {T = T} {V = V} h user password salt (Ok true)) r) (sym is)
     (upgrade_content p law h rows user held password salt (Ok true) salt_utf8 utf8 (λ done. (name, tabless)))
+
+pub remove_done : {T V : Type 0} (p : TextPolicy T V) (law : IsLawful p) (h : History) (rows now : Rows) (user : List ℕ) → now ≡ without rows user
+    → p.takes_remove ≡ true → p.is_name user ≡ true → IsContentOf p h rows → IsContentOf p (after_store_remove {T = T} {V = V} h user (Ok tt)) now
+remove_done {T} {V} p law h rows now user is takes name held =
+    subst (λ (r : Rows). IsContentOf p (after_store_remove {T = T} {V = V} h user (Ok tt)) r) (sym is)
+    (remove_content p law h rows user held (Ok tt) takes (λ done. name))
+
+pub refused_remove : {T V : Type 0} (p : TextPolicy T V) (law : IsLawful p) (h : History) (rows : Rows) (user : List ℕ) (e : StoreError T V) → p.takes_remove ≡ true
+    → IsContentOf p h rows → IsContentOf p (after_store_remove h user (Err e)) rows
+refused_remove p law h rows user (Table e) takes held = remove_content p law h rows user held (Err e) takes (λ is. absurd (err_ok e tt is))
+refused_remove p law h rows user DiskFault takes held = held
+refused_remove p law h rows user FileFull takes held = held
+
+-- a user that is there, or isn't
+pub is_there : {T V : Type 0} (p : TextPolicy T V) (text : Option (Bor (List ℕ))) → is_none text ≡ false → remove_answer p (option_copied text) ≡ Ok tt
+is_there p None never = absurd (cc never)
+is_there p (Some text) some = refl
+
+pub is_away : {T V : Type 0} (p : TextPolicy T V) (text : Option (Bor (List ℕ))) → is_none text ≡ true → remove_answer p (option_copied text) ≡ Err refused.NoUser
+is_away p None none = refl
+is_away p (Some text) never = absurd (cc never)
+
+-- the answer where no write has failed
+pub removal_answer : {T V : Type 0} (p : TextPolicy T V) (takes : Bool) (rows : Rows) (size : ℕ) (user : List ℕ) (answer : Result (Unit {0}) (FileError T V)) → takes ≡ true
+    → remove_answer p (text_in rows user) ≡ answer → stored_remove p takes rows size user ≡ set_by (size_changed size user None) answer
+removal_answer p takes rows size user answer opened is =
+    ap (λ (b : Bool). cond b (set_by (size_changed size user None) (remove_answer p (text_in rows user))) (Err DiskFault)) opened
+    ∙ ap (set_by (size_changed size user None)) is
+
+-- and where the user is there, by the room of the file
+pub removal_room : {T V : Type 0} (p : TextPolicy T V) (takes : Bool) (rows : Rows) (size : ℕ) (user : List ℕ) → takes ≡ true
+    → remove_answer p (text_in rows user) ≡ Ok tt → (fits : Bool) → nat_le (size_changed size user None) file_max ≡ fits
+    → stored_remove p takes rows size user ≡ cond fits (Ok tt) (Err FileFull)
+removal_room p takes rows size user opened is fits room =
+    removal_answer p takes rows size user (Ok tt) opened is ∙ ap (λ (b : Bool). cond b (Ok tt) (Err FileFull)) room

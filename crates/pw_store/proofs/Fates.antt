@@ -6,7 +6,7 @@ use Rattle.std.proofs.lemmas.Bool.{and_parts}
 use Rattle.line_io.proofs.Moved.{append-nil}
 use Rattle.line_program.specs.Rules.{StateRules, after_lines, all_good, replies}
 use Rattle.pw_file.specs.Commands.{command}
-use Rattle.pw_file.specs.History.{Reply, Rows, Says, change}
+use Rattle.pw_file.specs.History.{Change, Reply, Rows, Says, change}
 use Rattle.pw_file.specs.Policy.{TextPolicy}
 use Rattle.pw_file.specs.Replies.{is_good, reply_text}
 use Rattle.pw_file.specs.Rules.{changed, table_is_costly, table_reply}
@@ -97,23 +97,23 @@ module _ {T V : Type 0} (p : TextPolicy T V) where
       → change p (line, reply) ≡ None → store_after p (state rows size fate) line ≡ state rows size (next_fate fate)
   unfolding store_after
   same_after rows size fate line reply is none =
-      ap (λ (c : Option (List ℕ × List ℕ)). state (changed rows c) (grown size c) (next_fate fate))
+      ap (λ (c : Option Change). state (changed rows c) (grown size c) (next_fate fate))
       (ap (λ (q : Reply). change p (line, q)) is ∙ none)
 
   -- a line that makes one
-  pub other_after : (rows : Rows) (size : ℕ) (fate : Fate) (line : List ℕ) (reply : Reply) (c : List ℕ × List ℕ) → store_reply p (state rows size fate) line ≡ reply
+  pub other_after : (rows : Rows) (size : ℕ) (fate : Fate) (line : List ℕ) (reply : Reply) (c : Change) → store_reply p (state rows size fate) line ≡ reply
       → change p (line, reply) ≡ Some c → store_after p (state rows size fate) line ≡ state (changed rows (Some c)) (grown size (Some c)) (next_fate fate)
   unfolding store_after
   other_after rows size fate line reply c is some =
-      ap (λ (o : Option (List ℕ × List ℕ)). state (changed rows o) (grown size o) (next_fate fate))
+      ap (λ (o : Option Change). state (changed rows o) (grown size o) (next_fate fate))
       (ap (λ (q : Reply). change p (line, q)) is ∙ some)
 
   -- no write has failed
-  pub open_reply : (rows : Rows) (size : ℕ) (line : List ℕ) (said : Reply) (c : Option (List ℕ × List ℕ)) → table_reply p rows line ≡ said → change p (line, said) ≡ c
+  pub open_reply : (rows : Rows) (size : ℕ) (line : List ℕ) (said : Reply) (c : Option Change) → table_reply p rows line ≡ said → change p (line, said) ≡ c
       → store_reply p (state rows size None) line ≡ where_room size c said
   unfolding store_reply
   open_reply rows size line said c is makes =
-      ap (λ (q : Reply). where_room size (change p (line, q)) q) is ∙ ap (λ (o : Option (List ℕ × List ℕ)). where_room size o said) makes
+      ap (λ (q : Reply). where_room size (change p (line, q)) q) is ∙ ap (λ (o : Option Change). where_room size o said) makes
 
   pub open_lacks : (rows : Rows) (size : ℕ) (line : List ℕ) → table_is_costly p rows line ≡ true → store_lacks p (state rows size None) line ≡ true
   unfolding store_lacks
@@ -131,7 +131,7 @@ module _ {T V : Type 0} (p : TextPolicy T V) where
   other_reply rows size fate line asks none =
       ap (λ (b : Bool). cond (is_broken fate && b) (Says DiskFault) (roomy_reply p (state rows size fate) line)) asks
       ∙ ap (λ (b : Bool). cond b (Says DiskFault) (roomy_reply p (state rows size fate) line)) (and_false (is_broken fate))
-      ∙ ap (λ (o : Option (List ℕ × List ℕ)). where_room size o (table_reply p rows line)) none
+      ∙ ap (λ (o : Option Change). where_room size o (table_reply p rows line)) none
 
   pub other_lacks : (rows : Rows) (size : ℕ) (fate : Fate) (line : List ℕ) → asks_change p line ≡ false → table_is_costly p rows line ≡ true
       → store_lacks p (state rows size fate) line ≡ true

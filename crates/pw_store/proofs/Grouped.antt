@@ -4,16 +4,16 @@ use Rattle.line_log.specs.Log.{AreWhole, IsBeforeOrAfter, IsLine, IsSettled, Sta
 use Rattle.line_log.specs.declared.log.LineLog.{LineLog}
 use Rattle.line_log.proofs.Crash.{only_stands}
 use Rattle.pw_file.specs.Policy.{IsLawful, TextPolicy}
-use Rattle.pw_file.specs.Answers.{set_answer}
+use Rattle.pw_file.specs.Answers.{remove_answer, set_answer}
 use Rattle.pw_file.specs.Commands.{set_line}
 use Rattle.pw_file.specs.Replies.{row_line}
-use Rattle.pw_store.proofs.Lines.{line_is, line_rows}
+use Rattle.pw_store.proofs.Lines.{line_is, line_rows, removal_is, removal_rows}
 use Rattle.line_log.proofs.LogLines.{joined-append, open_lines-joined, open_lines-line, open_lines_are}
-use Rattle.pw_file.specs.Calls.{with_text}
+use Rattle.pw_file.specs.Calls.{with_text, without}
 use Rattle.pw_file.specs.History.{Rows, text_in}
-use Rattle.pw_file.specs.Rules.{table_after}
 use Rattle.pw_store.specs.Staged.{IsStaged, Undoes, rows_in}
-use Rattle.pw_store.specs.Store.{StandsFor, is_taken, recovered_rows, rows_after}
+use Rattle.pw_store.specs.Store.{StandsFor, is_taken, recovered_rows, removal_line, rows_after, rows_with}
+use Rattle.pw_store.specs.Stored.{removal_text}
 
 -- ---- lines
 
@@ -41,15 +41,15 @@ module _ {T V : Type 0} (p : TextPolicy T V) where
       by_same : rows ≡ mid → rows_after p rows more ≡ rows_after p mid more
       by_same same = ap (λ (r : Rows). rows_after p r more) same
   rows_after-append rows (l ∷ ls) more mid is =
-      by_test (is_taken p rows l) refl (λ next. rows_after-append (table_after p rows l) ls more mid next)
+      by_test (is_taken p rows l) refl (λ next. rows_after-append (rows_with p rows l) ls more mid next)
     where
       by_test : (t : Bool) → is_taken p rows l ≡ t
-          → (rows_after p (table_after p rows l) ls ≡ Some mid → rows_after p (table_after p rows l) (ls ++ more) ≡ rows_after p mid more)
+          → (rows_after p (rows_with p rows l) ls ≡ Some mid → rows_after p (rows_with p rows l) (ls ++ more) ≡ rows_after p mid more)
           → rows_after p rows (l ∷ ls ++ more) ≡ rows_after p mid more
       by_test true t next =
-          ap (λ b. cond b (rows_after p (table_after p rows l) (ls ++ more)) None) t
-          ∙ next (sym (ap (λ b. cond b (rows_after p (table_after p rows l) ls) None) t) ∙ is)
-      by_test false t next = absurd (cc (ap (λ b. cond b (rows_after p (table_after p rows l) ls) None) t, is))
+          ap (λ b. cond b (rows_after p (rows_with p rows l) (ls ++ more)) None) t
+          ∙ next (sym (ap (λ b. cond b (rows_after p (rows_with p rows l) ls) None) t) ∙ is)
+      by_test false t next = absurd (cc (ap (λ b. cond b (rows_after p (rows_with p rows l) ls) None) t, is))
 
   pub file_is : (file : List ℕ) (rows : Rows) → recovered_rows p file ≡ Some rows → rows_after p [] (recovered file) ≡ Some rows
   unfolding recovered_rows
@@ -109,6 +109,17 @@ module _ {T V : Type 0} (p : TextPolicy T V) (law : IsLawful p) where
             ∙ rows_after-append p base (open_lines lines) (line ∷ []) rows s.table ∙ line_rows p law rows user text name ok;
         undoes = undo_push base undo rows user text s.undoes;
       }
+
+module _ {T V : Type 0} (p : TextPolicy T V) (law : IsLawful p) (rows : Rows) (user : List ℕ) (name : p.is_name user ≡ true)
+    (takes : p.takes_remove ≡ true) (ok : remove_answer p (text_in rows user) ≡ Ok tt) where
+  -- the line of a removal as a group
+  pub removal_whole : AreWhole (removal_text user)
+  removal_whole = whole_more [] (removal_line user) refl (removal_is p law rows user name takes ok)
+
+  pub removal_opens : rows_after p rows (open_lines (removal_text user)) ≡ Some (without rows user)
+  removal_opens =
+      ap (λ (ls : List (List ℕ)). rows_after p rows ls) (open_lines-line (removal_line user) [] (removal_is p law rows user name takes ok))
+      ∙ removal_rows p law rows user name takes ok
 
 module _ {T V : Type 0} (p : TextPolicy T V) where
   pub with_group : (file lines : List ℕ) (base rows : Rows) → recovered_rows p file ≡ Some base → rows_after p base (open_lines lines) ≡ Some rows

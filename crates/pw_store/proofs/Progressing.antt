@@ -11,7 +11,7 @@ use Rattle.line_log.specs.Device.{LeavesOnly}
 use Rattle.line_log.proofs.Moments.{and_then, weaker}
 use Rattle.line_program.specs.Rules.{after_lines, all_good, replies}
 use Rattle.line_program.proofs.RuleLaws.{after-append, good-last, replies-append, replies-last}
-use Rattle.pw_file.specs.History.{Reply, Rows, change}
+use Rattle.pw_file.specs.History.{Change, Reply, Rows, change}
 use Rattle.pw_file.specs.Policy.{TextPolicy}
 use Rattle.pw_file.specs.Replies.{is_good, reply_text}
 use Rattle.pw_file.specs.Rules.{changed}
@@ -302,7 +302,7 @@ module _ {D T V : Type 0} (p : TextPolicy T V) (seen : D → List ℕ) (may_leav
             }
 
       -- a change waits
-      pub waits : (line : List ℕ) (reply : Reply) (change_is : List ℕ × List ℕ) → asks_change p line ≡ true → is_good reply ≡ true
+      pub waits : (line : List ℕ) (reply : Reply) (change_is : Change) → asks_change p line ≡ true → is_good reply ≡ true
           → store_reply p (state held.rows held.size None) line ≡ reply → change p (line, reply) ≡ Some change_is
           → (held_now : Held D) → held_now.takes ≡ true → held_now.rows ≡ changed held.rows (Some change_is) → held_now.size ≡ grown held.size (Some change_is)
           → held_now.device ≡ held.device → held_now.count ≡ held.count + 1

@@ -1,5 +1,5 @@
 -- The lines of the rows make the same rows again.
-use Rattle.std.proofs.Common.{◌≡◌, ℕ, ◌+◌, ◌*◌, ◌≤◌, suc, Bool, true, false, cond, List, [], ◌∷◌, ◌++◌, length, map, refl, sym, ap, ◌∙◌, subst, arith, append_assoc, Option, Some, None, Result, Ok, Err}
+use Rattle.std.proofs.Common.{◌≡◌, ◌⊎◌, inl, inr, ⊎_elim, ℕ, ◌+◌, ◌≤◌, suc, Bool, true, false, cond, List, [], ◌∷◌, ◌++◌, length, map, refl, sym, ap, ◌∙◌, subst, arith, append_assoc, Option, Some, None, Result, Ok, Err}
 use Rattle.std.specs.Prelude.{nat_le, nat_lt}
 use Rattle.std.specs.List.{flat_map, list_any}
 use Rattle.std.specs.Map.{keys_of}
@@ -10,7 +10,7 @@ use Rattle.stored_check.specs.Verdict.{same_text}
 use Rattle.line_log.specs.Log.{AreWhole, joined, open_lines}
 use Rattle.line_log.proofs.LogLines.{AreLines, open_lines-joined}
 use Rattle.pw_file.specs.Answers.{check_answer, has_room, set_answer, upgrade_answer}
-use Rattle.pw_file.specs.Calls.{with_text}
+use Rattle.pw_file.specs.Calls.{with_text, without}
 use Rattle.pw_file.specs.Commands.{Command, command, set_line}
 use Rattle.pw_file.specs.Commands as of
 use Rattle.pw_file.specs.History.{Rows, Says, change_of, is_done, text_in}
@@ -21,20 +21,24 @@ use Rattle.pw_file.specs.declared.reply.Word.TheVariants.{TooLong}
 use Rattle.pw_file.proofs.Calls.{no_change}
 use Rattle.pw_file.proofs.Distinct.{Distinct, content_distinct, distinct_middle, insert_absent}
 use Rattle.pw_file.proofs.Listed.{command_named}
-use Rattle.pw_store.specs.Store.{is_taken, recovered_rows, rows_after}
-use Rattle.pw_file.proofs.GoodRows.{AreRows, IsRow, rows_inserted}
+use Rattle.pw_store.specs.Store.{as_command, is_taken, recovered_rows, rows_after, rows_with}
+use Rattle.pw_file.proofs.GoodRows.{AreRows, IsRow, rows_inserted, rows_left}
 use Rattle.pw_store.proofs.Contents.{of_file}
 use Rattle.pw_store.proofs.Grouped.{file_is}
 use Rattle.pw_store.proofs.Lines.{good, is_line, line_after, line_taken, no_check, no_upgrade}
 
 module _ {T V : Type 0} (p : TextPolicy T V) (law : IsLawful p) where
-  -- a line that is taken is a `set`
+  -- a `set` that is done
   pub record IsSet (rows : Rows) (line : List ℕ) : Type 0 where
     pub user : List ℕ
     pub text : List ℕ
     pub is : command p line ≡ Some (of.Set user text)
     pub ok : set_answer p (text_in rows user) (length rows) text ≡ Ok tt
     pub name : p.is_name user ≡ true
+
+  -- the command takes a user away
+  abbrev IsRemoval : List ℕ → Type 0
+  IsRemoval line = (user : List ℕ) × (command p line ≡ Some (of.Remove user))
 
   done_ok : (a : Result (Unit {0}) (FileError T V)) → is_done (Says (set_word a)) ≡ true → a ≡ Ok tt
   done_ok (Ok done) h = refl
@@ -43,26 +47,45 @@ module _ {T V : Type 0} (p : TextPolicy T V) (law : IsLawful p) where
   named : (line user text : List ℕ) → command p line ≡ Some (of.Set user text) → p.is_name user ≡ true
   named line user text is = rw is at (command_named p law line)
 
-  pub set_of : (rows : Rows) (line : List ℕ) → is_taken p rows line ≡ true → IsSet rows line
+  -- a command that is answered `ok` is one of these
+  done_by : (rows : Rows) (line : List ℕ) → is_done (table_reply p rows line) ≡ true → IsSet rows line ⊎ IsRemoval line
   unfolding table_reply
-  set_of rows line taken = by_length (nat_lt 8192 (length line)) taken
+  done_by rows line taken = by_length (nat_lt 8192 (length line)) taken
     where
-      by_command : (c : Option Command) → command p line ≡ c → is_done (reply_by p (text_in rows) (length rows) rows c) ≡ true → IsSet rows line
+      by_command : (c : Option Command) → command p line ≡ c → is_done (reply_by p (text_in rows) (length rows) rows c) ≡ true → IsSet rows line ⊎ IsRemoval line
       by_command None is h = absurd (cc h)
       by_command (Some (of.Set user text)) is h =
-          record { user = user; text = text; is = is; ok = done_ok (set_answer p (text_in rows user) (length rows) text) h; name = named line user text is }
+          inl (record { user = user; text = text; is = is; ok = done_ok (set_answer p (text_in rows user) (length rows) text) h; name = named line user text is })
       by_command (Some (of.Check user password)) is h = absurd (cc (sym (no_check p (check_answer p (text_in rows user) password)) ∙ h))
       by_command (Some (of.Upgrade user salt password)) is h = absurd (cc (sym (no_upgrade p (upgrade_answer p (text_in rows user) password salt)) ∙ h))
+      by_command (Some (of.Remove user)) is h = inr (user, is)
       by_command (Some of.Listing) is h = absurd (cc h)
 
-      by_length : (t : Bool) → is_done (cond t (Says TooLong) (reply_by p (text_in rows) (length rows) rows (command p line))) ≡ true → IsSet rows line
+      by_length : (t : Bool) → is_done (cond t (Says TooLong) (reply_by p (text_in rows) (length rows) rows (command p line))) ≡ true → IsSet rows line ⊎ IsRemoval line
       by_length true h = absurd (cc h)
       by_length false h = by_command (command p line) refl h
 
-  pub set_after : (rows : Rows) (line : List ℕ) (taken : is_taken p rows line ≡ true) (s : IsSet rows line) → table_after p rows line ≡ with_text rows s.user s.text
+  set_after : (rows : Rows) (line : List ℕ) (taken : is_done (table_reply p rows line) ≡ true) (s : IsSet rows line) → table_after p rows line ≡ with_text rows s.user s.text
   set_after rows line taken s =
       ap (changed rows) (ap (λ (c : Option Command). change_of c (table_reply p rows line)) s.is
-      ∙ ap (λ b. cond b (Some (s.user, s.text)) None) taken)
+      ∙ ap (λ b. cond b (Some (s.user, Some s.text)) None) taken)
+
+  removal_after : (rows : Rows) (line : List ℕ) (taken : is_done (table_reply p rows line) ≡ true) (r : IsRemoval line) → table_after p rows line ≡ without rows r.0
+  removal_after rows line taken r =
+      ap (changed rows) (ap (λ (c : Option Command). change_of c (table_reply p rows line)) r.1
+      ∙ ap (λ (b : Bool). cond b (Some (r.0, None)) None) taken)
+
+  command_good : (rows : Rows) (line : List ℕ) → AreRows p rows → is_done (table_reply p rows line) ≡ true → AreRows p (table_after p rows line)
+  command_good rows line are taken = ⊎_elim by_set by_removal (done_by rows line taken)
+    where
+      by_set : IsSet rows line → AreRows p (table_after p rows line)
+      by_set s =
+          let g = good p (text_in rows s.user) (length rows) s.text s.ok in
+          subst (AreRows p) (sym (set_after rows line taken s))
+          (rows_inserted p rows s.user s.text are (record { name = s.name; short = g.short; good = g.good }))
+
+      by_removal : IsRemoval line → AreRows p (table_after p rows line)
+      by_removal r = subst (AreRows p) (sym (removal_after rows line taken r)) (rows_left p rows r.0 are)
 
   rows_good : (rows last : Rows) (ls : List (List ℕ)) → AreRows p rows → rows_after p rows ls ≡ Some last → AreRows p last
   rows_good rows last [] are is = by_same (some_same is)
@@ -72,15 +95,12 @@ module _ {T V : Type 0} (p : TextPolicy T V) (law : IsLawful p) where
 
       by_same : rows ≡ last → AreRows p last
       by_same same = subst (AreRows p) same are
-  rows_good rows last (l ∷ ls) are is = by_test (is_taken p rows l) refl (λ next. rows_good (table_after p rows l) last ls next)
+  rows_good rows last (l ∷ ls) are is = by_test (is_taken p rows l) refl (λ next. rows_good (rows_with p rows l) last ls next)
     where
-      by_test : (t : Bool) → is_taken p rows l ≡ t → (AreRows p (table_after p rows l) → rows_after p (table_after p rows l) ls ≡ Some last → AreRows p last) → AreRows p last
+      by_test : (t : Bool) → is_taken p rows l ≡ t → (AreRows p (rows_with p rows l) → rows_after p (rows_with p rows l) ls ≡ Some last → AreRows p last) → AreRows p last
       by_test true t more =
-          let s = set_of rows l t in
-          let g = good p (text_in rows s.user) (length rows) s.text s.ok in
-          let next : AreRows p (with_text rows s.user s.text) = rows_inserted p rows s.user s.text are (record { name = s.name; short = g.short; good = g.good }) in
-          more (subst (AreRows p) (sym (set_after rows l t s)) next) (sym (ap (λ b. cond b (rows_after p (table_after p rows l) ls) None) t) ∙ is)
-      by_test false t more = absurd (cc (ap (λ b. cond b (rows_after p (table_after p rows l) ls) None) t, is))
+          more (command_good rows (as_command l) are t) (sym (ap (λ b. cond b (rows_after p (rows_with p rows l) ls) None) t) ∙ is)
+      by_test false t more = absurd (cc (ap (λ b. cond b (rows_after p (rows_with p rows l) ls) None) t, is))
 
   -- ---- their lines
 
@@ -116,7 +136,7 @@ module _ {T V : Type 0} (p : TextPolicy T V) (law : IsLawful p) where
       let ok = set_ok done row are.0 (omega (arith, size, few)) in
       let taken = line_taken p law done row.0 row.1 are.0.name ok in
       let after = line_after p law done row.0 row.1 are.0.name ok ∙ insert_absent done row.0 row.1 new in
-      ap (λ b. cond b (rows_after p (table_after p done (line_of row)) (map line_of rest)) None) taken
+      ap (λ b. cond b (rows_after p (rows_with p done (line_of row)) (map line_of rest)) None) taken
       ∙ ap (λ (r : Rows). rows_after p r (map line_of rest)) after
       ∙ relisted (done ++ row ∷ []) rest all (append_assoc done (row ∷ []) rest ∙ is) are.1 d few
     where

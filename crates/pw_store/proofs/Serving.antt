@@ -11,7 +11,7 @@ use Rattle.line_log.specs.Device.{LeavesOnly}
 use Rattle.line_log.specs.Log.{IsSettled}
 use Rattle.line_log.specs.declared.log.LineLog.{LineLog}
 use Rattle.pw_file.specs.Answers.{set_answer, upgrade_may_lack}
-use Rattle.pw_file.specs.Calls.{with_text}
+use Rattle.pw_file.specs.Calls.{with_change, with_text, without}
 use Rattle.pw_file.specs.Commands as of
 use Rattle.pw_file.specs.History.{Reply, Rows, Says, change, change_of, text_in}
 use Rattle.pw_file.specs.Lines.{Asks}
@@ -28,12 +28,12 @@ use Rattle.pw_store.specs.Progress.{Begun, Held, IsReady, IsRefusal, Lacks, Prog
 use Rattle.pw_store.specs.Run.{asks_change, is_change, state, store_lacks, store_reply}
 use Rattle.pw_store.specs.Staged.{IsStaged, lines_of, rows_in, undo_of}
 use Rattle.pw_store.specs.Store.{StandsFor, recovered_rows}
-use Rattle.pw_store.specs.Stored.{IsSound, IsStored, is_disk_fault, is_unwritten_upgrade, rows_after_store_upgrade, rows_of, size_after, size_after_store_upgrade, stored_set, stored_upgrade}
+use Rattle.pw_store.specs.Stored.{IsSound, IsStored, is_disk_fault, is_unwritten_set, is_unwritten_upgrade, rows_after_store_upgrade, rows_of, size_after, size_after_store_remove, size_after_store_upgrade, size_changed, stored_remove, stored_set, stored_upgrade}
 use Rattle.pw_store.specs.declared.error.StoreError.{StoreError}
 use Rattle.pw_store.specs.declared.error.StoreError.TheVariants.{Table, DiskFault, FileFull}
 use Rattle.pw_store.specs.declared.group.Group.{Group}
 use Rattle.pw_store.specs.declared.store.Store.{Store}
-use Rattle.pw_store.proofs.Answering.{Changes, Refuses, set_refuses, told_err, told_false, told_true}
+use Rattle.pw_store.proofs.Answering.{Changes, Refuses, removed_says, set_refuses, told_err, told_false, told_true, unremoved_says}
 use Rattle.pw_store.proofs.Fates.{broken_reply, not_both, open_lacks, other_lacks, other_reply}
 use Rattle.pw_store.proofs.Progressing.{answered, failed, held_as, put_nothing, settled, waits}
 
@@ -62,6 +62,7 @@ kept_change None reply is = refl
 kept_change (Some (of.Set user text)) reply is = absurd (cc is)
 kept_change (Some (of.Check user password)) reply is = refl
 kept_change (Some (of.Upgrade user salt password)) reply is = absurd (cc is)
+kept_change (Some (of.Remove user)) reply is = absurd (cc is)
 kept_change (Some of.Listing) reply is = refl
 
 pub no_change_asked : {T V : Type 0} (p : TextPolicy T V) (line : List ℕ) (reply : Reply) → length line ≤ line_max → asks_change p line ≡ false → change p (line, reply) ≡ None
@@ -130,6 +131,19 @@ pub set_refused : {T V : Type 0} (p : TextPolicy T V) (takes : Bool) (rows : Row
 set_refused p true rows size line user text asks e opened answer = set_refuses p rows size line user text asks e answer
 set_refused p false rows size line user text asks e opened answer = absurd (cc opened)
 
+pub remove_open : {T V : Type 0} (p : TextPolicy T V) (takes : Bool) (rows : Rows) (size : ℕ) (user : List ℕ) (f g : ℕ)
+    → IsStored (stored_remove p takes rows size user) false (Ok tt) f g (Ok tt) → takes ≡ true
+remove_open p true rows size user f g is = refl
+remove_open p false rows size user f g (inl is) = absurd (cc is)
+remove_open p false rows size user f g (inr (inl (is, more))) = absurd (cc is)
+remove_open p false rows size user f g (inr (inr (is, more, risen))) = absurd (cc is)
+
+-- the size after a removal, beside no bytes that wait
+pub size_away : {T V : Type 0} (p : TextPolicy T V) (user : List ℕ) (size size_now waiting : ℕ) (result : Result (Unit {0}) (StoreError T V)) → waiting ≡ 0
+    → size_now ≡ size_after_store_remove size user result → size_now + waiting ≡ size_after_store_remove (size + waiting) user result
+size_away p user size size_now waiting (Ok done) none is = omega (arith, none, is)
+size_away p user size size_now waiting (Err e) none is = omega (arith, none, is)
+
 -- the size after an upgrade, beside no bytes that wait
 pub size_with : {T V : Type 0} (p : TextPolicy T V) (user password salt : List ℕ) (size size_now waiting : ℕ) (result : Result Bool (StoreError T V)) → waiting ≡ 0
     → size_now ≡ size_after_store_upgrade size user password salt result → size_now + waiting ≡ size_after_store_upgrade (size + waiting) user password salt result
@@ -143,6 +157,12 @@ not_fault : {T V : Type 0} (p : TextPolicy T V) (rows : Rows) (size : ℕ) (line
 not_fault p rows size line (Table e) has = (refl, refl)
 not_fault p rows size line FileFull has = (refl, refl)
 not_fault p rows size line DiskFault never = absurd never
+
+no_fault_of : {T V : Type 0} (p : TextPolicy T V) (rows : Rows) (size : ℕ) (line : List ℕ) (e : StoreError T V) → Refuses p rows size line e
+    → (is_disk_fault {A = Unit {0}} (Err e) ≡ false) × (is_unwritten_set {A = Unit {0}} (Err e) ≡ true)
+no_fault_of p rows size line (Table e) has = (refl, refl)
+no_fault_of p rows size line FileFull has = (refl, refl)
+no_fault_of p rows size line DiskFault never = absurd never
 
 long_asks : {T V : Type 0} (p : TextPolicy T V) (line : List ℕ) → line_max < length line → asks_change p line ≡ false
 unfolding asks_change
@@ -186,11 +206,11 @@ module _ {D T V : Type 0} (p : TextPolicy T V) (seen : D → List ℕ) (may_leav
 
   -- a `set` that waits
   pub set_waits : (asked : List (List ℕ)) (held : Held D) (out : OutputBuffer) (written : Option (List ℕ)) (faults : ℕ) (all : Bool) → Runs asked held out written faults all
-      → held.takes ≡ true → (line user text : List ℕ) → asks_change p line ≡ true → Changes p held.rows held.size line (Says w.Done) (user, text)
+      → held.takes ≡ true → (line user text : List ℕ) → asks_change p line ≡ true → Changes p held.rows held.size line (Says w.Done) (user, Some text)
       → (held_now : Held D) → held_now.takes ≡ held.takes → held_now.rows ≡ with_text held.rows user text → held_now.size ≡ size_after held.size user text
       → held_now.device ≡ held.device → held_now.count ≡ held.count + 1 → Runs (asked ++ line ∷ []) held_now out written faults (all && true)
   set_waits asked held out written faults all so_far opened line user text asks changes held_now still rows size device count =
-      let more = waits p seen may_leave moment left_since disk_faults from asked held (oks held.count) out written faults all so_far opened line (Says w.Done) (user, text) asks refl changes.0 changes.1
+      let more = waits p seen may_leave moment left_since disk_faults from asked held (oks held.count) out written faults all so_far opened line (Says w.Done) (user, Some text) asks refl changes.0 changes.1
       held_now (still ∙ opened) rows size device count in
       let next : held_now.count ≡ suc held.count = omega (arith, count) in
       held_as p seen may_leave moment left_since disk_faults from (asked ++ line ∷ []) held_now (oks held.count ++ reply_text (Says w.Done)) out written faults (all && true) more
@@ -291,43 +311,44 @@ module _ {D T V : Type 0} (p : TextPolicy T V) (seen : D → List ℕ) (may_leav
       λ size. other_lacks p held.rows size (fate_now held.takes) line asks may,
     )
 
-    -- ---- an upgrade
+    -- ---- a change that is a group of its own
 
-    module _ (opened : held.takes ≡ true) (line user text : List ℕ) (asks : asks_change p line ≡ true) (changes : Changes p held.rows held.size line (Says w.Upgraded) (user, text))
+    module _ (opened : held.takes ≡ true) (line : List ℕ) (word : Word) (good : is_good_word word ≡ true) (user : List ℕ) (new : Option (List ℕ)) (asks : asks_change p line ≡ true)
+        (changes : Changes p held.rows held.size line (Says word) (user, new))
         (file : rows_in p (seen held.device) ≡ held.rows) (held_now : Held D) (none_now : held_now.count ≡ 0)
-        (crash : LeavesOnly moment left_since held.device held_now.device (λ c. StandsFor p held.rows c ⊎ StandsFor p (with_text held.rows user text) c)) where
+        (crash : LeavesOnly moment left_since held.device held_now.device (λ c. StandsFor p held.rows c ⊎ StandsFor p (with_change held.rows user new) c)) where
       change_waits : Progress p seen may_leave moment left_since disk_faults from (asked ++ line ∷ [])
-          (record { takes = true; rows = with_text held.rows user text; size = size_after held.size user text; device = held.device; count = held.count + 1 })
-          (reply_text (Says w.Upgraded)) out written faults (all && true)
-      change_waits = waits p seen may_leave moment left_since disk_faults from asked held [] out written faults all so_far opened line (Says w.Upgraded) (user, text) asks refl changes.0 changes.1
-          (record { takes = true; rows = with_text held.rows user text; size = size_after held.size user text; device = held.device; count = held.count + 1 }) refl refl refl refl refl
+          (record { takes = true; rows = with_change held.rows user new; size = size_changed held.size user new; device = held.device; count = held.count + 1 })
+          (reply_text (Says word)) out written faults (all && true)
+      change_waits = waits p seen may_leave moment left_since disk_faults from asked held [] out written faults all so_far opened line (Says word) (user, new) asks good changes.0 changes.1
+          (record { takes = true; rows = with_change held.rows user new; size = size_changed held.size user new; device = held.device; count = held.count + 1 }) refl refl refl refl refl
 
-      crash_is : LeavesOnly moment left_since held.device held_now.device (λ c. StandsFor p (rows_in p (seen held.device)) c ⊎ StandsFor p (with_text held.rows user text) c)
-      crash_is = subst (λ (r : Rows). LeavesOnly moment left_since held.device held_now.device (λ c. StandsFor p r c ⊎ StandsFor p (with_text held.rows user text) c)) (sym file) crash
+      crash_is : LeavesOnly moment left_since held.device held_now.device (λ c. StandsFor p (rows_in p (seen held.device)) c ⊎ StandsFor p (with_change held.rows user new) c)
+      crash_is = subst (λ (r : Rows). LeavesOnly moment left_since held.device held_now.device (λ c. StandsFor p r c ⊎ StandsFor p (with_change held.rows user new) c)) (sym file) crash
 
-      pub upgrade_done : held_now.takes ≡ true → held_now.rows ≡ with_text held.rows user text → held_now.size ≡ size_after held.size user text
+      pub alone_done : held_now.takes ≡ true → held_now.rows ≡ with_change held.rows user new → held_now.size ≡ size_changed held.size user new
           → rows_in p (seen held_now.device) ≡ held_now.rows → disk_faults held.device ≤ disk_faults held_now.device
-          → Puts written written_now faults faults_now out out_now (reply_text (Says w.Upgraded))
+          → Puts written written_now faults faults_now out out_now (reply_text (Says word))
           → Runs (asked ++ line ∷ []) held_now out_now written_now faults_now (all && true)
-      upgrade_done still rows size file_now count put =
+      alone_done still rows size file_now count put =
           none_owed (asked ++ line ∷ []) held_now out_now written_now faults_now (all && true) none_now
           (settled p seen may_leave moment left_since disk_faults from (asked ++ line ∷ [])
-          (record { takes = true; rows = with_text held.rows user text; size = size_after held.size user text; device = held.device; count = held.count + 1 })
-          (reply_text (Says w.Upgraded)) out written faults (all && true) change_waits refl held_now none_now out_now written_now faults_now crash_is still rows size file_now count put)
+          (record { takes = true; rows = with_change held.rows user new; size = size_changed held.size user new; device = held.device; count = held.count + 1 })
+          (reply_text (Says word)) out written faults (all && true) change_waits refl held_now none_now out_now written_now faults_now crash_is still rows size file_now count put)
 
-      pub upgrade_failed : held_now.takes ≡ false → held_now.rows ≡ held.rows
-          → ((c : List ℕ) → may_leave held_now.device c → StandsFor p held.rows c ⊎ StandsFor p (with_text held.rows user text) c)
+      pub alone_failed : held_now.takes ≡ false → held_now.rows ≡ held.rows
+          → ((c : List ℕ) → may_leave held_now.device c → StandsFor p held.rows c ⊎ StandsFor p (with_change held.rows user new) c)
           → HasRisen (disk_faults held.device) (disk_faults held_now.device) → disk_faults held.device ≤ disk_faults held_now.device
           → Puts written written_now faults faults_now out out_now (reply_text (Says w.DiskFault))
           → Runs (asked ++ line ∷ []) held_now out_now written_now faults_now (all && false)
-      upgrade_failed broken rows left risen count put =
+      alone_failed broken rows left risen count put =
           let one : held.count + 1 ≡ suc zero = omega (arith, none) in
           none_owed (asked ++ line ∷ []) held_now out_now written_now faults_now (all && false) none_now
           (failed p seen may_leave moment left_since disk_faults from (asked ++ line ∷ [])
-          (record { takes = true; rows = with_text held.rows user text; size = size_after held.size user text; device = held.device; count = held.count + 1 })
-          (reply_text (Says w.Upgraded)) out written faults (all && true) change_waits refl held_now none_now out_now written_now faults_now crash_is
+          (record { takes = true; rows = with_change held.rows user new; size = size_changed held.size user new; device = held.device; count = held.count + 1 })
+          (reply_text (Says word)) out written faults (all && true) change_waits refl held_now none_now out_now written_now faults_now crash_is
           (all && false) broken (rows ∙ sym file) (omega arith)
-          (λ c has. subst (λ (r : Rows). StandsFor p r c ⊎ StandsFor p (with_text held.rows user text) c) (sym file) (left c has))
+          (λ c has. subst (λ (r : Rows). StandsFor p r c ⊎ StandsFor p (with_change held.rows user new) c) (sym file) (left c has))
           risen count (subst (λ (n : ℕ). Puts written written_now faults faults_now out out_now (words n w.DiskFault)) (sym one) put))
 
   -- ---- what `upgrade` answers
@@ -361,7 +382,7 @@ module _ {D T V : Type 0} (p : TextPolicy T V) (seen : D → List ℕ) (may_leav
         (subst (λ (m : Bool). IsStored (stored_upgrade p held.takes held.rows held.size user password salt) m (Ok true) (disk_faults held.device) (disk_faults held_now.device) (Ok true)) same answer) in
         let changes = told_true p held.rows held.size line user salt password asks (disk_faults held.device) (disk_faults held_now.device) answer_open in
         let still : held_now.takes ≡ true = takes ∙ ap (λ (b : Bool). b && true) opened in
-        upgrade_done asked held out written faults all so_far none out_now written_now faults_now opened line user (upgraded_text password salt) upgrade_asks changes (file opened) held_now idle_now
+        alone_done asked held out written faults all so_far none out_now written_now faults_now opened line w.Upgraded refl user (Some (upgraded_text password salt)) upgrade_asks changes (file opened) held_now idle_now
         (crash opened) still rows (size still) (file_now still) count put
     upgrade_answered may false answer same takes rows size file_now crash unwritten put =
         let opened : held.takes ≡ true = upgrade_open p held.takes held.rows held.size user password salt may (disk_faults held.device) (disk_faults held_now.device) false answer in
@@ -401,7 +422,7 @@ module _ {D T V : Type 0} (p : TextPolicy T V) (seen : D → List ℕ) (may_leav
             refusal_served asked held_now out written faults all mid idle_now out_now written_now faults_now true still line e result upgrade_asks
             (λ opened. refuses_as p held.rows held_now.rows held.size held_now.size line e rows (size still) refuses) word is put answered_so
 
-        by_fault : (e ≡ DiskFault) × (HasRisen (disk_faults held.device) (disk_faults held_now.device) × Changes p held.rows held.size line (Says w.Upgraded) (user, upgraded_text password salt))
+        by_fault : (e ≡ DiskFault) × (HasRisen (disk_faults held.device) (disk_faults held_now.device) × Changes p held.rows held.size line (Says w.Upgraded) (user, Some (upgraded_text password salt)))
             → Served p held_now.rows held_now.takes (λ asked all. Runs asked held_now out_now written_now faults_now all) asked all line result
         by_fault (fault, (risen, changes)) =
             let broken : held_now.takes ≡ false = takes ∙ ap (λ (b : Bool). b && not (is_disk_fault {A = Bool} (Err e))) opened
@@ -409,11 +430,77 @@ module _ {D T V : Type 0} (p : TextPolicy T V) (seen : D → List ℕ) (may_leav
             let word_is : word ≡ Some w.DiskFault = is ∙ ap (λ (b : Bool). refusal_of b e) broken in
             let answer_is : result ≡ Ok false = subst (λ (o : Option Word). IsRefusal o result) word_is answered_so in
             subst (λ (r : Result Bool E). Served p held_now.rows held_now.takes (λ asked all. Runs asked held_now out_now written_now faults_now all) asked all line r) (sym answer_is)
-            (upgrade_failed asked held out written faults all so_far none out_now written_now faults_now opened line user (upgraded_text password salt) upgrade_asks changes (file opened) held_now idle_now
+            (alone_failed asked held out written faults all so_far none out_now written_now faults_now opened line w.Upgraded refl user (Some (upgraded_text password salt)) upgrade_asks changes (file opened) held_now idle_now
             (crash opened) broken rows (left opened) risen count
             (subst (λ (o : Option Word). Puts written written_now faults faults_now out out_now (refusal_text o)) word_is put))
     upgrade_refused {E} false closed may e result answer same takes rows size crash left unwritten closed_device word is put answered_so =
         let still : held_now.takes ≡ false = takes ∙ ap (λ (b : Bool). b && not (is_disk_fault {A = Bool} (Err e))) closed in
         let mid = held_as p seen may_leave moment left_since disk_faults from asked held [] out written faults all so_far held_now [] (still ∙ sym closed) rows size (closed_device closed) none_now refl in
         refusal_served asked held_now out written faults all mid idle_now out_now written_now faults_now false still line e result upgrade_asks
+        (λ opened. not_both held_now.takes opened still) word is put answered_so
+
+  -- ---- what `remove` answers
+
+  module _ (asked : List (List ℕ)) (held : Held D) (out : OutputBuffer) (written : Option (List ℕ)) (faults : ℕ) (all : Bool)
+      (so_far : Progress p seen may_leave moment left_since disk_faults from asked held [] out written faults all) (none : held.count ≡ 0)
+      (line user : List ℕ) (asks : Asks p line (of.Remove user)) (file : held.takes ≡ true → rows_in p (seen held.device) ≡ held.rows)
+      (held_now : Held D) (none_now : held_now.count ≡ held.count) (out_now : OutputBuffer) (written_now : Option (List ℕ)) (faults_now : ℕ)
+      (count : disk_faults held.device ≤ disk_faults held_now.device) where
+    remove_asks : asks_change p line ≡ true
+    remove_asks = asks_is p line (Some (of.Remove user)) asks.0 asks.1
+
+    idle_then : held_now.count ≡ 0
+    idle_then = none_now ∙ none
+
+    pub remove_answered : IsStored (stored_remove p held.takes held.rows held.size user) false (Ok tt) (disk_faults held.device) (disk_faults held_now.device) (Ok tt)
+        → held_now.takes ≡ held.takes && not (is_disk_fault {A = Unit {0}} {T = T} {V = V} (Ok tt)) → held_now.rows ≡ without held.rows user
+        → (held_now.takes ≡ true → held_now.size ≡ size_changed held.size user None)
+        → (held_now.takes ≡ true → rows_in p (seen held_now.device) ≡ held_now.rows)
+        → (held.takes ≡ true → LeavesOnly moment left_since held.device held_now.device (λ c. StandsFor p held.rows c ⊎ StandsFor p (without held.rows user) c))
+        → Puts written written_now faults faults_now out out_now (reply_text (Says w.Done))
+        → Runs (asked ++ line ∷ []) held_now out_now written_now faults_now (all && true)
+    remove_answered answer takes rows size file_now crash put =
+        let opened : held.takes ≡ true = remove_open p held.takes held.rows held.size user (disk_faults held.device) (disk_faults held_now.device) answer in
+        let answer_open = subst (λ (b : Bool). IsStored (stored_remove p b held.rows held.size user) false (Ok tt) (disk_faults held.device) (disk_faults held_now.device) (Ok tt)) opened answer in
+        let changes = removed_says p held.rows held.size line user asks (disk_faults held.device) (disk_faults held_now.device) answer_open in
+        let still : held_now.takes ≡ true = takes ∙ ap (λ (b : Bool). b && true) opened in
+        alone_done asked held out written faults all so_far none out_now written_now faults_now opened line w.Done refl user None remove_asks changes (file opened) held_now idle_then
+        (crash opened) still rows (size still) (file_now still) count put
+
+    pub remove_refused : {E : Type 0} (takes_before : Bool) → held.takes ≡ takes_before → (e : StoreError T V) (result : Result Bool E)
+        → IsStored (stored_remove p held.takes held.rows held.size user) false (Ok tt) (disk_faults held.device) (disk_faults held_now.device) (Err e)
+        → held_now.takes ≡ held.takes && not (is_disk_fault {A = Unit {0}} (Err e)) → held_now.rows ≡ held.rows
+        → (held_now.takes ≡ true → held_now.size ≡ held.size)
+        → (held.takes ≡ true → LeavesOnly moment left_since held.device held_now.device (λ c. StandsFor p held.rows c ⊎ StandsFor p (without held.rows user) c))
+        → (held.takes ≡ true → (c : List ℕ) → may_leave held_now.device c → StandsFor p held.rows c ⊎ StandsFor p (without held.rows user) c)
+        → (is_unwritten_set {A = Unit {0}} (Err e) ≡ true → held_now.device ≡ held.device) → (held.takes ≡ false → held_now.device ≡ held.device)
+        → (word : Option Word) → word ≡ refusal_of held_now.takes e → Puts written written_now faults faults_now out out_now (refusal_text word) → IsRefusal word result
+        → Served p held_now.rows held_now.takes (λ asked all. Runs asked held_now out_now written_now faults_now all) asked all line result
+    remove_refused {E} true opened e result answer takes rows size crash left unwritten closed_device word is put answered_so =
+        let answer_open = subst (λ (b : Bool). IsStored (stored_remove p b held.rows held.size user) false (Ok tt) (disk_faults held.device) (disk_faults held_now.device) (Err e)) opened answer in
+        ⊎_elim by_refusal by_fault (unremoved_says p held.rows held.size line user asks e (disk_faults held.device) (disk_faults held_now.device) answer_open)
+      where
+        by_refusal : Refuses p held.rows held.size line e → Served p held_now.rows held_now.takes (λ asked all. Runs asked held_now out_now written_now faults_now all) asked all line result
+        by_refusal refuses =
+            let kind = no_fault_of p held.rows held.size line e refuses in
+            let still : held_now.takes ≡ true = takes ∙ ap (λ (b : Bool). b && not (is_disk_fault {A = Unit {0}} (Err e))) opened ∙ ap not kind.0 in
+            let mid = held_as p seen may_leave moment left_since disk_faults from asked held [] out written faults all so_far held_now [] (still ∙ sym opened) rows size (unwritten kind.1) none_now refl in
+            refusal_served asked held_now out written faults all mid idle_then out_now written_now faults_now true still line e result remove_asks
+            (λ opened. refuses_as p held.rows held_now.rows held.size held_now.size line e rows (size still) refuses) word is put answered_so
+
+        by_fault : (e ≡ DiskFault) × (HasRisen (disk_faults held.device) (disk_faults held_now.device) × Changes p held.rows held.size line (Says w.Done) (user, None))
+            → Served p held_now.rows held_now.takes (λ asked all. Runs asked held_now out_now written_now faults_now all) asked all line result
+        by_fault (fault, (risen, changes)) =
+            let broken : held_now.takes ≡ false = takes ∙ ap (λ (b : Bool). b && not (is_disk_fault {A = Unit {0}} (Err e))) opened
+            ∙ ap (λ (x : StoreError T V). not (is_disk_fault {A = Unit {0}} (Err x))) fault in
+            let word_is : word ≡ Some w.DiskFault = is ∙ ap (λ (b : Bool). refusal_of b e) broken in
+            let answer_is : result ≡ Ok false = subst (λ (o : Option Word). IsRefusal o result) word_is answered_so in
+            subst (λ (r : Result Bool E). Served p held_now.rows held_now.takes (λ asked all. Runs asked held_now out_now written_now faults_now all) asked all line r) (sym answer_is)
+            (alone_failed asked held out written faults all so_far none out_now written_now faults_now opened line w.Done refl user None remove_asks changes (file opened) held_now idle_then
+            (crash opened) broken rows (left opened) risen count
+            (subst (λ (o : Option Word). Puts written written_now faults faults_now out out_now (refusal_text o)) word_is put))
+    remove_refused {E} false closed e result answer takes rows size crash left unwritten closed_device word is put answered_so =
+        let still : held_now.takes ≡ false = takes ∙ ap (λ (b : Bool). b && not (is_disk_fault {A = Unit {0}} (Err e))) closed in
+        let mid = held_as p seen may_leave moment left_since disk_faults from asked held [] out written faults all so_far held_now [] (still ∙ sym closed) rows size (closed_device closed) none_now refl in
+        refusal_served asked held_now out written faults all mid idle_then out_now written_now faults_now false still line e result remove_asks
         (λ opened. not_both held_now.takes opened still) word is put answered_so

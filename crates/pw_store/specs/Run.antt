@@ -13,13 +13,13 @@ use Rattle.line_program.specs.Outcome.{Outcome}
 use Rattle.line_program.specs.Rules.{StateRules, after_lines, from_state, replies}
 use Rattle.pw_file.specs.Commands.{Command, command}
 use Rattle.pw_file.specs.Commands as of
-use Rattle.pw_file.specs.History.{History, Reply, Rows, Says, change}
+use Rattle.pw_file.specs.History.{Change, History, Reply, Rows, Says, change}
 use Rattle.pw_file.specs.Policy.{TextPolicy}
 use Rattle.pw_file.specs.Replies.{is_good, reply_text}
 use Rattle.pw_file.specs.Rules.{changed, table_is_costly, table_reply}
 use Rattle.pw_file.specs.declared.reply.Word.TheVariants.{DiskFault, FileFull}
 use Rattle.pw_store.specs.Store.{StandsFor}
-use Rattle.pw_store.specs.Stored.{size_after}
+use Rattle.pw_store.specs.Stored.{size_changed}
 
 -- ---- the state of a run
 
@@ -51,12 +51,13 @@ state rows size fate = record { rows = rows; size = size; fate = fate }
 
 -- ---- replies
 
--- `set` and `upgrade` change the table
+-- `set`, `upgrade` and `remove` change the table
 abbrev pub is_change : Option Command → Bool
 is_change None = false
 is_change (Some (of.Set user text)) = true
 is_change (Some (of.Check user password)) = false
 is_change (Some (of.Upgrade user salt password)) = true
+is_change (Some (of.Remove user)) = true
 is_change (Some of.Listing) = false
 
 -- the line is one of these commands
@@ -64,14 +65,14 @@ unfoldable pub asks_change : {T V : Type 0} → TextPolicy T V → List ℕ → 
 asks_change p line = if nat_lt line_max (length line) then false else is_change (command p line)
 
 -- the bytes of the header and the lines after a change, if there is one
-abbrev pub grown : ℕ → Option (List ℕ × List ℕ) → ℕ
+abbrev pub grown : ℕ → Option Change → ℕ
 grown size None = size
-grown size (Some c) = size_after size c.0 c.1
+grown size (Some c) = size_changed size c.0 c.1
 
 -- the reply, where the file has room for the change that goes with it
-abbrev pub where_room : ℕ → Option (List ℕ × List ℕ) → Reply → Reply
+abbrev pub where_room : ℕ → Option Change → Reply → Reply
 where_room size None reply = reply
-where_room size (Some c) reply = if nat_le (size_after size c.0 c.1) file_max then reply else Says FileFull
+where_room size (Some c) reply = if nat_le (size_changed size c.0 c.1) file_max then reply else Says FileFull
 
 -- the reply of the table to a line, where the file has room
 abbrev pub roomy_reply : {T V : Type 0} → TextPolicy T V → State → List ℕ → Reply

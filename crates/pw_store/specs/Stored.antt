@@ -1,10 +1,10 @@
 -- What a store holds, and what it answers to a change.
-use Rattle.std.specs.Prelude.{◌≡◌, ◌⊎◌, ℕ, ◌+◌, Bool, true, false, List, length, map, nat_le, not, if◌then◌else◌}
-use Rattle.std.specs.Prelude.{Some, Result, Ok, Err}
+use Rattle.std.specs.Prelude.{◌≡◌, ◌⊎◌, ℕ, ◌+◌, ◌++◌, ◌∷◌, [], Bool, true, false, List, length, map, nat_le, not, if◌then◌else◌}
+use Rattle.std.specs.Prelude.{Option, None, Some, Result, Ok, Err}
 use Rattle.pieces.specs.FaultCounts.{HasRisen}
 use Rattle.line_log.specs.Log.{IsSettled, file_max}
-use Rattle.pw_file.specs.Answers.{set_answer, upgrade_answer}
-use Rattle.pw_file.specs.Calls.{after_set, after_upgrade, with_text}
+use Rattle.pw_file.specs.Answers.{remove_answer, set_answer, upgrade_answer}
+use Rattle.pw_file.specs.Calls.{after_remove, after_set, after_upgrade, with_text, without}
 use Rattle.pw_file.specs.Commands.{set_line}
 use Rattle.pw_file.specs.History.{History, Rows, text_in}
 use Rattle.pw_file.specs.Replies.{row_line}
@@ -12,7 +12,7 @@ use Rattle.pw_file.specs.Policy.{TextPolicy}
 use Rattle.pw_file.specs.Upgraded.{upgraded_text}
 use Rattle.pw_file.specs.declared.error.FileError.{FileError}
 use Rattle.pw_file.specs.declared.error.FileError.TheVariants.{OutOfMemory}
-use Rattle.pw_store.specs.Store.{recovered_rows}
+use Rattle.pw_store.specs.Store.{recovered_rows, removal_line}
 use Rattle.pw_store.specs.declared.error.StoreError.{StoreError}
 use Rattle.pw_store.specs.declared.error.StoreError.TheVariants.{Table, DiskFault, FileFull}
 use Rattle.pw_store.specs.declared.store.Store.{Store}
@@ -49,7 +49,7 @@ lines_of_rows rows = map (λ row. set_line row.0 row.1) rows
 abbrev pub by_file : {A T V : Type 0} → ℕ → A → Result A (StoreError T V)
 by_file size a = if nat_le size file_max then Ok a else Err FileFull
 
--- the answer of `set`, by what that of the table is
+-- the answer of `set` or of `remove`, by what that of the table is
 abbrev pub set_by : {T V : Type 0} → ℕ → Result (Unit {0}) (FileError T V) → Result (Unit {0}) (StoreError T V)
 set_by size (Ok done) = by_file size tt
 set_by size (Err e) = Err (Table e)
@@ -64,10 +64,24 @@ upgrade_by size (Err e) = Err (Table e)
 abbrev pub size_after : ℕ → List ℕ → List ℕ → ℕ
 size_after size user text = size + length (row_line (user, text))
 
+-- the line of a removal with its line feed
+abbrev pub removal_text : List ℕ → List ℕ
+removal_text user = removal_line user ++ 10 ∷ []
+
+-- the bytes of header and lines after a change: the user has the text, or is taken away
+abbrev pub size_changed : ℕ → List ℕ → Option (List ℕ) → ℕ
+size_changed size user (Some text) = size_after size user text
+size_changed size user None = size + length (removal_text user)
+
 -- the answer of `set` over the rows, where changes are taken or aren't
 abbrev pub stored_set : {T V : Type 0} → TextPolicy T V → Bool → Rows → ℕ → List ℕ → List ℕ → Result (Unit {0}) (StoreError T V)
 stored_set p takes rows size user text =
     if takes then set_by (size_after size user text) (set_answer p (text_in rows user) (length rows) text) else Err DiskFault
+
+-- the answer of `remove` over the rows
+abbrev pub stored_remove : {T V : Type 0} → TextPolicy T V → Bool → Rows → ℕ → List ℕ → Result (Unit {0}) (StoreError T V)
+stored_remove p takes rows size user =
+    if takes then set_by (size_changed size user None) (remove_answer p (text_in rows user)) else Err DiskFault
 
 -- the answer of `upgrade` over the rows
 abbrev pub stored_upgrade : {T V : Type 0} → TextPolicy T V → Bool → Rows → ℕ → List ℕ → List ℕ → List ℕ
@@ -112,10 +126,20 @@ rows_after_store_upgrade rows user password salt (Ok true) = with_text rows user
 rows_after_store_upgrade rows user password salt (Ok false) = rows
 rows_after_store_upgrade rows user password salt (Err e) = rows
 
+-- the rows after `remove`: changed where it is done
+abbrev pub rows_after_store_remove : {T V : Type 0} → Rows → List ℕ → Result (Unit {0}) (StoreError T V) → Rows
+rows_after_store_remove rows user (Ok done) = without rows user
+rows_after_store_remove rows user (Err e) = rows
+
 -- the bytes of header and lines after `set`
 abbrev pub size_after_store_set : {T V : Type 0} → ℕ → List ℕ → List ℕ → Result (Unit {0}) (StoreError T V) → ℕ
 size_after_store_set size user text (Ok done) = size_after size user text
 size_after_store_set size user text (Err e) = size
+
+-- after `remove`
+abbrev pub size_after_store_remove : {T V : Type 0} → ℕ → List ℕ → Result (Unit {0}) (StoreError T V) → ℕ
+size_after_store_remove size user (Ok done) = size_changed size user None
+size_after_store_remove size user (Err e) = size
 
 -- and after `upgrade`
 abbrev pub size_after_store_upgrade : {T V : Type 0} → ℕ → List ℕ → List ℕ → List ℕ → Result Bool (StoreError T V) → ℕ
@@ -134,3 +158,9 @@ abbrev pub after_store_upgrade : {T V : Type 0} → History → List ℕ → Lis
 after_store_upgrade {T} {V} h user password salt (Ok b) = after_upgrade {T = T} {V = V} h user password salt (Ok b)
 after_store_upgrade {T} {V} h user password salt (Err (Table e)) = after_upgrade {T = T} {V = V} h user password salt (Err e)
 after_store_upgrade {T} {V} h user password salt (Err e) = h
+
+-- a history after `remove`
+abbrev pub after_store_remove : {T V : Type 0} → History → List ℕ → Result (Unit {0}) (StoreError T V) → History
+after_store_remove {T} {V} h user (Ok done) = after_remove {T = T} {V = V} h user (Ok tt)
+after_store_remove {T} {V} h user (Err (Table e)) = after_remove {T = T} {V = V} h user (Err e)
+after_store_remove {T} {V} h user (Err e) = h

@@ -106,6 +106,32 @@ impl<D: Device, P: Policy> Store<D, P> {
         }
     }
 
+    /// Answers a `remove`.
+    fn serve_remove<K: Sink>(
+        &mut self,
+        group: &mut Group<P>,
+        user: &UserName<P>,
+        out: &mut OutputBuffer,
+        sink: &mut K,
+    ) -> Result<bool, AllocError>
+        requires takes { P.policy.takes_remove ≡ true }
+        requires ready { IsReady P.policy D.seen D.may_leave self.old group.old }
+        ensures ready { IsReady P.policy D.seen D.may_leave self.new group.new }
+        ensures none { OnErr result (count_of group.new ≡ 0) }
+        ensures served { (line : List ℕ) → Asks P.policy line (of.Remove user.now)
+            → Serves P.policy D.seen D.may_leave D.moment D.left_since D.faults self.old self.new
+            group.old group.new out.old out.new K.written K.faults sink.old sink.new line result }
+    {
+        self.commit(group, out, sink);
+        match self.remove(user) {
+            Ok(()) => {
+                put_word(Word::Done, out, sink);
+                Ok(true)
+            }
+            Err(e) => put_refusal(refusal_word(self.is_open, e), out, sink),
+        }
+    }
+
     /// Answers a line that asks for no change.
     fn serve_other<K: Sink>(
         &mut self,
@@ -176,6 +202,7 @@ impl<D: Device, P: Policy> Store<D, P> {
                     password,
                 },
             ) => self.serve_upgrade(group, &user, salt, password, out, sink),
+            Some(Command::Remove { user }) => self.serve_remove(group, &user, out, sink),
             Some(Command::Check { .. }) => self.serve_other(group, line, out, sink),
             Some(Command::List) => self.serve_other(group, line, out, sink),
             None => self.serve_other(group, line, out, sink),

@@ -6,20 +6,36 @@ ghost use Rattle.pieces.specs.FaultCounts.{HasRisen};
 ghost use Rattle.line_log.specs.Device.{LeavesOnly};
 ghost use Rattle.line_log.specs.Log.{IsSettled, group_max};
 ghost use Rattle.pw_file.specs.Answers.{IsAnswer, check_answer, check_may_lack, set_answer, upgrade_answer, upgrade_may_lack};
-ghost use Rattle.pw_file.specs.Calls.{with_text};
+ghost use Rattle.pw_file.specs.Calls.{with_text, without};
 ghost use Rattle.pw_file.specs.History.{History, IsContentOf, text_in};
 ghost use Rattle.pw_file.specs.Limits.{text_max};
 ghost use Rattle.pw_file.specs.Replies.{row_line};
 ghost use Rattle.pw_file.specs.Upgraded.{upgraded_text};
 ghost use Rattle.pw_store.specs.Staged.{IsStaged, lines_of, rows_in, undo_of};
 ghost use Rattle.pw_store.specs.Store.{StandsFor, recovered_rows};
-ghost use Rattle.pw_store.specs.Stored.{IsSound, IsStored, after_store_set, after_store_upgrade, device_of, is_disk_fault, is_unwritten_set, is_unwritten_upgrade, rows_after_store_set, rows_after_store_upgrade, rows_of, size_after_store_set, size_after_store_upgrade, size_of, stored_set, stored_upgrade, takes_changes};
+ghost use Rattle.pw_store.specs.Stored.{IsSound, IsStored, after_store_remove, after_store_set, after_store_upgrade, device_of, is_disk_fault, is_unwritten_set, is_unwritten_upgrade, removal_text, rows_after_store_remove, rows_after_store_set, rows_after_store_upgrade, rows_of, size_after_store_remove, size_after_store_set, size_after_store_upgrade, size_of, stored_remove, stored_set, stored_upgrade, takes_changes};
 
 use crate::StoreError;
 use crate::group::Group;
 use line_log::{Device, Failed, LineLog};
+use pieces::short_bytes::ShortBytes;
 use pw_file::{FileError, Policy, ROW_LINE_MAX, Table, UserName, line_of_row};
 use std::alloc::Global;
+
+// The most bytes of a line that takes a user away: `set`, a tab, a name of 64 bytes, a line feed.
+const REMOVAL_MAX: usize = 69;
+
+// The line of the file that takes a user away, with its line feed.
+fn line_of_removal<P: Policy>(user: &UserName<P>) -> ShortBytes<REMOVAL_MAX>
+    ensures line { result ≡ removal_text user.now }
+{
+    let name = user.as_bytes();
+    let mut line = ShortBytes::new();
+    line.push_all(b"set\t");
+    line.push_all(name);
+    line.push_all(b"\n");
+    line
+}
 
 /// Users and their stored texts, each change of which is on the disk before it is answered.
 ///
@@ -216,6 +232,55 @@ impl<D: Device, P: Policy> Store<D, P> {
         match self.settle(&mut group) {
             Ok(()) => Ok(()),
             Err(Failed) => Err(StoreError::DiskFault),
+        }
+    }
+
+    /// Takes the user away. The last user takes its place.
+    ///
+    /// At `Ok` that is on the disk. After any refusal the content is as before; after a fault of a write no further change
+    /// is taken. It takes no memory.
+    pub fn remove(
+        &mut self,
+        user: &UserName<P>,
+    ) -> Result<(), StoreError<P::TextFault, P::VerdictFault>>
+        requires takes { P.policy.takes_remove ≡ true }
+        requires sound { IsSound P.policy D.seen D.may_leave self.old }
+        ensures answer { IsStored
+            (stored_remove P.policy (takes_changes self.old) (rows_of self.old) (size_of self.old) user.now)
+            false (Ok tt) (D.faults (device_of self.old)) (D.faults (device_of self.new)) result }
+        ensures rows { rows_of self.new ≡ rows_after_store_remove (rows_of self.old) user.now result }
+        ensures content { (h : History) → IsContentOf P.policy h (rows_of self.old)
+            → IsContentOf P.policy (after_store_remove h user.now result) (rows_of self.new) }
+        ensures size { takes_changes self.new ≡ true → size_of self.new ≡ size_after_store_remove (size_of self.old) user.now result }
+        ensures takes { takes_changes self.new ≡ takes_changes self.old && not (is_disk_fault result) }
+        ensures sound { IsSound P.policy D.seen D.may_leave self.new }
+        ensures count { D.faults (device_of self.old) ≤ D.faults (device_of self.new) }
+        ensures any_moment { takes_changes self.old ≡ true → LeavesOnly D.moment D.left_since (device_of self.old) (device_of self.new)
+            (λ c. StandsFor P.policy (rows_of self.old) c ⊎ StandsFor P.policy (without (rows_of self.old) user.now) c) }
+        ensures closed { takes_changes self.old ≡ false → device_of self.new ≡ device_of self.old }
+        ensures unwritten { is_unwritten_set result ≡ true → device_of self.new ≡ device_of self.old }
+    {
+        if !self.is_open {
+            return Err(StoreError::DiskFault);
+        }
+        // That the name is one of the policy, which the prover has from this call.
+        let _name = user.as_str();
+        if self.table.get(user).is_none() {
+            return Err(StoreError::Table(FileError::NoUser));
+        }
+        let line = line_of_removal(user);
+        if !self.log.has_room(line.len()) {
+            return Err(StoreError::FileFull);
+        }
+        match self.log.put(line.as_slice()) {
+            Ok(()) => {
+                let _ = self.table.remove(user);
+                Ok(())
+            }
+            Err(Failed) => {
+                self.is_open = false;
+                Err(StoreError::DiskFault)
+            }
         }
     }
 

@@ -45,7 +45,7 @@ fn recovery_through_crashes(rt: HostRuntime) {
 }
 
 // Files that no run can have left, and why. No key is derived for a line that isn't a `set`.
-const REFUSED: [(&[u8], OpenError); 9] = [
+const REFUSED: [(&[u8], OpenError); 10] = [
     (b"", OpenError::NoHeader),
     (b"#pwstore 2\n#", OpenError::NoHeader),
     (b"#pwstore 1\nset\tann", OpenError::BadEnd(11)),
@@ -63,6 +63,11 @@ const REFUSED: [(&[u8], OpenError); 9] = [
         OpenError::BadLine(22),
     ),
     (b"#pwstore 1\nset\tann\t$5\ns\n#", OpenError::BadLine(22)),
+    // The users of this policy aren't taken away.
+    (
+        b"#pwstore 1\nset\tann\t$5\nset\tann\n#",
+        OpenError::BadLine(22),
+    ),
     (
         b"#pwstore 1\nset\tann\t$5\nset\tbob\t$5\nset",
         OpenError::BadEnd(33),

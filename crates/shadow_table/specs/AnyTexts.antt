@@ -1,5 +1,6 @@
--- A policy: names and texts as shadow(5) has them, the verdict for every scheme, and at most 1,000,000 users.
-use Rattle.std.specs.Prelude.{None}
+-- A policy: names and texts as shadow(5) has them, the verdict for every scheme, at most 1,000,000 users,
+-- and a command that takes a user away.
+use Rattle.std.specs.Prelude.{None, true}
 use Rattle.pieces.specs.Faults.{unless}
 use Rattle.any_check.specs.Given.{given_may_lack, given_verdict}
 use Rattle.any_check.specs.declared.error.AnyError.{AnyError}
@@ -17,4 +18,5 @@ any_texts = record {
   verdict = given_verdict None;
   may_lack = given_may_lack None;
   users_max = 1000000;
+  takes_remove = true;
 }

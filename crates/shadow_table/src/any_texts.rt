@@ -10,7 +10,8 @@ use scrypt_plain::ScryptKept;
 use std::alloc::{AllocError, Global};
 
 /// Names of 1 to 64 bytes of UTF-8 without control characters and colons; texts of printable ASCII without a colon, locked
-/// where they begin with `*` or `!`; the verdicts of `check_any`, without a bound on cost; at most 1,000,000 users.
+/// where they begin with `*` or `!`; the verdicts of `check_any`, without a bound on cost; at most 1,000,000 users, who can
+/// be taken away.
 #[derive(Drop)]
 pub struct AnyTexts;
 
@@ -75,6 +76,10 @@ impl Policy for AnyTexts {
 
     fn users_max() -> usize {
         1_000_000
+    }
+
+    fn takes_remove() -> bool {
+        true
     }
 
     fn scrypt(kept: &AnyKept) -> &ScryptKept {

@@ -200,6 +200,38 @@ fn locked(rt: HostRuntime) {
     check(&rt, table.check(&user, "secret") == Ok(true), "unlocked");
 }
 
+// Users with their texts, of whom two are taken away.
+#[test]
+fn taken_away(rt: HostRuntime) {
+    let mut table = no_users(rt.alloc());
+    for (line, word) in [
+        ("set\tZoë\t*", Word::Done),
+        ("set\tJoe\t!x", Word::Done),
+        ("set\tann\t$1$abcdefgh$cHJi5PXp/ki/ktXzqlk6I1", Word::Done),
+        ("set\tbob\t", Word::Done),
+        ("remove\tJoe", Word::Done),
+        ("remove\tJoe", Word::NoUser),
+        ("check\tJoe\tsecret", Word::NoUser),
+        ("check\tann\tsecret", Word::Match),
+        ("remove\tann", Word::Done),
+        ("check\tann\tsecret", Word::NoUser),
+        ("remove\ta:b", Word::BadCommand),
+        ("set\tJoe\tx", Word::Done),
+        ("check\tZoë\tsecret", Word::Locked),
+    ] {
+        let reply = answer_line(&mut table, line.as_bytes());
+        assert!(rt; reply == Some(LineReply::Word(word)), "{line:?}");
+    }
+    for (number, name, text) in [(0, "Zoë", "*"), (1, "bob", ""), (2, "Joe", "x")] {
+        assert!(rt;
+            table.row(number) == Some((user(&rt, name), text)),
+            "row {number}"
+        );
+    }
+    check(&rt, table.len() == 3, "three users are left");
+    check(&rt, AnyTexts::takes_remove(), "users can be taken away");
+}
+
 #[test]
 fn upgraded(rt: HostRuntime) {
     let mut table = no_users(rt.alloc());

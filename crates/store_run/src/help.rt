@@ -9,6 +9,7 @@ The commands, a line each, with one tab between their parts:
   set USER TEXT               the text is the user's from now on
   check USER PASSWORD         whether the user's text matches the password
   upgrade USER SALT PASSWORD  as check; where it matches the text is a new one of scrypt
+  remove USER                 the user is taken away
   list                        each user with its text, as the command that sets it
 A user is a name of 1 to 64 bytes of UTF-8 without control characters and colons, a text one of
 a shadow or htpasswd file. The replies are ok, match, mismatch, upgraded, a listing, or a word

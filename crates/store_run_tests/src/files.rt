@@ -7,7 +7,7 @@ use std::os::unix::fs::PermissionsExt;
 use std::{fs, io};
 use store_run::{Untaken, compact_file, serve_file, store_of};
 
-const REFUSED: [(&[u8], OpenError); 6] = [
+const REFUSED: [(&[u8], OpenError); 9] = [
     (b"", OpenError::NoHeader),
     (b"#pwstore 2\n#", OpenError::NoHeader),
     (b"#pwstore 1\nset\tann\n#", OpenError::BadLine(11)),
@@ -20,6 +20,16 @@ const REFUSED: [(&[u8], OpenError); 6] = [
         OpenError::BadEnd(21),
     ),
     (b"#pwstore 1\nset\tann\tx:y\n#", OpenError::BadLine(11)),
+    // A user who isn't there, or no longer, and no name.
+    (
+        b"#pwstore 1\nset\tann\t*\nset\tbob\n#",
+        OpenError::BadLine(21),
+    ),
+    (
+        b"#pwstore 1\nset\tann\t*\nset\tann\nset\tann\n#",
+        OpenError::BadLine(29),
+    ),
+    (b"#pwstore 1\nset\tann\t*\nset\t\n#", OpenError::BadLine(21)),
 ];
 
 #[test]
@@ -38,13 +48,17 @@ fn files_that_are_refused(rt: HostRuntime) {
 }
 
 // Of more than 100 bytes, and of one that a crash left.
-const TAKEN: [(&[u8], usize); 3] = [
+const TAKEN: [(&[u8], usize); 6] = [
     (TWO, 2),
     (
         b"#pwstore 1\nset\tann\t*\nset\tbob\t*\nset\tcleo\t*\nset\tdan\t*\nset\teve\t*\nset\tfred\t*\nset\tgwen\t*\nset\thal\t*\nset\tida\t*\n#",
         9,
     ),
     (b"#pwstore 1\nset\tann\t*\n#et\tbob\t", 1),
+    // A user who is taken away; one whose removal doesn't count; one whose text is empty.
+    (b"#pwstore 1\nset\tann\t*\nset\tbob\t*\nset\tann\n#", 1),
+    (b"#pwstore 1\nset\tann\t*\n#et\tann\n#", 1),
+    (b"#pwstore 1\nset\tann\t\n#", 1),
 ];
 
 #[test]

@@ -22,6 +22,9 @@ pub const THREE: &[u8] = b"#pwstore 1\nset\tann\t*\nset\tbob\t$5\nset\tann\t!\n#
 /// The file `THREE`, made anew.
 pub const ANEW: &[u8] = b"#pwstore 1\nset\tann\t!\nset\tbob\t$5\n#";
 
+/// The file `TWO`, after `ann` was taken away.
+pub const GONE: &[u8] = b"#pwstore 1\nset\tann\t*\nset\tbob\t$5\nset\tann\n#";
+
 /// The number of a call that never comes: the sync of recovery is 0, and a group has three writes and two syncs.
 pub const NONE_FAILS: u64 = 1_000;
 
@@ -41,4 +44,30 @@ pub fn opened(alloc: Global, file: &[u8], failing: u64) -> Option<Store<MemoryDe
 {
     let (device, bytes) = memory(alloc, file, failing)?;
     store_of(alloc, device, bytes, true).ok()
+}
+
+// Whether recovery makes a file into one of these.
+fn becomes_one(alloc: Global, file: &[u8], wanted: [&[u8]; 2]) -> bool {
+    match opened(alloc, file, NONE_FAILS) {
+        Some(store) => {
+            let found = store.device().bytes();
+            found == wanted[0] || found == wanted[1]
+        }
+        None => false,
+    }
+}
+
+/// Whether recovery makes each of the 84 files that a crash now may leave into one of two.
+pub fn leaves_one(alloc: Global, device: &MemoryDevice, wanted: [&[u8]; 2]) -> bool {
+    for whole in 0..4 {
+        for part in [0, 1, 2, 7, 8, 9, 30] {
+            for filler in [None, Some(b's'), Some(b'#')] {
+                match device.outcome(alloc, whole, part, filler) {
+                    Ok(file) if becomes_one(alloc, &file, wanted) => {}
+                    _ => return false,
+                }
+            }
+        }
+    }
+    true
 }

@@ -1,12 +1,12 @@
 //! Commands over files in memory: replies, groups, faults.
 
-use crate::helpers::{ANEW, ANN, EMPTY, NONE_FAILS, THREE, TWO, opened};
+use crate::helpers::{ANEW, ANN, EMPTY, GONE, NONE_FAILS, THREE, TWO, leaves_one, opened};
 use line_io::{Failed, MemorySink, MemorySource, Sink, Source};
 use std::cell::Cell;
 use store_run::{compact, serve};
 
 // An input, the replies, the file after them, and the status.
-const SESSIONS: [(&[u8], &[u8], &[u8], &[u8], u8); 3] = [
+const SESSIONS: [(&[u8], &[u8], &[u8], &[u8], u8); 6] = [
     (
         EMPTY,
         b"set\tann\t*\ncheck\tann\tx\nlist\nset\ta:b\tx\nset\tbob\tt\xc3\xa4\nset\tbob\t$5\ncheck\tbob\tx\ncheck\tcleo\tx\nupgrade\tbob\tx\ty\n",
@@ -16,6 +16,29 @@ const SESSIONS: [(&[u8], &[u8], &[u8], &[u8], u8); 3] = [
     ),
     (TWO, b"set\tann\t!\n", b"ok\n", THREE, 0),
     (TWO, b"", b"", TWO, 0),
+    (
+        TWO,
+        b"remove\tann\nlist\nremove\tann\nremove\tcleo\nremove\ta:b\nset\tbob\n",
+        b"ok\nset\tbob\t$5\nno-user\nno-user\nbad-command\nbad-command\n",
+        GONE,
+        1,
+    ),
+    // What was written before is read as before.
+    (
+        GONE,
+        b"check\tann\tx\ncheck\tbob\tx\nlist\n",
+        b"no-user\ninvalid\nset\tbob\t$5\n",
+        GONE,
+        1,
+    ),
+    // A removal between changes that wait; the user who comes again goes last.
+    (
+        TWO,
+        b"set\tcleo\t!\nremove\tann\nset\tann\tx\nlist\n",
+        b"ok\nok\nok\nset\tcleo\t!\nset\tbob\t$5\nset\tann\tx\n",
+        b"#pwstore 1\nset\tann\t*\nset\tbob\t$5\nset\tcleo\t!\nset\tann\nset\tann\tx\n#",
+        0,
+    ),
 ];
 
 #[test]
@@ -78,6 +101,50 @@ fn a_fault_of_the_disk(rt: HostRuntime) {
 }
 
 #[test]
+fn a_removal_is_a_group_of_its_own(rt: HostRuntime) {
+    let Some(mut store) = opened(rt.alloc(), TWO, NONE_FAILS) else {
+        panic!(rt; "it is opened")
+    };
+    let mut room = [0; 64];
+    let mut source = MemorySource::new(
+        b"set\tcleo\t!\nset\tann\t!\nremove\tann\nset\tann\tx\n",
+        1_000,
+        &[],
+    );
+    let mut sink = MemorySink::new(&mut room, 64, &[]);
+    assert!(rt; serve(&mut store, &mut source, &mut sink) == 0);
+    // The sync of recovery, and five calls for each of three groups.
+    assert!(rt; sink.bytes() == b"ok\nok\nok\nok\n".as_slice() && store.device().number() == 16);
+}
+
+#[test]
+fn a_fault_of_a_removal(rt: HostRuntime) {
+    for failing in 1..6 {
+        let Some(mut store) = opened(rt.alloc(), TWO, failing) else {
+            panic!(rt; "it is opened")
+        };
+        let mut room = [0; 256];
+        let mut source = MemorySource::new(
+            b"remove\tann\ncheck\tann\tx\nremove\tcleo\nremove\tbob\nlist\n",
+            1_000,
+            &[],
+        );
+        let mut sink = MemorySink::new(&mut room, 5, &[]);
+        assert!(rt; serve(&mut store, &mut source, &mut sink) == 7);
+        assert!(rt;
+            sink.bytes()
+                == b"disk-fault\nlocked\ndisk-fault\ndisk-fault\nset\tann\t*\nset\tbob\t$5\n".as_slice()
+        );
+        // No further call, and a crash leaves the user there or away.
+        assert!(rt; !store.takes_changes() && store.device().number() == failing.saturating_add(1));
+        assert!(rt;
+            leaves_one(rt.alloc(), store.device(), [TWO, GONE]),
+            "at {failing}"
+        );
+    }
+}
+
+#[test]
 fn faults_of_the_streams(rt: HostRuntime) {
     // How many bytes of the input come at a read, which read fails, how many bytes a write takes, which write fails, the status,
     // the replies and the file: behind the first command, whose change is on the disk; and at the replies to both.
@@ -114,6 +181,15 @@ fn a_file_made_anew(rt: HostRuntime) {
         assert!(rt; compact(&mut store) == status);
         assert!(rt; store.device().bytes() == after);
     }
+}
+
+#[test]
+fn a_user_taken_away_is_not_in_the_new_file(rt: HostRuntime) {
+    let Some(mut store) = opened(rt.alloc(), GONE, NONE_FAILS) else {
+        panic!(rt; "it is opened")
+    };
+    assert!(rt; compact(&mut store) == 0);
+    assert!(rt; store.device().bytes() == b"#pwstore 1\nset\tbob\t$5\n#".as_slice());
 }
 
 // A source that gives two commands at a read, and looks before each whether those before were answered.
