@@ -1,17 +1,19 @@
 #!/usr/bin/env python3
-"""Tries the must-fail edits of crates, several of one crate in one check, and reads for each the line of the function that it turns.
+"""Tries the wrong bodies of crates, which the prover has to refuse, several of one crate in one check.
 
-    checks/wrong_bodies.py [CHECKOUT] [NAME..]     (this checkout, and each crate that has edits, if left out)
+    checks/wrong_bodies.py [CHECKOUT] [NAME..]     (this checkout, and each crate that has wrong bodies, if left out)
 
-`rt ci` tries each edit for itself: a process that loads the crate, and proves what the edit changed. Here the edits of different functions
-are put into one copy of the crate, and an edit counts as refused where the prover says of a function that it turns, and not only of what
-that function calls, that it isn't proved. An edit of which the lines don't say so is tried once more alone. It ends with 1 where an edit
-is not refused, or where its text doesn't compile.
+A wrong body is a file crates/NAME/wrong_bodies/*.edit: lines `file:`, and then pairs of `old:` and `new:`. CHECKOUT is one in which
+`rt ci` has proved the libraries (crates/*/out/rlib). First the crate is proved as it is. Then the edits of different functions are put
+into one copy of the crate, over what that check kept. An edit counts as refused where the prover says of a function that it turns that
+this function isn't proved for a reason of its own, and not only for what it calls. An edit of which the lines don't say so is tried once
+more alone. There the crate has to be refused for a reason of its own of some function. The script ends with 1 where an edit is not
+refused, where its text is not there once, or where it doesn't compile.
 
-CHECKOUT is one in which `rt ci` has proved the libraries (crates/*/out/rlib). It is a quick look before the gate, and no verdict: the verdict
-is `rt ci`, which tries each edit over a proof from nothing.
+RT_JOBS is how many crates are tried at once, as for `rt ci`; all processors if it isn't set.
 """
 import collections
+import concurrent.futures
 import os
 import re
 import shutil
@@ -23,9 +25,10 @@ TOP = os.path.dirname(os.path.dirname(os.path.abspath(__file__)))
 sys.path.insert(0, os.path.join(TOP, "packaging"))
 from newer import below, used  # noqa: E402
 
+FOLDER = "wrong_bodies"
 Edit = collections.namedtuple("Edit", "name changes")
 Change = collections.namedtuple("Change", "file old new")
-FUNCTION = re.compile(r"\bfn (\w+)")
+FUNCTION = re.compile(r"^( *)(?:pub(?:\([a-z]+\))? )?(?:final )?(?:unsafe )?(?:extern \"C\" )?fn (\w+)", re.M)
 
 
 def read_edit(path):
@@ -50,13 +53,18 @@ def read_edit(path):
 
 
 def turned(folder, edit):
-    """The functions whose bodies an edit changes, each as its file and its name."""
+    """The functions whose bodies an edit changes, each as its file and its name; the name is empty where the change is in no function."""
     found = set()
     for change in edit.changes:
         with open(os.path.join(folder, change.file), encoding="utf-8") as source:
             text = source.read()
-        names = FUNCTION.findall(text[:text.find(change.old) + len(change.old)])
-        found.add((change.file, names[-1] if names else ""))
+        before = text[:text.find(change.old) + len(change.old)]
+        last = None
+        for last in FUNCTION.finditer(before):
+            pass
+        # A function ends with a brace that stands as far in as its first word.
+        is_in = last and not re.search(rf"^{last.group(1)}}}", before[last.end():text.find(change.old)], re.M)
+        found.add((change.file, last.group(2) if is_in else ""))
     return found
 
 
@@ -118,7 +126,7 @@ class Crate:
         """What the prover says of the crate with these edits."""
         with tempfile.TemporaryDirectory(dir=self.work) as place:
             copy, kept = os.path.join(place, self.name), os.path.join(place, "kept")
-            shutil.copytree(self.folder, copy, ignore=shutil.ignore_patterns("out", "must-fail"))
+            shutil.copytree(self.folder, copy, ignore=shutil.ignore_patterns("out", FOLDER))
             shutil.copytree(self.kept, kept)
             for edit in edits:
                 for change in edit.changes:
@@ -131,29 +139,29 @@ class Crate:
                         source.write(text.replace(change.old, change.new))
             return self.check(copy, kept)
 
-    def refused(self, said, edit):
-        """Whether the prover refuses a function that an edit turns for a reason of its own."""
+    def refused(self, said, edit, alone):
+        """Whether the prover refuses a function that an edit turns for a reason of its own; of an edit that is tried alone, any function."""
         own = own_refusals(said)
         functions = turned(self.folder, edit)
-        if any(not name for _, name in functions):
+        if alone or any(not name for _, name in functions):
             return bool(own)
         return any(is_own(path, file, name) for path in own for file, name in functions)
 
     def faults(self):
         """The edits that aren't refused, each with what is to be said."""
-        edits = sorted(os.listdir(os.path.join(self.folder, "must-fail")))
-        edits = [read_edit(os.path.join(self.folder, "must-fail", name)) for name in edits if name.endswith(".edit")]
+        edits = sorted(os.listdir(os.path.join(self.folder, FOLDER)))
+        edits = [read_edit(os.path.join(self.folder, FOLDER, name)) for name in edits if name.endswith(".edit")]
         said = self.check(self.folder, self.kept)
         if "logic=proved" not in said:
             return [f"{self.name}: the crate itself isn't proved: {said.strip()[-200:]}"]
         left, checks = [], 0
         for some in in_sets(self.folder, edits):
             said, checks = self.tried(some), checks + 1
-            left += [edit for edit in some if not self.refused(said, edit)]
+            left += [edit for edit in some if not self.refused(said, edit, len(some) == 1)]
         found = []
         for edit in left:
             said, checks = self.tried([edit]), checks + 1
-            if not self.refused(said, edit):
+            if not self.refused(said, edit, True):
                 found.append(f"{self.name} {edit.name}: " + ("not refused" if re.search(r"^fn \S+: ", said, re.M) else "it isn't judged: " + said.strip()[-200:]))
         print(f"{self.name}: {len(edits)} edits in {checks} checks, {len(edits) - len(found)} refused", flush=True)
         return found
@@ -163,11 +171,15 @@ def main():
     words = sys.argv[1:]
     top = os.path.abspath(words.pop(0)) if words and os.path.isdir(words[0]) else TOP
     kit = os.path.dirname(subprocess.run(["rt", "doc"], capture_output=True, text=True, check=True).stdout.strip())
-    names = words or sorted(name for name in os.listdir(os.path.join(top, "crates")) if os.path.isdir(os.path.join(top, "crates", name, "must-fail")))
-    found = []
-    for name in names:
+    names = words or sorted(name for name in os.listdir(os.path.join(top, "crates")) if os.path.isdir(os.path.join(top, "crates", name, FOLDER)))
+    def faults(name):
         with tempfile.TemporaryDirectory() as work:
-            found += Crate(top, kit, name, work).faults()
+            return Crate(top, kit, name, work).faults()
+
+    # The crates with most wrong bodies first, so that none of them is left to the end.
+    names.sort(key=lambda name: -len(os.listdir(os.path.join(top, "crates", name, FOLDER))))
+    with concurrent.futures.ThreadPoolExecutor(int(os.environ.get("RT_JOBS") or os.cpu_count())) as jobs:
+        found = [line for lines in jobs.map(faults, names) for line in lines]
     for line in found:
         print(line)
     sys.exit(1 if found else 0)
