@@ -20,6 +20,7 @@ import shutil
 import subprocess
 import sys
 import tempfile
+import time
 
 TOP = os.path.dirname(os.path.dirname(os.path.abspath(__file__)))
 sys.path.insert(0, os.path.join(TOP, "packaging"))
@@ -95,6 +96,14 @@ def is_own(path, file, name):
     return name in words and (stem in words or stem == "lib")
 
 
+def linked(one, other):
+    """Copies a file of what a check kept; a module that was checked by a link, since a check replaces such a file and changes none."""
+    if one.endswith(".oantt"):
+        os.link(one, other)
+    else:
+        shutil.copy2(one, other)
+
+
 class Crate:
     """A crate with edits, and what is kept of its proof."""
 
@@ -127,7 +136,7 @@ class Crate:
         with tempfile.TemporaryDirectory(dir=self.work) as place:
             copy, kept = os.path.join(place, self.name), os.path.join(place, "kept")
             shutil.copytree(self.folder, copy, ignore=shutil.ignore_patterns("out", FOLDER))
-            shutil.copytree(self.kept, kept)
+            shutil.copytree(self.kept, kept, copy_function=linked)
             for edit in edits:
                 for change in edit.changes:
                     path = os.path.join(copy, change.file)
@@ -149,6 +158,7 @@ class Crate:
 
     def faults(self):
         """The edits that aren't refused, each with what is to be said."""
+        begin = time.time()
         edits = sorted(os.listdir(os.path.join(self.folder, FOLDER)))
         edits = [read_edit(os.path.join(self.folder, FOLDER, name)) for name in edits if name.endswith(".edit")]
         said = self.check(self.folder, self.kept)
@@ -163,7 +173,8 @@ class Crate:
             said, checks = self.tried([edit]), checks + 1
             if not self.refused(said, edit, True):
                 found.append(f"{self.name} {edit.name}: " + ("not refused" if re.search(r"^fn \S+: ", said, re.M) else "it isn't judged: " + said.strip()[-200:]))
-        print(f"{self.name}: {len(edits)} edits in {checks} checks, {len(edits) - len(found)} refused", flush=True)
+        alone = f" ({', '.join(edit.name for edit in left)} once more alone)" if left else ""
+        print(f"{self.name}: {len(edits)} edits in {checks} checks{alone}, {len(edits) - len(found)} refused, {time.time() - begin:.0f} s", flush=True)
         return found
 
 
