@@ -151,7 +151,7 @@ impl Speaker<'_> {
             }
             OpenError::BadLine(place) => {
                 let _ = eprintln!(rt;
-                    "{program}: {file}: bad-line: what begins at byte {place} isn't a line that sets a text"
+                    "{program}: {file}: bad-line: what begins at byte {place} isn't a line that sets a text or takes away a user who is there"
                 );
             }
             OpenError::BadEnd(place) => {

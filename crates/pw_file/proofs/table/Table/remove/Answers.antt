@@ -1,8 +1,6 @@
-use Rattle.std.proofs.Common.{rules, ◌≡◌, ◌≤◌, ℕ, ◌+◌, Bool, true, false, List, length, sym, ap, ◌∙◌, arith, Option, None, Some, Ok, Err, refl}
+use Rattle.std.proofs.Common.{rules, ◌≡◌, ◌≤◌, ℕ, ◌+◌, Bool, true, false, sym, ap, ◌∙◌, arith, Option, None, Some, Ok, Err, refl}
 use Rattle.std.specs.Prelude.{String, string_bytes, is_none, is_some, if◌then◌else◌}
-use Rattle.std.specs.Map.{lookup}
 use Rattle.std.specs.Option.{option_map}
-use Rattle.stored_check.specs.Verdict.{same_text}
 use Rattle.pw_file.specs.Answers.{remove_answer}
 use Rattle.pw_file.specs.Calls.{without}
 use Rattle.pw_file.specs.History.{Rows, text_in}
