@@ -45,30 +45,29 @@ scheme_cell format (Some text) = name_text format (row_of text.scheme).name
 
 -- ---- its costs
 
--- what is before them and after them: an object in JSON
-abbrev pub opened : Format → List ℕ
-opened Tabs = []
-opened Csv = []
-opened Json = codes "{"
+-- what is before the first number, by its name; before another one; and after the last: an object in JSON
+abbrev pub first_key : Format → List ℕ → List ℕ
+first_key Tabs name = name ++ codes "="
+first_key Csv name = name ++ codes "="
+first_key Json name = codes "{\"" ++ (name ++ codes "\":")
+
+abbrev pub next_key : Format → List ℕ → List ℕ
+next_key Tabs name = codes "," ++ (name ++ codes "=")
+next_key Csv name = codes "," ++ (name ++ codes "=")
+next_key Json name = codes ",\"" ++ (name ++ codes "\":")
 
 abbrev pub closed : Format → List ℕ
 closed Tabs = []
 closed Csv = []
 closed Json = codes "}"
 
--- a number after a text, by its name
-abbrev pub named : Format → List ℕ → List ℕ → ℕ → List ℕ
-named Tabs text name n = ((text ++ name) ++ codes "=") ++ decimal n
-named Csv text name n = ((text ++ name) ++ codes "=") ++ decimal n
-named Json text name n = (((text ++ codes "\"") ++ name) ++ codes "\":") ++ decimal n
-
--- one number, and three with commas between them
+-- one number, and three
 abbrev pub one : Format → List ℕ → ℕ → List ℕ
-one format a x = named format (opened format) a x ++ closed format
+one format a x = (first_key format a ++ decimal x) ++ closed format
 
 abbrev pub three : Format → List ℕ → ℕ → List ℕ → ℕ → List ℕ → ℕ → List ℕ
 three format a x b y c z =
-    named format (named format (named format (opened format) a x ++ codes ",") b y ++ codes ",") c z ++ closed format
+    (((((first_key format a ++ decimal x) ++ next_key format b) ++ decimal y) ++ next_key format c) ++ decimal z) ++ closed format
 
 -- the numbers by their names; md5-crypt has none
 abbrev pub numbers_text : Format → CostFamily → Costs → List ℕ

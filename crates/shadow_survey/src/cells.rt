@@ -2,7 +2,7 @@
 
 ghost use Rattle.std.specs.Prelude.{◌≡◌, ◌+◌, ◌≤◌, ◌++◌, codes, decimal, length};
 ghost use Rattle.scheme_list.specs.Schemes.{row_of};
-ghost use Rattle.shadow_survey.specs.Cells.{closed, name_text, named, nothing, numbers_text, one, opened, three, turns, weakness_text};
+ghost use Rattle.shadow_survey.specs.Cells.{name_text, nothing, numbers_text, one, three, turns, weakness_text};
 
 use crate::least::{Weakness, memory};
 use any_check::{CostFamily, Costs, Scheme, TextCosts};
@@ -34,28 +34,6 @@ impl Format {
             Format::Json => b"null",
         }
     }
-
-    // What is before numbers.
-    fn opened(self) -> &'static [u8]
-        ensures text { result.now ≡ opened self }
-        ensures short { length result.now ≤ 1 }
-    {
-        match self {
-            Format::Tabs | Format::Csv => b"",
-            Format::Json => b"{",
-        }
-    }
-
-    // What is after them.
-    fn closed(self) -> &'static [u8]
-        ensures text { result.now ≡ closed self }
-        ensures short { length result.now ≤ 1 }
-    {
-        match self {
-            Format::Tabs | Format::Csv => b"",
-            Format::Json => b"}",
-        }
-    }
 }
 
 fn word(text: &[u8]) -> Cell
@@ -75,51 +53,88 @@ fn push_number(cell: &mut Cell, n: u64)
     cell.push_decimal(n);
 }
 
-// Pushes a number by its name.
-fn push_named(cell: &mut Cell, format: Format, name: &[u8], n: u64)
-    requires room { length cell.old ≤ 53 }
-    requires short { length name.now ≤ 6 }
-    ensures pushed { cell.new ≡ named format cell.old name.now n }
-    ensures length { length cell.new ≤ (length cell.old + length name.now) + 23 }
+// A number after its key, and what ends the cell.
+fn one(key: &[u8], x: u64, end: &[u8]) -> Cell
+    requires key { length key.now ≤ 10 }
+    requires end { length end.now ≤ 1 }
+    ensures { result ≡ (key.now ++ decimal x) ++ end.now }
 {
-    match format {
-        Format::Tabs | Format::Csv => {
-            cell.push_all(name);
-            cell.push_all(b"=");
-        }
-        Format::Json => {
-            cell.push_all(b"\"");
-            cell.push_all(name);
-            cell.push_all(b"\":");
-        }
-    }
+    let mut cell = word(key);
+    push_number(&mut cell, x);
+    cell.push_all(end);
+    cell
+}
+
+// Pushes a number after its key.
+fn push_keyed(cell: &mut Cell, key: &[u8], n: u64)
+    requires room { length cell.old ≤ 70 }
+    requires key { length key.now ≤ 6 }
+    ensures pushed { cell.new ≡ (cell.old ++ key.now) ++ decimal n }
+    ensures length { length cell.new ≤ length cell.old + 26 }
+{
+    cell.push_all(key);
     push_number(cell, n);
 }
 
-fn one(format: Format, a: &[u8], x: u64) -> Cell
-    requires short { length a.now ≤ 6 }
-    ensures { result ≡ one format a.now x }
+// Three numbers, each after its key, and what ends the cell.
+fn three(a: &[u8], x: u64, b: &[u8], y: u64, c: &[u8], z: u64, end: &[u8]) -> Cell
+    requires a { length a.now ≤ 6 }
+    requires b { length b.now ≤ 5 }
+    requires c { length c.now ≤ 5 }
+    requires end { length end.now ≤ 1 }
+    ensures { result ≡ (((((a.now ++ decimal x) ++ b.now) ++ decimal y) ++ c.now) ++ decimal z) ++ end.now }
 {
-    let mut cell = word(format.opened());
-    push_named(&mut cell, format, a, x);
-    cell.push_all(format.closed());
+    let mut cell = word(a);
+    push_number(&mut cell, x);
+    push_keyed(&mut cell, b, y);
+    push_keyed(&mut cell, c, z);
+    cell.push_all(end);
     cell
 }
 
-fn three(format: Format, a: &[u8], x: u64, b: &[u8], y: u64, c: &[u8], z: u64) -> Cell
-    requires a { length a.now ≤ 2 }
-    requires b { length b.now ≤ 2 }
-    requires c { length c.now ≤ 2 }
-    ensures { result ≡ three format a.now x b.now y c.now z }
+fn rounds(format: Format, n: u64) -> Cell
+    ensures { result ≡ one format (codes "rounds") n }
 {
-    let mut cell = word(format.opened());
-    push_named(&mut cell, format, a, x);
-    cell.push_all(b",");
-    push_named(&mut cell, format, b, y);
-    cell.push_all(b",");
-    push_named(&mut cell, format, c, z);
-    cell.push_all(format.closed());
-    cell
+    match format {
+        Format::Tabs | Format::Csv => one(b"rounds=", n, b""),
+        Format::Json => one(b"{\"rounds\":", n, b"}"),
+    }
+}
+
+fn cost(format: Format, n: u64) -> Cell
+    ensures { result ≡ one format (codes "cost") n }
+{
+    match format {
+        Format::Tabs | Format::Csv => one(b"cost=", n, b""),
+        Format::Json => one(b"{\"cost\":", n, b"}"),
+    }
+}
+
+fn ln_r_t(format: Format, ln: u64, r: u64, t: u64) -> Cell
+    ensures { result ≡ three format (codes "ln") ln (codes "r") r (codes "t") t }
+{
+    match format {
+        Format::Tabs | Format::Csv => three(b"ln=", ln, b",r=", r, b",t=", t, b""),
+        Format::Json => three(b"{\"ln\":", ln, b",\"r\":", r, b",\"t\":", t, b"}"),
+    }
+}
+
+fn ln_r_p(format: Format, ln: u64, r: u64, p: u64) -> Cell
+    ensures { result ≡ three format (codes "ln") ln (codes "r") r (codes "p") p }
+{
+    match format {
+        Format::Tabs | Format::Csv => three(b"ln=", ln, b",r=", r, b",p=", p, b""),
+        Format::Json => three(b"{\"ln\":", ln, b",\"r\":", r, b",\"p\":", p, b"}"),
+    }
+}
+
+fn m_t_p(format: Format, m: u64, t: u64, p: u64) -> Cell
+    ensures { result ≡ three format (codes "m") m (codes "t") t (codes "p") p }
+{
+    match format {
+        Format::Tabs | Format::Csv => three(b"m=", m, b",t=", t, b",p=", p, b""),
+        Format::Json => three(b"{\"m\":", m, b",\"t\":", t, b",\"p\":", p, b"}"),
+    }
 }
 
 /// The numbers by their names.
@@ -129,12 +144,12 @@ pub(crate) fn numbers_text(format: Format, family: CostFamily, costs: &Costs) ->
     match family {
         CostFamily::Md5Crypt => word(format.nothing()),
         CostFamily::ShaCrypt | CostFamily::Pbkdf2Sha256 | CostFamily::Pbkdf2Sha512 => {
-            one(format, b"rounds", costs.rounds)
+            rounds(format, costs.rounds)
         }
-        CostFamily::Bcrypt => one(format, b"cost", costs.cost),
-        CostFamily::Yescrypt => three(format, b"ln", costs.ln, b"r", costs.r, b"t", costs.t),
-        CostFamily::Scrypt => three(format, b"ln", costs.ln, b"r", costs.r, b"p", costs.p),
-        CostFamily::Argon2 => three(format, b"m", costs.m, b"t", costs.t, b"p", costs.p),
+        CostFamily::Bcrypt => cost(format, costs.cost),
+        CostFamily::Yescrypt => ln_r_t(format, costs.ln, costs.r, costs.t),
+        CostFamily::Scrypt => ln_r_p(format, costs.ln, costs.r, costs.p),
+        CostFamily::Argon2 => m_t_p(format, costs.m, costs.t, costs.p),
     }
 }
 

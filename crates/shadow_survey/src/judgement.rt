@@ -32,22 +32,22 @@ pub enum Judgement {
     Weak(TextCosts, Weakness),
 }
 
-fn judged_weakness(text: TextCosts, what: Option<Weakness>) -> Judgement
-    ensures { result ≡ judged_weakness text what }
+fn judged_weakness(text: &TextCosts, what: Option<Weakness>) -> Judgement
+    ensures { result ≡ judged_weakness text.now what }
 {
     match what {
-        None => Judgement::Strong(text),
-        Some(what) => Judgement::Weak(text, what),
+        None => Judgement::Strong(*text),
+        Some(what) => Judgement::Weak(*text, what),
     }
 }
 
-fn judged_kind(least: &LeastCosts, text: &[u8], kind: TextKind) -> Judgement
-    ensures { result ≡ judged_kind least.now text.now kind }
+fn judged_kind(least: &LeastCosts, text: &[u8], kind: &TextKind) -> Judgement
+    ensures { result ≡ judged_kind least.now text.now kind.now }
 {
     match kind {
         TextKind::NoScheme => Judgement::Unsupported(form_of(text)),
         TextKind::Invalid => Judgement::Invalid,
-        TextKind::Valid(costs) => judged_weakness(costs, weakness_of(least, &costs)),
+        TextKind::Valid(costs) => judged_weakness(costs, weakness_of(least, costs)),
     }
 }
 
@@ -64,7 +64,7 @@ pub fn judged(least: &LeastCosts, text: &[u8]) -> Judgement
         return Judgement::Locked;
     }
     match text_of(text) {
-        Some(words) => judged_kind(least, text, text_kind(&PlainRecords, words)),
+        Some(words) => judged_kind(least, text, &text_kind(&PlainRecords, words)),
         None => Judgement::Invalid,
     }
 }

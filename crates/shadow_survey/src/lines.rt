@@ -1,11 +1,12 @@
 //! The lines of a survey, and how many of each judgement there are.
 
-ghost use Rattle.std.specs.Prelude.{◌≡◌, ◌≢◌, ◌≤◌, ◌<◌, ◌^◌, ◌++◌, ◌∷◌, ◌&&◌, [], List, ℕ, decimal, false, true, length, replicate};
+ghost use Rattle.std.specs.Prelude.{◌≡◌, ◌≢◌, ◌≤◌, ◌<◌, ◌^◌, ◌++◌, ◌∷◌, ◌&&◌, [], List, ℕ, decimal, false, true, length, replicate, IfNone, IfSome};
 ghost use Rattle.std.specs.List.{list_all};
 ghost use Rattle.std.specs.Str.{is_utf8};
 ghost use Rattle.line_io.specs.Output.{Puts};
 ghost use Rattle.line_program.specs.Outcome.{EndedOutcome, RunTold};
 ghost use Rattle.shadow_survey.specs.Counting.{counted, kind_of, no_counts};
+ghost use Rattle.shadow_survey.specs.Judgements.{judged};
 ghost use Rattle.shadow_survey.specs.Rows.{front_text, is_good, is_plain, row_text, surveyed};
 ghost use Rattle.shadow_survey.specs.Rules.{survey_ending, survey_rules};
 
@@ -44,6 +45,21 @@ fn is_name(text: &[u8], all_plain: bool) -> bool
     }
 }
 
+// The user and the text of a line, and whether each form shows the user's bytes as they are; none where it has no user.
+fn user_and_text(line: &[u8]) -> Option<(&[u8], bool, &[u8])>
+    ensures some { IfSome result (λ found. (least : LeastCosts) → surveyed least line.now ≡ (found.0.now, judged least found.2.now)) }
+    ensures plain { IfSome result (λ found. found.1 ≡ list_all is_plain found.0.now) }
+    ensures none { IfNone result ((least : LeastCosts) → surveyed least line.now ≡ ([], Judgement.BadLine)) }
+{
+    let (user, rest) = cut_user(line)?;
+    let all_plain = are_plain(user);
+    if is_name(user, all_plain) {
+        Some((user, all_plain, cut_field(rest)))
+    } else {
+        None
+    }
+}
+
 impl SurveyLines {
     /// No line was read yet.
     pub fn new(least: LeastCosts, format: Format) -> SurveyLines
@@ -65,38 +81,21 @@ impl SurveyLines {
         &mut self,
         user: &[u8],
         all_plain: bool,
-        judgement: Judgement,
+        judgement: &Judgement,
         out: &mut OutputBuffer,
         sink: &mut K,
     ) -> bool
         requires plain { all_plain ≡ list_all is_plain user.now }
         ensures row { Puts (K.written sink.old) (K.written sink.new) (K.faults sink.old) (K.faults sink.new) out.old out.new
-            (front_text self.old.has_begun self.old.format ++ row_text self.old.format user.now judgement) }
-        ensures count { self.new ≡ record self.old { has_begun = true; counts = counted self.old.counts (kind_of judgement) } }
-        ensures good { result ≡ is_good judgement }
+            (front_text self.old.has_begun self.old.format ++ row_text self.old.format user.now judgement.now) }
+        ensures count { self.new ≡ record self.old { has_begun = true; counts = counted self.old.counts (kind_of judgement.now) } }
+        ensures good { result ≡ is_good judgement.now }
     {
         put_front(self.has_begun, self.format, out, sink);
-        put_row(self.format, user, all_plain, &judgement, out, sink);
+        put_row(self.format, user, all_plain, judgement, out, sink);
         self.has_begun = true;
         self.counts.count(judgement.kind());
-        is_good(&judgement)
-    }
-
-    // The user of a line, whether each form shows its bytes as they are, and the judgement on its text.
-    fn surveyed<'a>(&self, line: &'a [u8]) -> (&'a [u8], bool, Judgement)
-        ensures user { result.0.now ≡ (surveyed self.now.least line.now).0 }
-        ensures plain { result.1 ≡ list_all is_plain result.0.now }
-        ensures judgement { result.2 ≡ (surveyed self.now.least line.now).1 }
-    {
-        let Some((user, rest)) = cut_user(line) else {
-            return (&[], true, Judgement::BadLine);
-        };
-        let all_plain = are_plain(user);
-        if is_name(user, all_plain) {
-            (user, all_plain, judged(&self.least, cut_field(rest)))
-        } else {
-            (&[], true, Judgement::BadLine)
-        }
+        is_good(judgement)
     }
 }
 
@@ -111,12 +110,17 @@ impl Responder for SurveyLines {
         out: &mut OutputBuffer,
         sink: &mut K,
     ) -> Result<bool, AllocError> {
-        let (user, all_plain, judgement) = self.surveyed(line);
-        Ok(self.put_counted(user, all_plain, judgement, out, sink))
+        match user_and_text(line) {
+            Some((user, all_plain, text)) => {
+                let judgement = judged(&self.least, text);
+                Ok(self.put_counted(user, all_plain, &judgement, out, sink))
+            }
+            None => Ok(self.put_counted(&[], true, &Judgement::BadLine, out, sink)),
+        }
     }
 
     fn answer_long<K: Sink>(&mut self, out: &mut OutputBuffer, sink: &mut K) -> bool {
-        self.put_counted(&[], true, Judgement::TooLong, out, sink)
+        self.put_counted(&[], true, &Judgement::TooLong, out, sink)
     }
 }
 
