@@ -6,9 +6,9 @@
 A wrong body is a file crates/NAME/wrong_bodies/*.edit: lines `file:`, and then pairs of `old:` and `new:`. CHECKOUT is one in which
 `rt ci` has proved the libraries (crates/*/out/rlib). First the crate is proved as it is. Then the edits of different functions are put
 into one copy of the crate, over what that check kept. An edit counts as refused where the prover says of a function that it turns that
-this function isn't proved for a reason of its own, and not only for what it calls. An edit of which the lines don't say so is tried once
-more alone. There the crate has to be refused for a reason of its own of some function. The script ends with 1 where an edit is not
-refused, where its text is not there once, or where it doesn't compile.
+this function isn't proved for a reason of its own, and not only for what it calls. The others are tried again without those. Where no
+edit of a set is refused so, one is tried alone, and some function of the crate has to be refused for a reason of its own. The script ends
+with 1 where an edit is not refused, where its text is not there once, or where it doesn't compile.
 
 RT_JOBS is how many crates are tried at once, as for `rt ci`; all processors if it isn't set.
 """
@@ -164,17 +164,23 @@ class Crate:
         said = self.check(self.folder, self.kept)
         if "logic=proved" not in said:
             return [f"{self.name}: the crate itself isn't proved: {said.strip()[-200:]}"]
-        left, checks = [], 0
-        for some in in_sets(self.folder, edits):
+        left, found, alone, checks = edits, [], [], 0
+        while left:
+            # A function that calls one that is turned too isn't judged beside it, so it is tried again without that one.
+            some = in_sets(self.folder, left)[0]
             said, checks = self.tried(some), checks + 1
-            left += [edit for edit in some if not self.refused(said, edit, len(some) == 1)]
-        found = []
-        for edit in left:
-            said, checks = self.tried([edit]), checks + 1
-            if not self.refused(said, edit, True):
-                found.append(f"{self.name} {edit.name}: " + ("not refused" if re.search(r"^fn \S+: ", said, re.M) else "it isn't judged: " + said.strip()[-200:]))
-        alone = f" ({', '.join(edit.name for edit in left)} once more alone)" if left else ""
-        print(f"{self.name}: {len(edits)} edits in {checks} checks{alone}, {len(edits) - len(found)} refused, {time.time() - begin:.0f} s", flush=True)
+            done = [edit for edit in some if self.refused(said, edit, len(some) == 1)]
+            if not done:
+                if len(some) > 1:
+                    said, checks = self.tried(some[:1]), checks + 1
+                done = some[:1]
+                alone += [edit.name for edit in done]
+                if not self.refused(said, some[0], True):
+                    judged = re.search(r"^fn \S+: ", said, re.M)
+                    found.append(f"{self.name} {some[0].name}: " + ("not refused" if judged else "it isn't judged: " + said.strip()[-200:]))
+            left = [edit for edit in left if edit not in done]
+        last = f" ({', '.join(alone)} alone)" if alone else ""
+        print(f"{self.name}: {len(edits)} edits in {checks} checks{last}, {len(edits) - len(found)} refused, {time.time() - begin:.0f} s", flush=True)
         return found
 
 
