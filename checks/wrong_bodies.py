@@ -7,8 +7,8 @@ A wrong body is a file crates/NAME/wrong_bodies/*.edit: lines `file:`, and then 
 `rt ci` has proved the libraries (crates/*/out/rlib). First the crate is proved as it is. Then the edits of different functions are put
 into one copy of the crate, over what that check kept. An edit counts as refused where the prover says of a function that it turns that
 this function isn't proved for a reason of its own, and not only for what it calls. The others are tried again without those. Where no
-edit of a set is refused so, one is tried alone, and some function of the crate has to be refused for a reason of its own. The script ends
-with 1 where an edit is not refused, where its text is not there once, or where it doesn't compile.
+edit of a set is refused so, one is tried alone, and the crate has to be refused. The script ends with 1 where an edit is not refused,
+where its text is not there once, or where it doesn't compile.
 
 RT_JOBS is how many crates are tried at once, as for `rt ci`; all processors if it isn't set.
 """
@@ -24,7 +24,7 @@ import time
 
 TOP = os.path.dirname(os.path.dirname(os.path.abspath(__file__)))
 sys.path.insert(0, os.path.join(TOP, "packaging"))
-from newer import below, used  # noqa: E402
+from newer import STATIC, below, used  # noqa: E402
 
 FOLDER = "wrong_bodies"
 Edit = collections.namedtuple("Edit", "name changes")
@@ -126,6 +126,8 @@ class Crate:
         for name in below(self.uses, self.name):
             words += ["-L", "dependency=" + os.path.dirname(self.rlib(name))]
         words += ["--antt-project", f"{self.kit}/rattle/logic/antt-project.json", "--logic-built", f"{self.kit}/logic_built"]
+        if self.name in STATIC:
+            words += ["--crate-type", "staticlib"]
         root = "src/main.rt" if os.path.exists(os.path.join(folder, "src", "main.rt")) else "src/lib.rt"
         done = subprocess.run([f"{self.kit}/bin/rattle", "check", "--crate-name", self.name, root, *words, "--links", self.name + "=", "--jobs", "1",
                                "--incremental", kept], cwd=folder, stdin=subprocess.DEVNULL, capture_output=True, text=True, check=False)
@@ -149,12 +151,11 @@ class Crate:
             return self.check(copy, kept)
 
     def refused(self, said, edit, alone):
-        """Whether the prover refuses a function that an edit turns for a reason of its own; of an edit that is tried alone, any function."""
-        own = own_refusals(said)
-        functions = turned(self.folder, edit)
-        if alone or any(not name for _, name in functions):
-            return bool(own)
-        return any(is_own(path, file, name) for path in own for file, name in functions)
+        """Whether the prover refuses a function that an edit turns for a reason of its own; of an edit that is tried alone, the crate."""
+        last = said.rstrip().rsplit("\n", 1)[-1]
+        if alone:
+            return last.startswith("logic=not-proved") or last.startswith("rattle: no verdict") and ": could not tell" in said
+        return any(is_own(path, file, name) for path in own_refusals(said) for file, name in turned(self.folder, edit))
 
     def faults(self):
         """The edits that aren't refused, each with what is to be said."""
