@@ -4,7 +4,8 @@
 Each run takes the file that the one before left, sends up to 400 commands (set, upgrade, remove, check) in pieces of random length, and
 kills the program by SIGKILL after a random time. Then the file is read by a model of docs/FORMAT.md (bench/pwstore_model.py), and a
 new run of the program lists the table: both have to be the table after the first k of the commands, where k is at least the number
-of replies that were read and at most the number of commands that were sent; and every reply has to be the model's. Every tenth run
+of replies that were read and at most the number of commands that were sent; and every reply has to be the model's. Every fifth run is an
+import of users, each line of which is the `set` of its user. Every tenth run
 is a `compact`, which is killed too.
 
 A kill takes no bytes of the page cache away: what a power cut may take is what the proofs and the device in memory are for.
@@ -26,7 +27,7 @@ import pwstore_model as model  # noqa: E402
 
 HERE = os.path.dirname(os.path.abspath(__file__))
 PROGRAM = shlex.split(os.environ.get("PWSTORE", "")) or [os.path.join(HERE, "..", "crates", "pwstore", "out", "pwstore")]
-COUNTS = {"killed": 0, "ended before": 0, "answered": 0, "found beyond the answers": 0, "compactions": 0}
+COUNTS = {"killed": 0, "ended before": 0, "answered": 0, "found beyond the answers": 0, "imports": 0, "compactions": 0}
 
 
 def command(chance):
@@ -42,6 +43,12 @@ def command(chance):
     text = chance.choice([model.HELLO.encode(), b"*%d" % chance.randrange(10**9), b"none%d" % chance.randrange(10**9),
                           b"!" + b"x" * chance.randrange(1000)])
     return b"set\t" + user + b"\t" + text
+
+
+def line_of(command, chance):
+    """The line of a shadow or htpasswd file that sets the text of this command for its user."""
+    user, text = command.split(b"\t")[1:]
+    return user + b":" + text + chance.choice([b"", b":", b":19000:0:99999:7:::"])
 
 
 def feed(child, data, chance):
@@ -84,10 +91,15 @@ def states(before, commands):
     return tables, replies
 
 
-def check_run(name, before, chance):
+def check_run(name, before, chance, is_import):
     """Makes one run, and gives the table that the file has then."""
     commands = [command(chance) for _ in range(chance.randrange(1, 400))]
-    out, was_killed = killed([name], b"".join(line + b"\n" for line in commands), chance, 0.06)
+    if is_import:
+        commands = [line for line in commands if line.startswith(b"set\t")]
+        out, was_killed = killed([name, "import"], b"".join(line_of(line, chance) + b"\n" for line in commands), chance, 0.06)
+        COUNTS["imports"] += 1
+    else:
+        out, was_killed = killed([name], b"".join(line + b"\n" for line in commands), chance, 0.06)
     answers = out.decode().split("\n")[:-1]
     tables, replies = states(before, commands)
     if answers != replies[:len(answers)]:
@@ -123,7 +135,7 @@ def main():
         if number % 10 == 9:
             compact_run(name, table, chance)
         else:
-            table = check_run(name, table, chance)
+            table = check_run(name, table, chance, number % 5 == 3)
     for file in os.listdir(folder):
         os.remove(os.path.join(folder, file))
     os.rmdir(folder)

@@ -81,8 +81,9 @@ same 'verdicts before and after' 'sha-format match' "$(for file in earlier shado
 
 # ---- a password table for a service
 if has pwstore; then
-  cut -d: -f1,2 shadow | grep -v ':$' | sed 's/:/\t/; s/^/set\t/' | pwstore table > replies || cat replies
+  pwstore table import shadow > replies || cat replies
   same 'a table' "$(printf 'ok\n%.0s' 1 2 3 4 5 6)" "$(cat replies)"
+  same 'lines that were refused' '' "$(paste -d ' ' replies shadow | grep -v '^ok ')"
   same 'after a restart' "$(printf 'match\nmismatch\nlocked\nno-user\n')" \
     "$(printf 'check\tJoe\t%s\ncheck\tJoe\tother\ncheck\troot\tx\ncheck\tnobody\tx\n' 'pass word' | pwstore table)"
   same 'an old text upgraded' upgraded \
@@ -108,7 +109,9 @@ except Stopped as stopped:
     print(stopped, end=" ")
 print(first.ask("set", "ann", "a\nset\tbob\tx"))')"
   printf 'set\tnew\t*\n' | pwstore table > replies
-  printf 'list\n' | pwstore table | sed 's/^set\t\([^\t]*\)\t/\1:/' > texts.back
+  pwstore table export > texts.back
+  same 'exported' "$(printf 'list\n' | pwstore table | sed 's/^set\t\([^\t]*\)\t/\1:/')" "$(cat texts.back)"
+  same 'a user taken away' "$(printf 'ok\nno-user\nok\n')" "$(printf 'remove\tnew\nremove\tnew\nset\tnew\t*\n' | pwstore table)"
   awk -F: -v OFS=: 'NR == FNR { text[$1] = $2; next } $1 in text { $2 = text[$1] } { print }' texts.back shadow > shadow.back
   cut -d: -f1 shadow | LC_ALL=C sort > users.old
   same 'back to a shadow file' new "$(cut -d: -f1 texts.back | LC_ALL=C sort | LC_ALL=C comm -13 users.old -)"

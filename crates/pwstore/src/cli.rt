@@ -2,15 +2,16 @@
 
 use clap::{Arg, Command};
 use std::alloc::{AllocError, Global};
-use store_run::{HELP, VERSION};
+use store_run::{ACTIONS, HELP, VERSION};
 
 /// The program's command line.
 pub fn command<'a>(alloc: Global) -> Result<Command<'a>, AllocError> {
     let file = Arg::new(alloc, "FILE")
         .required(true)
         .help("The file of the table; it is made where it isn't there");
-    let action = Arg::new(alloc, "ACTION").help(
-        "'compact' writes the file anew; left out: commands are read from standard input",
+    let action = Arg::new(alloc, "ACTION").help(ACTIONS);
+    let users = Arg::new(alloc, "USERS").help(
+        "The file of users for 'import'; - or left out: standard input",
     );
     Command::new(alloc, "pwstore")
         .bin_name("pwstore")?
@@ -20,5 +21,6 @@ pub fn command<'a>(alloc: Global) -> Result<Command<'a>, AllocError> {
         )
         .after_help(HELP)
         .arg(file)?
-        .arg(action)
+        .arg(action)?
+        .arg(users)
 }

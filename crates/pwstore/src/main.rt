@@ -1,6 +1,8 @@
 //! `pwstore FILE`: answers the commands of standard input over a table of users and their stored texts that is kept in a
 //! file, each change of which is on the disk before it is answered. A file that isn't there is made.
 //! `pwstore FILE compact`: writes the file anew, a line for each user.
+//! `pwstore FILE export`: writes each user with its text, as a line of a shadow or htpasswd file.
+//! `pwstore FILE import`: sets the users of the lines of such a file, which is named or is standard input.
 //!
 //! Each reply goes to standard output with a line feed. Errors are one line on standard error. The status says how the run
 //! ended.
@@ -19,7 +21,7 @@ use line_program::status::{ALL_GOOD, NO_MEMORY, NO_WORDS, WRITE_FAULT};
 use std::process::ExitCode;
 use std::{env, io};
 use store_run::messages::Speaker;
-use store_run::{compact_file, serve_file};
+use store_run::table_action;
 
 // The name that messages begin with.
 const PROGRAM: &str = "pwstore";
@@ -59,11 +61,14 @@ fn run_words(rt: &HostRuntime, matches: &ArgMatches<'_>) -> u8 {
         say(rt, "no file is named");
         return BAD_WORDS;
     };
-    match matches.get_str("ACTION") {
-        None => serve_file(rt, PROGRAM, name),
-        Some("compact") => compact_file(rt, PROGRAM, name),
-        Some(_) => {
-            say(rt, "what stands behind the file isn't 'compact'");
+    let action = matches.get_str("ACTION");
+    match table_action(rt, PROGRAM, name, action, matches.get_str("USERS")) {
+        Some(status) => status,
+        None => {
+            say(
+                rt,
+                "after the file is nothing, 'compact', 'export', or 'import' with or without a file of users",
+            );
             BAD_WORDS
         }
     }

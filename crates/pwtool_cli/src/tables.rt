@@ -4,7 +4,7 @@ use clap::{Arg, ArgMatches, Command};
 use pwtool_forms::fault::say;
 use pwtool_forms::status::BAD_WORDS;
 use std::alloc::{AllocError, Global};
-use store_run::{HELP, compact_file, serve_file};
+use store_run::{ACTIONS, HELP, table_action};
 
 // The name that messages begin with.
 const PROGRAM: &str = "pwtool";
@@ -14,8 +14,9 @@ pub fn table<'a>(alloc: Global) -> Result<Command<'a>, AllocError> {
     let file = Arg::new(alloc, "FILE")
         .required(true)
         .help("The file of the table; it is made where it isn't there");
-    let action = Arg::new(alloc, "ACTION").help(
-        "'compact' writes the file anew; left out: commands are read from standard input",
+    let action = Arg::new(alloc, "ACTION").help(ACTIONS);
+    let users = Arg::new(alloc, "USERS").help(
+        "The file of users for 'import'; - or left out: standard input",
     );
     Command::new(alloc, "table")
         .about(
@@ -23,18 +24,21 @@ pub fn table<'a>(alloc: Global) -> Result<Command<'a>, AllocError> {
         )
         .after_help(HELP)
         .arg(file)?
-        .arg(action)
+        .arg(action)?
+        .arg(users)
 }
 
-/// Answers the commands of standard input over the table of the file that is named, or writes the file anew, and gives the
-/// status.
+/// Does what the words ask for with the table of the file that is named, and gives the status.
 pub fn table_form(rt: &HostRuntime, matches: &ArgMatches<'_>) -> u8 {
     let file = matches.get_str("FILE").unwrap_or("");
-    match matches.get_str("ACTION") {
-        None => serve_file(rt, PROGRAM, file),
-        Some("compact") => compact_file(rt, PROGRAM, file),
-        Some(_) => {
-            say(rt, "what is after the file isn't 'compact'");
+    let action = matches.get_str("ACTION");
+    match table_action(rt, PROGRAM, file, action, matches.get_str("USERS")) {
+        Some(status) => status,
+        None => {
+            say(
+                rt,
+                "after the file is nothing, 'compact', 'export', or 'import' with or without a file of users",
+            );
             BAD_WORDS
         }
     }

@@ -2,7 +2,7 @@
 
 use file_device::{DeviceFault, FileDevice, OpenFault};
 use line_log::OpenError;
-use std::io::ErrorKind;
+use std::io::{Error, ErrorKind};
 
 /// The program that speaks, and the file that it speaks of, by their names.
 #[derive(Clone, Copy, Debug)]
@@ -28,9 +28,10 @@ impl<'a> Failure<'a> {
     }
 }
 
-/// Why a read of standard input and a write of standard output last failed, where one did.
+/// What is read, by its name, and why a read of it and a write of standard output last failed, where one did.
 #[derive(Clone, Copy, Debug)]
-pub struct StreamFaults {
+pub struct StreamFaults<'a> {
+    pub name: &'a str,
     pub input: Option<ErrorKind>,
     pub output: Option<ErrorKind>,
 }
@@ -48,14 +49,26 @@ impl Speaker<'_> {
         let _ = eprintln!(rt; "{program}: {file}: {cause}");
     }
 
-    /// Says why a read of standard input failed.
-    pub fn say_read(&self, rt: &impl Eprint, fault: Option<ErrorKind>) {
+    /// Says a cause at what is read.
+    pub fn say_of(&self, rt: &impl Eprint, name: &str, cause: &str) {
+        let program = self.program;
+        let _ = eprintln!(rt; "{program}: {name}: {cause}");
+    }
+
+    /// Says why a file that is to be read isn't opened.
+    pub fn say_error(&self, rt: &impl Eprint, name: &str, error: Error) {
+        let program = self.program;
+        let _ = eprintln!(rt; "{program}: {name}: {error}");
+    }
+
+    /// Says why a read failed.
+    pub fn say_read(&self, rt: &impl Eprint, name: &str, fault: Option<ErrorKind>) {
         let program = self.program;
         match fault {
             Some(kind) => {
-                let _ = eprintln!(rt; "{program}: standard input: {kind}");
+                let _ = eprintln!(rt; "{program}: {name}: {kind}");
             }
-            None => self.say(rt, "standard input: a read failed"),
+            None => self.say_of(rt, name, "a read failed"),
         }
     }
 

@@ -6,6 +6,7 @@ ghost use Rattle.file_device.specs.Calls.{MayLeave, seen};
 ghost use Rattle.pw_store.specs.Stored.{IsSound, takes_changes};
 ghost use Rattle.store_run.specs.Statuses.{IsTableStatus, failed_status, unopened_status, untaken_status};
 
+use crate::export::export_users;
 use crate::messages::{Failure, Speaker, StreamFaults};
 use crate::noted::Noted;
 use crate::status::{BAD_FILE, IN_USE, NO_FILE, NO_NEW_FILE};
@@ -17,6 +18,9 @@ use line_program::status::{ALL_GOOD, NO_MEMORY, OVER_MAX, READ_FAULT, WRITE_FAUL
 use pw_store::{DISK_FAULT, Store};
 use shadow_table::AnyTexts;
 use std::io;
+
+/// What standard input is called in messages.
+pub(crate) const STANDARD_INPUT: &str = "standard input";
 
 // The status of a file that isn't opened.
 fn unopened(fault: OpenFault) -> u8
@@ -82,15 +86,15 @@ pub fn tell(
     rt: &impl Eprint,
     speaker: &Speaker<'_>,
     status: u8,
-    streams: StreamFaults,
+    streams: StreamFaults<'_>,
     takes: bool,
     failure: Failure<'_>,
 ) {
     match status {
-        READ_FAULT => speaker.say_read(rt, streams.input),
+        READ_FAULT => speaker.say_read(rt, streams.name, streams.input),
         WRITE_FAULT => speaker.say_write(rt, streams.output),
         NO_MEMORY => speaker.say(rt, "out of memory for a line"),
-        OVER_MAX => speaker.say(rt, "standard input: it has more than 2^40 bytes"),
+        OVER_MAX => speaker.say_of(rt, streams.name, "it has more than 2^40 bytes"),
         _ => {}
     }
     if !takes {
@@ -115,6 +119,7 @@ fn serve_store<'a>(
     let mut sink = StdSink::new(&mut writer);
     let status = serve(&mut store, &mut source, &mut sink);
     let streams = StreamFaults {
+        name: STANDARD_INPUT,
         input: reader.fault(),
         output: writer.fault(),
     };
@@ -129,6 +134,32 @@ fn serve_store<'a>(
     status
 }
 
+/// The store of a file that is opened, or the status. Where the file isn't there it is made, or that is said.
+pub(crate) fn store_at<'a>(
+    rt: &'a HostRuntime,
+    speaker: &Speaker<'_>,
+    is_made: bool,
+) -> Result<Store<FileDevice<'a>, AnyTexts>, u8>
+    ensures takes { IfOk result (λ store. takes_changes store ≡ true) }
+    ensures sound { IfOk result (λ store. IsSound any_texts (λ d. seen d.record.calls) (λ d c. MayLeave d.record.calls c) store) }
+    ensures unopened { IfErr result (λ status. IsTableStatus status) }
+{
+    match open(rt, speaker.file) {
+        Ok(opened) => {
+            if !opened.is_there && !is_made {
+                speaker.say_at(rt, "there is no such file");
+                return Err(NO_FILE);
+            }
+            speaker.say_shared(rt, opened.is_shared);
+            store_in(rt, speaker, opened)
+        }
+        Err(fault) => {
+            speaker.say_unopened(rt, fault);
+            Err(unopened(fault))
+        }
+    }
+}
+
 /// Answers the commands of standard input over the table of a file, which is made where it isn't there, and gives the
 /// status: that of [`serve`]; or 65, 66, 73 or 75, and 5 or 7, where the file isn't opened, made or taken. What is said on
 /// standard error begins with the name of the program.
@@ -136,18 +167,9 @@ pub fn serve_file(rt: &HostRuntime, program: &str, file: &str) -> u8
     ensures statuses { IsTableStatus result }
 {
     let speaker = Speaker { program, file };
-    match open(rt, file) {
-        Ok(opened) => {
-            speaker.say_shared(rt, opened.is_shared);
-            match store_in(rt, &speaker, opened) {
-                Ok(store) => serve_store(rt, &speaker, store),
-                Err(status) => status,
-            }
-        }
-        Err(fault) => {
-            speaker.say_unopened(rt, fault);
-            unopened(fault)
-        }
+    match store_at(rt, &speaker, true) {
+        Ok(store) => serve_store(rt, &speaker, store),
+        Err(status) => status,
     }
 }
 
@@ -188,21 +210,37 @@ pub fn compact_file(rt: &HostRuntime, program: &str, file: &str) -> u8
     ensures statuses { IsTableStatus result }
 {
     let speaker = Speaker { program, file };
-    match open(rt, file) {
-        Ok(opened) => {
-            if !opened.is_there {
-                speaker.say_at(rt, "there is no such file");
-                return NO_FILE;
-            }
-            speaker.say_shared(rt, opened.is_shared);
-            match store_in(rt, &speaker, opened) {
-                Ok(store) => compact_store(rt, &speaker, store),
-                Err(status) => status,
-            }
-        }
-        Err(fault) => {
-            speaker.say_unopened(rt, fault);
-            unopened(fault)
-        }
+    match store_at(rt, &speaker, false) {
+        Ok(store) => compact_store(rt, &speaker, store),
+        Err(status) => status,
+    }
+}
+
+// Writes the users of a store to standard output.
+fn export_store<'a>(
+    rt: &'a HostRuntime,
+    speaker: &Speaker<'_>,
+    store: &Store<FileDevice<'a>, AnyTexts>,
+) -> u8
+    ensures statuses { (result ≡ 0) ⊎ (result ≡ 4) }
+{
+    let mut writer = Noted::new(io::writer(rt));
+    let mut sink = StdSink::new(&mut writer);
+    let status = export_users(store, &mut sink);
+    if status == WRITE_FAULT {
+        speaker.say_write(rt, writer.fault());
+    }
+    status
+}
+
+/// Writes the users of a file with their texts to standard output, and gives the status: that of [`export_users`]; or as
+/// [`compact_file`] where the file isn't opened or taken. What is said on standard error begins with the name of the program.
+pub fn export_file(rt: &HostRuntime, program: &str, file: &str) -> u8
+    ensures statuses { IsTableStatus result }
+{
+    let speaker = Speaker { program, file };
+    match store_at(rt, &speaker, false) {
+        Ok(store) => export_store(rt, &speaker, &store),
+        Err(status) => status,
     }
 }

@@ -1,6 +1,7 @@
 //! What a program does over any device: the table of its file, the commands on it, the file made anew.
 
-ghost use Rattle.std.specs.Prelude.{◌≡◌, ◌≢◌, ◌⊎◌, ◌<◌, ◌≤◌, ◌^◌, [], false, true, length, Some, IfErr, IfOk, IfSome};
+ghost use Rattle.std.specs.Prelude.{◌≡◌, ◌≢◌, ◌⊎◌, ◌<◌, ◌≤◌, ◌^◌, [], ℕ, List, false, true, length, Some, IfErr, IfOk, IfSome, OnSome};
+ghost use Rattle.std.specs.Io.KnownBytes.{Appends};
 ghost use Rattle.std.specs.List.{flat_map};
 ghost use Rattle.shadow_table.specs.AnyTexts.{any_texts};
 ghost use Rattle.line_io.specs.Devices.{WhereTold};
@@ -14,12 +15,14 @@ ghost use Rattle.pw_file.specs.Replies.{row_line};
 ghost use Rattle.pw_store.specs.Run.{IsLeftBy, StoreOutcome};
 ghost use Rattle.pw_store.specs.Store.{StandsFor, recovered_rows, store_fault};
 ghost use Rattle.pw_store.specs.Stored.{IsSound, device_of, lines_of_rows, rows_of, size_of, takes_changes};
+ghost use Rattle.set_lines.specs.Sets.{set_text};
 
 use crate::status::BAD_FILE;
 use line_io::{Failed, INPUT_MAX, Sink, Source};
 use line_log::{Device, OpenError};
 use line_program::status::{ALL_GOOD, NO_MEMORY};
 use pw_store::{DISK_FAULT, Store, StoreError, create, recover, run_store};
+use set_lines::SetLines;
 use shadow_table::{AnyKept, AnyTexts};
 use std::alloc::Global;
 
@@ -140,6 +143,29 @@ pub fn serve<D: Device, S: Source, K: Sink>(
         (IsLeftBy any_texts (rows_of store.old) (size_of store.old) (lines held))) }
 {
     run_store(store, source, sink, INPUT_MAX)
+}
+
+/// Sets the texts of the lines of users and texts that a source of at most 2^40 bytes has, each for its line's user, and gives the
+/// status: the replies are those to the commands that [`SetLines`] makes of the lines.
+pub fn import_users<D: Device, S: Source + Drop, K: Sink>(
+    store: &mut Store<D, AnyTexts>,
+    source: S,
+    sink: &mut K,
+) -> u8
+    requires open { takes_changes store.old ≡ true }
+    requires sound { IsSound any_texts D.seen D.may_leave store.old }
+    ensures statuses { (result ≤ 7) × (result ≢ 2) }
+    ensures write_fault { result ≡ 4 → HasRisen (K.faults sink.old) (K.faults sink.new) }
+    ensures disk_fault { takes_changes store.new ≡ false → HasRisen (D.faults (device_of store.old)) (D.faults (device_of store.new)) }
+    ensures outcome { IfSome (S.left source) (λ held. OnSome (K.written sink.old) ((taken : List ℕ) × (added : List ℕ)
+        × Appends (K.written sink.old) (K.written sink.new) added
+        × StoreOutcome any_texts (rows_of store.old) (size_of store.old) (takes_changes store.new)
+        (D.may_leave (device_of store.new)) result (2 ^ 40) (set_text held) taken added)) }
+    ensures any_moment { IfSome (S.left source) (λ held. LeavesOnly D.moment D.left_since (device_of store.old) (device_of store.new)
+        (IsLeftBy any_texts (rows_of store.old) (size_of store.old) (lines (set_text held)))) }
+{
+    let mut source = SetLines::new(source);
+    serve(store, &mut source, sink)
 }
 
 /// Writes the file anew, a line for each user, and gives the status: 0, 5 where memory is wanting, 7, or 65 where the lines

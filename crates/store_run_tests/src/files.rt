@@ -5,7 +5,9 @@ use line_log::OpenError;
 use std::hash::{BuildHasher, RandomState};
 use std::os::unix::fs::PermissionsExt;
 use std::{fs, io};
-use store_run::{Untaken, compact_file, serve_file, store_of};
+use store_run::{
+    Untaken, compact_file, export_file, import_file, serve_file, store_of, table_action,
+};
 
 const REFUSED: [(&[u8], OpenError); 9] = [
     (b"", OpenError::NoHeader),
@@ -120,6 +122,7 @@ fn statuses_over_files_of_the_system(rt: HostRuntime) {
     };
     let (name, new) = (name.as_str(), new.as_str());
     assert!(rt; compact_file(&rt, "pwstore", name) == 66);
+    assert!(rt; export_file(&rt, "pwstore", name) == 66);
     assert!(rt; serve_file(&rt, "pwstore", folder.as_str()) == 66);
     // What no run has left is in the way of the first file.
     assert!(rt; write(&rt, new, b"mine", 0o600) && serve_file(&rt, "pwstore", name) == 73);
@@ -127,9 +130,56 @@ fn statuses_over_files_of_the_system(rt: HostRuntime) {
     assert!(rt;
         write(&rt, name, b"set\tann\t*\n", 0o600) && serve_file(&rt, "pwstore", name) == 65
     );
+    assert!(rt; export_file(&rt, "pwstore", name) == 65);
     // With rights of others it isn't made anew, as an access control list may give them.
     assert!(rt; write(&rt, name, THREE, 0o640) && compact_file(&rt, "pwstore", name) == 73);
     assert!(rt; has(&rt, name, THREE));
     assert!(rt; write(&rt, name, THREE, 0o600) && compact_file(&rt, "pwstore", name) == 0);
+    assert!(rt; export_file(&rt, "pwstore", name) == 0 && has(&rt, name, ANEW));
     assert!(rt; has(&rt, name, ANEW) && fs::remove_dir_all(&rt, folder.as_str()).is_ok());
+}
+
+// The users of `USERS` are set; what has no text or is no name is refused, and the others are set all the same.
+const USERS: &[u8] = b"ann:!:19000:0:99999:7:::\nbob:$5\ncarl\ncl\teo:*\n";
+
+const SET: &[u8] = b"#pwstore 1\nset\tann\t!\nset\tbob\t$5\n#";
+
+#[test]
+fn users_of_a_file(rt: HostRuntime) {
+    let Ok(folder) = folder(&rt) else {
+        panic!(rt; "no folder is made")
+    };
+    let (Some(name), Some(users)) = (
+        named(&rt, folder.as_str(), "table"),
+        named(&rt, folder.as_str(), "shadow"),
+    ) else {
+        panic!(rt; "out of memory")
+    };
+    let (name, users) = (name.as_str(), users.as_str());
+    // Nothing is made where there is no file of users, or a folder has its name.
+    assert!(rt; import_file(&rt, "pwstore", name, users) == 66);
+    assert!(rt; import_file(&rt, "pwstore", name, folder.as_str()) == 66);
+    assert!(rt; fs::read(&rt, name).is_err());
+    assert!(rt; write(&rt, users, USERS, 0o600) && import_file(&rt, "pwstore", name, users) == 1);
+    assert!(rt; has(&rt, name, SET) && has(&rt, users, USERS));
+    // The words of a command line.
+    let import = Some("import");
+    assert!(rt; write(&rt, users, b"bob:!", 0o600));
+    assert!(rt; table_action(&rt, "pwstore", name, import, Some(users)) == Some(0));
+    assert!(rt;
+        has(
+            &rt,
+            name,
+            b"#pwstore 1\nset\tann\t!\nset\tbob\t$5\nset\tbob\t!\n#"
+        )
+    );
+    assert!(rt; table_action(&rt, "pwstore", name, Some("compact"), None) == Some(0));
+    assert!(rt; has(&rt, name, b"#pwstore 1\nset\tann\t!\nset\tbob\t!\n#"));
+    assert!(rt; table_action(&rt, "pwstore", name, Some("export"), None) == Some(0));
+    assert!(rt; table_action(&rt, "pwstore", name, Some("compact"), Some(users)).is_none());
+    assert!(rt; table_action(&rt, "pwstore", name, Some("export"), Some(users)).is_none());
+    assert!(rt; table_action(&rt, "pwstore", name, Some("imports"), Some(users)).is_none());
+    assert!(rt; table_action(&rt, "pwstore", name, Some("list"), None).is_none());
+    assert!(rt; table_action(&rt, "pwstore", name, None, Some(users)).is_none());
+    assert!(rt; fs::remove_dir_all(&rt, folder.as_str()).is_ok());
 }

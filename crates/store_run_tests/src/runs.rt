@@ -3,7 +3,7 @@
 use crate::helpers::{ANEW, ANN, EMPTY, GONE, NONE_FAILS, THREE, TWO, leaves_one, opened};
 use line_io::{Failed, MemorySink, MemorySource, Sink, Source};
 use std::cell::Cell;
-use store_run::{compact, serve};
+use store_run::{compact, export_users, import_users, serve};
 
 // An input, the replies, the file after them, and the status.
 const SESSIONS: [(&[u8], &[u8], &[u8], &[u8], u8); 6] = [
@@ -190,6 +190,124 @@ fn a_user_taken_away_is_not_in_the_new_file(rt: HostRuntime) {
     };
     assert!(rt; compact(&mut store) == 0);
     assert!(rt; store.device().bytes() == b"#pwstore 1\nset\tbob\t$5\n#".as_slice());
+}
+
+// Tables, and their lines.
+const EXPORTS: [(&[u8], &[u8]); 3] = [
+    (EMPTY, b""),
+    (THREE, b"ann:!\nbob:$5\n"),
+    (
+        b"#pwstore 1\nset\tZo\xc3\xab\t\nset\ta b\t$1$x$y\n#",
+        b"Zo\xc3\xab:\na b:$1$x$y\n",
+    ),
+];
+
+#[test]
+fn users_as_lines(rt: HostRuntime) {
+    for (i, (file, lines)) in EXPORTS.iter().enumerate() {
+        let Some(store) = opened(rt.alloc(), file, NONE_FAILS) else {
+            panic!(rt; "it is opened")
+        };
+        let mut room = [0; 64];
+        let mut sink = MemorySink::new(&mut room, 3, &[]);
+        assert!(rt; export_users(&store, &mut sink) == 0, "of {i}");
+        assert!(rt; sink.bytes() == *lines, "of {i}");
+        // The file isn't called.
+        assert!(rt; store.device().number() == 1, "of {i}");
+    }
+}
+
+#[test]
+fn a_write_of_the_lines_fails(rt: HostRuntime) {
+    for (failing, lines) in [(0u64, b"".as_slice()), (1, b"ann:!"), (2, b"ann:!\nbob:")] {
+        let Some(store) = opened(rt.alloc(), THREE, NONE_FAILS) else {
+            panic!(rt; "it is opened")
+        };
+        let mut room = [0; 64];
+        let fails = [failing];
+        let mut sink = MemorySink::new(&mut room, 5, &fails);
+        assert!(rt; export_users(&store, &mut sink) == 4, "at {failing}");
+        assert!(rt; sink.bytes() == lines, "at {failing}");
+    }
+}
+
+// Lines of users over a table, the replies, the file after them, and the status.
+const IMPORTS: [(&[u8], &[u8], &[u8], &[u8], u8); 5] = [
+    (TWO, b"ann:!:19000:0:99999:7:::\n", b"ok\n", THREE, 0),
+    (TWO, b"ann:!", b"ok\n", THREE, 0),
+    // No line is another command than a set.
+    (
+        TWO,
+        b"list\nremove\tann\nset\tann\t!\nset\tann\t!:x\nremove\tann:\ncheck\tann:x\n\n:*\n",
+        b"bad-command\nbad-command\nbad-command\nbad-command\nbad-command\nbad-command\nbad-command\nbad-command\n",
+        TWO,
+        1,
+    ),
+    (TWO, b"", b"", TWO, 0),
+    // The others are set where one is refused.
+    (
+        EMPTY,
+        b"ann:t\xc3\xa4\nann:*\n\xff:*\nb\x01b:*\nbob:$5\r\nbob:$5:\r\n",
+        b"bad-text\nok\nbad-command\nbad-command\nbad-text\nok\n",
+        TWO,
+        1,
+    ),
+];
+
+#[test]
+fn users_of_lines(rt: HostRuntime) {
+    for (i, (file, input, replies, file_now, status)) in IMPORTS.iter().enumerate() {
+        let Some(mut store) = opened(rt.alloc(), file, NONE_FAILS) else {
+            panic!(rt; "it is opened")
+        };
+        let mut room = [0; 256];
+        let source = MemorySource::new(input, 1_000, &[]);
+        let mut sink = MemorySink::new(&mut room, 64, &[]);
+        assert!(rt;
+            import_users(&mut store, source, &mut sink) == *status,
+            "of {i}"
+        );
+        assert!(rt; sink.bytes() == *replies, "of {i}");
+        assert!(rt; store.device().bytes() == *file_now, "of {i}");
+    }
+}
+
+#[test]
+fn users_of_one_read_are_one_group(rt: HostRuntime) {
+    let Some(mut store) = opened(rt.alloc(), EMPTY, NONE_FAILS) else {
+        panic!(rt; "it is opened")
+    };
+    let mut room = [0; 64];
+    let source = MemorySource::new(b"ann:*:1\nbob:$5:2:\nann:!\n", 1_000, &[]);
+    let mut sink = MemorySink::new(&mut room, 64, &[]);
+    assert!(rt; import_users(&mut store, source, &mut sink) == 0);
+    // The sync of recovery, and five calls for one group.
+    assert!(rt; sink.bytes() == b"ok\nok\nok\n".as_slice() && store.device().number() == 6);
+    assert!(rt; store.device().bytes() == THREE);
+}
+
+#[test]
+fn a_fault_of_an_import(rt: HostRuntime) {
+    for failing in 1..6 {
+        let Some(mut store) = opened(rt.alloc(), TWO, failing) else {
+            panic!(rt; "it is opened")
+        };
+        let mut room = [0; 64];
+        let source = MemorySource::new(b"ann:!\nbob\nann:*\n", 1_000, &[]);
+        let mut sink = MemorySink::new(&mut room, 64, &[]);
+        assert!(rt;
+            import_users(&mut store, source, &mut sink) == 7,
+            "at {failing}"
+        );
+        assert!(rt;
+            sink.bytes() == b"disk-fault\nbad-command\ndisk-fault\n".as_slice(),
+            "at {failing}"
+        );
+        assert!(rt;
+            leaves_one(rt.alloc(), store.device(), [TWO, THREE]),
+            "at {failing}"
+        );
+    }
 }
 
 // A source that gives two commands at a read, and looks before each whether those before were answered.

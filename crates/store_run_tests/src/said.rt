@@ -117,6 +117,7 @@ fn how_a_run_ended(rt: HostRuntime) {
             lines: Cell::new(0),
         };
         let streams = StreamFaults {
+            name: "standard input",
             input: fault,
             output: fault,
         };
@@ -129,6 +130,7 @@ fn how_a_run_ended(rt: HostRuntime) {
 #[test]
 fn a_pipe_without_a_reader_is_left_quietly(rt: HostRuntime) {
     let gone = StreamFaults {
+        name: "shadow",
         input: Some(ErrorKind::BrokenPipe),
         output: Some(ErrorKind::BrokenPipe),
     };

@@ -1,0 +1,2 @@
+mod Exported
+mod Told
