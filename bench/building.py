@@ -36,7 +36,7 @@ def answers(program, lines):
 def copied():
     """Brings the copy of crates/ up to date. What was built there stays, and files that are gone here go there too."""
     for at, folders, names in os.walk(os.path.join(TOP, "crates")):
-        folders[:] = [name for name in folders if name not in ("out", "wrong_bodies")]
+        folders[:] = [name for name in folders if name not in ("out", "must-fail")]
         there = os.path.join(WORK, os.path.relpath(at, TOP))
         os.makedirs(there, exist_ok=True)
         for name in set(os.listdir(there)) - set(names) - set(folders) - {"out"}:

@@ -1,13 +1,12 @@
 #!/usr/bin/env python3
 """Runs the gate and prints what it spends, crate by crate, as a table in Markdown.
 
-The gate is `rt ci`, and then checks/wrong_bodies.py, which tries the edits. The provers that they start are sampled four times a second:
-which crate, and whether it proves the crate, the crate with its tests, or the crate for its edits and with them. The last line is the
-processor time of all that the gate started, as the kernel counts it, so what a sample misses is in it.
+The provers that `rt ci` starts are sampled four times a second: which crate, and whether it proves the crate, the crate with its tests,
+or an edit. The last line is the processor time of all that the gate started, as the kernel counts it, so what a sample misses is in it.
 
 usage: bench/gate_times.py [CPUS] [NAME..]
-       (CPUS as taskset has them, such as 0,1, or - for all; NAME is a crate; the report goes to standard output, that of the two commands to
-       gate.log in the folder of temporary files)
+       (CPUS as taskset has them, such as 0,1, or - for all; NAME as `rt ci` has them; the report goes to standard output, rt's to gate.log
+       in the folder of temporary files)
 
 For a gate from nothing the kit's store has to be empty: a mount over /opt/rattle-kept, as root, makes it so for one run.
 """
@@ -33,22 +32,26 @@ def provers():
                 words = file.read().decode(errors="replace").split("\0")
             if not words[0].endswith("/rattle") or "--crate-name" not in words:
                 continue
+            folder = os.readlink(f"/proc/{pid}/cwd")
             with open(f"/proc/{pid}/stat", encoding="ascii") as file:
                 numbers = file.read().rsplit(")", 1)[1].split()
         except (OSError, IndexError):
             continue
-        kind = "tests" if "--test" in words else "proof" if words[1] == "build" else "edits"
+        kind = "edits" if "/rt-edit-" in folder else "tests" if "--test" in words else "proof"
         yield (pid, numbers[19]), (words[words.index("--crate-name") + 1], kind, (int(numbers[11]) + int(numbers[12])) / TICKS)
 
 
 def sampled(child):
-    """The provers that run until a process ends, each with its crate, its kind and its processor seconds. What runs before it began is left out."""
+    """The processor seconds by crate and kind, until a process ends. What runs before it began is left out."""
     before = {key for key, _ in provers()}
     last = {}
     while child.poll() is None:
         last.update((key, value) for key, value in provers() if key not in before)
         time.sleep(0.25)
-    return last.values()
+    seconds = collections.defaultdict(lambda: collections.Counter())
+    for crate, kind, spent in last.values():
+        seconds[crate][kind] += spent
+    return seconds
 
 
 def printed(seconds, total, clock):
@@ -64,17 +67,10 @@ def printed(seconds, total, clock):
 
 def main():
     cpus, names = (sys.argv[1] if len(sys.argv) > 1 else "-"), sys.argv[2:]
-    bound = [] if cpus == "-" else ["taskset", "-c", cpus]
-    edited = [name for name in names if os.path.isdir(os.path.join(TOP, "crates", name, "wrong_bodies"))]
-    commands = [["rt", "ci", *names], *([[sys.executable, "checks/wrong_bodies.py", *edited]] if edited or not names else [])]
-    seconds, begin = collections.defaultdict(collections.Counter), time.time()
-    with open(os.path.join(tempfile.gettempdir(), "gate.log"), "wb") as log:
-        for command in commands:
-            with subprocess.Popen([*bound, *command], cwd=TOP, stdout=log, stderr=log) as child:
-                for crate, kind, spent in sampled(child):
-                    seconds[crate][kind] += spent
-            if child.returncode:
-                break
+    words = [*([] if cpus == "-" else ["taskset", "-c", cpus]), "rt", "ci", *names]
+    begin = time.time()
+    with open(os.path.join(tempfile.gettempdir(), "gate.log"), "wb") as log, subprocess.Popen(words, cwd=TOP, stdout=log, stderr=log) as child:
+        seconds = sampled(child)
     spent = resource.getrusage(resource.RUSAGE_CHILDREN)
     printed(seconds, spent.ru_utime + spent.ru_stime, time.time() - begin)
     return child.returncode

@@ -58,7 +58,7 @@ def newer_source(path):
     """A source under crates/ that is newer than this file, if there is one."""
     built = os.path.getmtime(path)
     for folder, folders, files in os.walk(CRATES):
-        folders[:] = [name for name in folders if name not in ("out", "wrong_bodies")]
+        folders[:] = [name for name in folders if name not in ("out", "must-fail")]
         for name in files:
             source = os.path.join(folder, name)
             if name.endswith((".rt", ".antt")) and os.path.getmtime(source) > built:

@@ -49,7 +49,7 @@ def dead_edits(text):
         crate = None
         for crate_name, name in re.findall(r"`(\w+)`|\b([a-z]\w*_\w+)\b", row):
             crate = crate_name or crate
-            if name and not os.path.exists(os.path.join(TOP, "crates", crate or "", "wrong_bodies", name + ".edit")):
+            if name and not os.path.exists(os.path.join(TOP, "crates", crate or "", "must-fail", name + ".edit")):
                 yield f"docs/internals/ARCHITECTURE.md: {crate} has no edit {name}"
 
 

@@ -114,7 +114,7 @@ def files():
     """The repository's files as text, without what is built and what is outside data."""
     listed = subprocess.run(["git", "ls-files"], cwd=TOP, capture_output=True, text=True, check=True).stdout.split("\n")
     for path in filter(None, listed):
-        if path.startswith(("dist/", "bench/corpus/", "docs/parts.svg")) or "/wrong_bodies/" in path:
+        if path.startswith(("dist/", "bench/corpus/", "docs/parts.svg")) or "/must-fail/" in path:
             continue
         try:
             yield path, source(path)

@@ -3,12 +3,15 @@
 
     checks/wrong_bodies.py [CHECKOUT] [NAME..]     (this checkout, and each crate that has wrong bodies, if left out)
 
-A wrong body is a file crates/NAME/wrong_bodies/*.edit: lines `file:`, and then pairs of `old:` and `new:`. CHECKOUT is one in which
+A wrong body is a file crates/NAME/must-fail/*.edit: lines `file:`, and then pairs of `old:` and `new:`. CHECKOUT is one in which
 `rt ci` has proved the libraries (crates/*/out/rlib). First the crate is proved as it is. Then the edits of different functions are put
 into one copy of the crate, over what that check kept. An edit counts as refused where the prover says of a function that it turns that
 this function isn't proved for a reason of its own, and not only for what it calls. The others are tried again without those. Where no
 edit of a set is refused so, one is tried alone, and the crate has to be refused. The script ends with 1 where an edit is not refused,
 where its text is not there once, or where it doesn't compile.
+
+This is a quick look before the gate and no verdict: the verdict is `rt ci`, which tries each edit for itself, over a proof from nothing. But
+`rt ci` passes by an edit that doesn't compile, and this script doesn't.
 
 RT_JOBS is how many crates are tried at once, as for `rt ci`; all processors if it isn't set.
 """
@@ -26,7 +29,7 @@ TOP = os.path.dirname(os.path.dirname(os.path.abspath(__file__)))
 sys.path.insert(0, os.path.join(TOP, "packaging"))
 from newer import STATIC, below, used  # noqa: E402
 
-FOLDER = "wrong_bodies"
+FOLDER = "must-fail"
 Edit = collections.namedtuple("Edit", "name changes")
 Change = collections.namedtuple("Change", "file old new")
 FUNCTION = re.compile(r"^( *)(?:pub(?:\([a-z]+\))? )?(?:final )?(?:unsafe )?(?:extern \"C\" )?fn (\w+)", re.M)
