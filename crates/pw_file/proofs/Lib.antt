@@ -1,5 +1,4 @@
 pub mod Cuts
-pub mod UpgradedTexts
 pub mod Content
 pub mod Calls
 pub mod Own

@@ -1,13 +1,12 @@
 -- A line is answered as its reply over the table says.
 use Rattle.std.proofs.Common.{◌≡◌, ℕ, ◌≤◌, ◌<◌, Bool, true, false, List, [], ◌∷◌, length, refl, sym, ap, ◌∙◌, arith}
 use Rattle.std.proofs.Common.{inl, inr, Option, Some, None, Result, Ok, Err}
-use Rattle.std.specs.Prelude.{nat_le, nat_lt, is_ok}
+use Rattle.std.specs.Prelude.{nat_le, nat_lt, is_ok, if◌then◌else◌}
 use Rattle.std.proofs.lemmas.Bool.Decides.{nat_tests}
-use Rattle.phc.specs.Grammar.{salt_fault}
 use Rattle.phc.specs.declared.error.Error as phc_error
 use Rattle.pieces.specs.Faults.{first_fault, unless}
-use Rattle.pw_file.specs.Answers.{IsAnswer, bad_text, check_answer, check_may_lack, checked, done_or_fault, has_room}
-use Rattle.pw_file.specs.Answers.{remove_answer, set_answer, upgrade_answer, with_salt, upgrade_may_lack}
+use Rattle.pw_file.specs.Answers.{IsAnswer, bad_text, check_answer, check_may_lack, checked, done_or_fault, has_room, judged}
+use Rattle.pw_file.specs.Answers.{remove_answer, renewal, set_answer, upgrade_answer, with_salt, upgrade_may_lack}
 use Rattle.pw_file.specs.Calls.{is_want, rows_after_remove, rows_after_set, rows_after_upgrade}
 use Rattle.pw_file.specs.Commands as of
 use Rattle.pw_file.specs.History.{Lists, Reply, Rows, Says, change_of, is_done, is_upgraded, text_in}
@@ -47,10 +46,18 @@ module _ {T V : Type 0} (p : TextPolicy T V) where
   checked_cases (Ok b) = refl
   checked_cases (Err e) = refl
 
+  bound_cases : (costly : Bool) (r : Result Bool V)
+      → is_want (if costly then Err refused.TooCostly else checked {T = T} r) ≡ false
+  bound_cases true r = refl
+  bound_cases false r = checked_cases r
+
+  judged_known : (password text : List ℕ) → is_want (judged p password text) ≡ false
+  judged_known password text = bound_cases (p.is_too_costly password text) (p.verdict password text)
+
   check_cases : (text password : List ℕ) (locked : Bool) → p.is_locked text ≡ locked
       → is_want (check_answer p (Some text) password) ≡ false
   check_cases text password true is = rw is refl
-  check_cases text password false is = rw is (checked_cases (p.verdict password text))
+  check_cases text password false is = rw is (judged_known password text)
 
   check_known : (had : Option (List ℕ)) (password : List ℕ) → is_want (check_answer p had password) ≡ false
   check_known None password = refl
@@ -61,11 +68,19 @@ module _ {T V : Type 0} (p : TextPolicy T V) where
   salt_cases (Some e) answer known = refl
   salt_cases None answer known = known
 
+  renewal_cases : (stays : Bool) (answer : Result Bool (FileError T V)) → is_want answer ≡ false
+      → is_want (renewal stays answer) ≡ false
+  renewal_cases true (Ok true) known = refl
+  renewal_cases false (Ok true) known = refl
+  renewal_cases stays (Ok false) known = refl
+  renewal_cases stays (Err e) known = known
+
   upgrade_cases : (text password salt : List ℕ) (locked : Bool) → p.is_locked text ≡ locked
       → is_want (upgrade_answer p (Some text) password salt) ≡ false
   upgrade_cases text password salt true is = rw is refl
   upgrade_cases text password salt false is =
-      rw is (salt_cases (salt_fault salt) (checked (p.verdict password text)) (checked_cases (p.verdict password text)))
+      rw is (salt_cases (p.salt_fault salt) (renewal (p.stays password salt text) (judged p password text))
+      (renewal_cases (p.stays password salt text) (judged p password text) (judged_known password text)))
 
   upgrade_known : (had : Option (List ℕ)) (password salt : List ℕ)
       → is_want (upgrade_answer p had password salt) ≡ false
@@ -92,21 +107,21 @@ module _ {T V : Type 0} (p : TextPolicy T V) where
   long_reply table line long = rw (long_is line long) refl
 
 module _ {T V : Type 0} (p : TextPolicy T V) (old : Rows) (line : List ℕ) where
-  after_is : (r : Reply) → table_reply p old line ≡ r → table_after p old line ≡ changed old (change_of (of.command p line) r)
-  after_is r is = ap (λ (reply : Reply). changed old (change_of (of.command p line) reply)) is
+  after_is : (r : Reply) → table_reply p old line ≡ r → table_after p old line ≡ changed old (change_of p (of.command p line) r)
+  after_is r is = ap (λ (reply : Reply). changed old (change_of p (of.command p line) reply)) is
 
   says : {A : Type 0} (answer : Result A (FileError T V)) (word : Word) (new : Rows) → is_want answer ≡ false
       → table_reply p old line ≡ Says word
-      → new ≡ changed old (change_of (of.command p line) (Says word))
+      → new ≡ changed old (change_of p (of.command p line) (Says word))
       → AnswersLineOver p old line new (line_reply answer word)
   says answer word new known is next = rw known (sym is, next ∙ sym (after_is (Says word) is))
 
   -- a reply that says of no change
   stays : (word : Word) → is_done (Says word) ≡ false → is_upgraded (Says word) ≡ false
-      → old ≡ changed old (change_of (of.command p line) (Says word))
-  stays word a b = rw (unchanged (of.command p line) word a b) refl
+      → old ≡ changed old (change_of p (of.command p line) (Says word))
+  stays word a b = rw (unchanged p (of.command p line) word a b) refl
 
-  refusal : (e : FileError T V) → old ≡ changed old (change_of (of.command p line) (Says (error_word e)))
+  refusal : (e : FileError T V) → old ≡ changed old (change_of p (of.command p line) (Says (error_word e)))
   refusal e = let no = no_change e in stays (error_word e) no.0 no.1
 
   -- what is answered to a command that is no listing: what it is to be, or want of memory, where that may be
@@ -114,7 +129,7 @@ module _ {T V : Type 0} (p : TextPolicy T V) (old : Rows) (line : List ℕ) wher
       (word_of : Result A (FileError T V) → Word) (after : Rows) → Asks p line c
       → reply_by p (text_in old) (length old) old (Some c) ≡ Says (word_of truth)
       → is_costly_by p (text_in old) (length old) (Some c) ≡ may → is_want truth ≡ false → IsAnswer truth may answer
-      → after ≡ changed old (change_of (of.command p line) (Says (word_of answer)))
+      → after ≡ changed old (change_of p (of.command p line) (Says (word_of answer)))
       → (answer ≡ Err refused.OutOfMemory → after ≡ old)
       → AnswersLineOver p old line after (line_reply answer (word_of answer))
   answered {A} c truth answer may word_of after asks reply costly known (inl is) next same =
@@ -128,7 +143,7 @@ module _ {T V : Type 0} (p : TextPolicy T V) (old : Rows) (line : List ℕ) wher
   -- ---- set
 
   set_next : (user new : List ℕ) (answer : Result (Unit {0}) (FileError T V)) → of.command p line ≡ Some (of.Set user new)
-      → rows_after_set old user new answer ≡ changed old (change_of (of.command p line) (Says (set_word answer)))
+      → rows_after_set old user new answer ≡ changed old (change_of p (of.command p line) (Says (set_word answer)))
   set_next user new (Ok done) is = rw is refl
   set_next user new (Err e) is = refusal e
 
@@ -146,7 +161,7 @@ module _ {T V : Type 0} (p : TextPolicy T V) (old : Rows) (line : List ℕ) wher
   -- ---- remove
 
   remove_next : (user : List ℕ) (answer : Result (Unit {0}) (FileError T V)) → of.command p line ≡ Some (of.Remove user)
-      → rows_after_remove old user answer ≡ changed old (change_of (of.command p line) (Says (set_word answer)))
+      → rows_after_remove old user answer ≡ changed old (change_of p (of.command p line) (Says (set_word answer)))
   remove_next user (Ok done) is = rw is refl
   remove_next user (Err e) is = refusal e
 
@@ -161,7 +176,7 @@ module _ {T V : Type 0} (p : TextPolicy T V) (old : Rows) (line : List ℕ) wher
   -- ---- check
 
   check_next : (answer : Result Bool (FileError T V))
-      → old ≡ changed old (change_of (of.command p line) (Says (check_word answer)))
+      → old ≡ changed old (change_of p (of.command p line) (Says (check_word answer)))
   check_next (Ok true) = stays Match refl refl
   check_next (Ok false) = stays Mismatch refl refl
   check_next (Err e) = refusal e
@@ -177,8 +192,8 @@ module _ {T V : Type 0} (p : TextPolicy T V) (old : Rows) (line : List ℕ) wher
 
   upgrade_next : (user salt password : List ℕ) (answer : Result Bool (FileError T V))
       → of.command p line ≡ Some (of.Upgrade user salt password)
-      → rows_after_upgrade old user password salt answer
-      ≡ changed old (change_of (of.command p line) (Says (upgrade_word answer)))
+      → rows_after_upgrade p old user password salt answer
+      ≡ changed old (change_of p (of.command p line) (Says (upgrade_word answer)))
   upgrade_next user salt password (Ok true) is = rw is refl
   upgrade_next user salt password (Ok false) is = stays Mismatch refl refl
   upgrade_next user salt password (Err e) is = refusal e
@@ -187,20 +202,20 @@ module _ {T V : Type 0} (p : TextPolicy T V) (old : Rows) (line : List ℕ) wher
       → Asks p line (of.Upgrade user salt password)
       → IsAnswer (upgrade_answer p (text_in old user) password salt) (upgrade_may_lack p (text_in old user) password salt)
       answer
-      → after ≡ rows_after_upgrade old user password salt answer
+      → after ≡ rows_after_upgrade p old user password salt answer
       → AnswersLineOver p old line after (line_reply answer (upgrade_word answer))
   upgrade_answered user salt password after answer asks is rows =
       answered (of.Upgrade user salt password) (upgrade_answer p (text_in old user) password salt) answer _ upgrade_word
       after asks refl refl (upgrade_known p (text_in old user) password salt) is
       (rows ∙ upgrade_next user salt password answer asks.1)
-      (λ want. rows ∙ ap (rows_after_upgrade old user password salt) want)
+      (λ want. rows ∙ ap (rows_after_upgrade p old user password salt) want)
 
   -- ---- list, and lines that are no command
 
   pub list_answered : Asks p line of.Listing → AnswersLineOver p old line old (Some replies.Listing)
   list_answered asks =
       let is : table_reply p old line ≡ Lists old = reply_is p old line _ asks.0 asks.1 in
-      let none : change_of (of.command p line) (Lists old) ≡ None = rw asks.1 refl in
+      let none : change_of p (of.command p line) (Lists old) ≡ None = rw asks.1 refl in
       (sym is, sym (after_is (Lists old) is ∙ ap (changed old) none))
 
   word_answered : (word : Word) → table_reply p old line ≡ Says word → is_done (Says word) ≡ false

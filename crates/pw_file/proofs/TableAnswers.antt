@@ -2,7 +2,7 @@
 use Rattle.std.proofs.Common.{◌≡◌, ◌⊎◌, ℕ, suc, ◌+◌, ◌≤◌, ◌<◌, Bool, true, false, List, [], ◌∷◌, ◌++◌, length, cond}
 use Rattle.std.proofs.Common.{refl, sym, ap, ◌∙◌, arith, inl, inr, Option, Some, None, Result, Ok, Err, Bor}
 use Rattle.std.specs.Prelude.{◌&&◌, ◌||◌, IfOk, IfSome, MatchOption, String, string_bytes, codes, is_ok, is_some, nat_le, not}
-use Rattle.std.specs.Prelude.{unwrap_or, ◌^◌}
+use Rattle.std.specs.Prelude.{unwrap_or, ◌^◌, if◌then◌else◌}
 use Rattle.std.specs.Option.{option_map}
 use Rattle.std.specs.List.{after_first, before_first, list_any, position_or_len}
 use Rattle.std.specs.Str.{is_utf8}
@@ -19,10 +19,10 @@ use Rattle.phc.specs.Parts.{salt_text_or_fault}
 use Rattle.phc.specs.declared.error.Error as phc_error
 use Rattle.phc.proofs.EncodedBytes.{encoded_length}
 use Rattle.stored_check.specs.Verdict.{same_text}
-use Rattle.pw_file.specs.Policy.{IsLawful, TextPolicy}
+use Rattle.pw_file.specs.Policy.{IsFresh, IsLawful, TextPolicy}
 use Rattle.pw_file.specs.Upgraded.{upgraded_text, upgraded_key}
 use Rattle.pieces.specs.Faults.{first_fault, unless}
-use Rattle.pw_file.specs.Answers.{IsAnswer, bad_text, check_answer, check_may_lack, checked, has_room}
+use Rattle.pw_file.specs.Answers.{IsAnswer, bad_text, check_answer, check_may_lack, checked, has_room, has_text, judged, judged_lack, renewal}
 use Rattle.pw_file.specs.Answers.{set_fault, upgrade_answer, open_upgrade, is_match, upgrade_may_lack, done_of}
 use Rattle.pw_file.specs.Answers.{done_or_fault, exchange_answer, open_text, set_answer, with_salt}
 use Rattle.pw_file.specs.Commands.{by_cut, command, cut_at_tab}
@@ -33,7 +33,6 @@ use Rattle.pw_file.specs.declared.error.FileError.{FileError}
 use Rattle.pw_file.specs.declared.error.FileError.TheVariants as refused
 use Rattle.pw_file.proofs.Distinct.{set_few}
 use Rattle.pw_file.proofs.Entries.{rows_inserted, rows_length}
-use Rattle.pw_file.proofs.UpgradedTexts.{fresh_short}
 
 -- ---- the first tab
 
@@ -151,64 +150,95 @@ module _ {T V : Type 0} (p : TextPolicy T V) where
   -- the answers where the text is open
   pub check_open : (had : Option (List ℕ)) (text password : List ℕ) (answer : Result Bool (FileError T V))
       → open_text p had ≡ Ok text
-      → IsAnswer (checked {T = T} (p.verdict password text)) (p.may_lack password text) answer
+      → IsAnswer (judged p password text) (judged_lack p password text) answer
       → IsAnswer (check_answer p had password) (check_may_lack p had password) answer
-  check_open had text password answer is judged = rw is judged
+  check_open had text password answer is answered = rw is answered
 
   pub check_closed : (had : Option (List ℕ)) (e : FileError T V) (password : List ℕ) → open_text p had ≡ Err e
       → IsAnswer (check_answer p had password) (check_may_lack p had password) (Err e)
   check_closed had e password is = rw is (inl refl)
 
-  -- a verdict of the code
-  pub judged_is : (password text : List ℕ) (answer : Result Bool V) → answer ≡ p.verdict password text
-      → IsAnswer (checked {T = T} (p.verdict password text)) (p.may_lack password text) (checked answer)
-  judged_is password text answer is = inl (ap checked is)
+  -- a verdict is one within the bound, so that it is that of the policy
+  within_cases : (costly : Bool) (r : Result Bool V) (b : Bool) → Ok b ≡ (if costly then Err refused.TooCostly else checked {T = T} r)
+      → is_ok r ≡ true
+  within_cases true r b h = absurd (ok_is_no_error b refused.TooCostly h)
+  within_cases false r b h = sym (checked_is_ok r) ∙ ap is_ok (sym h)
+
+  pub judged_ok : (password text : List ℕ) (b : Bool) → Ok b ≡ judged p password text → is_ok (p.verdict password text) ≡ true
+  judged_ok password text b h = within_cases (p.is_too_costly password text) (p.verdict password text) b h
+
+  lack_cases : (costly may : Bool) (r : Result Bool V) → (may ≡ true → is_ok r ≡ true) → (if costly then false else may) ≡ true
+      → is_ok (if costly then Err refused.TooCostly else checked {T = T} r) ≡ true
+  lack_cases true may r lawful lacks = absurd (false≢true lacks)
+  lack_cases false may r lawful lacks = checked_is_ok r ∙ lawful lacks
+
+  -- memory may be wanting only where there is a verdict
+  pub lack_judged : IsLawful p → (password text : List ℕ) → judged_lack p password text ≡ true → is_ok (judged p password text) ≡ true
+  lack_judged law password text lacks =
+      lack_cases (p.is_too_costly password text) (p.may_lack password text) (p.verdict password text) (law.lack_judged password text) lacks
 
 -- ---- upgrade
 
-or_later : (a b c : Bool) → b ≡ true → c ≡ true → (a || (b && c)) ≡ true
-or_later true b c hb hc = refl
-or_later false b c hb hc = rw (hb, hc) refl
+same_value : {E : Type 0} → (a b : Bool) → ◌≡◌ {A = Result Bool E} (Ok a) (Ok b) → a ≡ b
+same_value a b h = cc
+
+pub false_is_not_true : {E : Type 0} → ◌≡◌ {A = Result Bool E} (Ok false) (Ok true) → ⊥
+false_is_not_true {E = E} h = false≢true (same_value {E = E} false true h)
 
 module _ {T V : Type 0} (p : TextPolicy T V) (law : IsLawful p) where
   -- a password that was judged has at most 4,096 bytes
   pub judged_short : (password text : List ℕ) (b : Bool)
-      → IsAnswer (checked {T = T} (p.verdict password text)) (p.may_lack password text) (Ok b) → length password ≤ 4096
-  judged_short password text b (inl h) =
-      law.judged_short password text
-      (sym (checked_is_ok p (p.verdict password text)) ∙ ap is_ok (sym h))
+      → IsAnswer (judged p password text) (judged_lack p password text) (Ok b) → length password ≤ 4096
+  judged_short password text b (inl h) = law.judged_short password text (judged_ok p password text b h)
   judged_short password text b (inr h) = absurd (ok_is_no_error b refused.OutOfMemory h.0)
 
   module _ (had : Option (List ℕ)) (text password salt : List ℕ) (is : open_text p had ≡ Ok text)
-      (good : salt_fault salt ≡ None) where
-    upgrade_is : upgrade_answer p had password salt ≡ checked (p.verdict password text)
+      (good : p.salt_fault salt ≡ None) where
+    upgrade_is : upgrade_answer p had password salt ≡ renewal (p.stays password salt text) (judged p password text)
     upgrade_is = rw (is, good) refl
 
-    lack_is : check_may_lack p had password ≡ p.may_lack password text
+    lack_is : check_may_lack p had password ≡ judged_lack p password text
     lack_is = rw is refl
 
-    -- a verdict is an answer of the upgrade, where the salt is one
-    pub upgrade_as_judged : (answer : Result Bool (FileError T V))
-        → IsAnswer (checked {T = T} (p.verdict password text)) (p.may_lack password text) answer
+    -- an answer is a match, or there is a verdict, where there is one before the renewal
+    renewal_cases : (stays may : Bool) (answer : Result Bool (FileError T V)) → is_ok answer ≡ true → may ≡ true
+        → (is_match (renewal stays answer) || (is_ok (renewal stays answer) && may)) ≡ true
+    renewal_cases true may (Ok true) ok lacks = refl
+    renewal_cases false may (Ok true) ok lacks = refl
+    renewal_cases stays may (Ok false) ok lacks = lacks
+    renewal_cases stays may (Err e) ok lacks = absurd (false≢true ok)
+
+    -- a verdict that isn't a match is an answer of the upgrade, where the salt is one
+    pub upgrade_as_judged : (answer : Result Bool (FileError T V)) → is_match answer ≡ false
+        → IsAnswer (judged p password text) (judged_lack p password text) answer
         → IsAnswer (upgrade_answer p had password salt) (upgrade_may_lack p had password salt) answer
-    upgrade_as_judged answer (inl h) = inl (h ∙ sym upgrade_is)
-    upgrade_as_judged answer (inr h) =
-        let judged = law.lack_judged password text h.1 in
+    upgrade_as_judged answer none (inl h) = inl (unmatched (p.stays password salt text) answer none ∙ ap (renewal (p.stays password salt text)) h ∙ sym upgrade_is)
+      where
+        unmatched : (stays : Bool) (answer : Result Bool (FileError T V)) → is_match answer ≡ false → answer ≡ renewal stays answer
+        unmatched stays (Ok true) none = absurd (false≢true (sym none))
+        unmatched stays (Ok false) none = refl
+        unmatched stays (Err e) none = refl
+    upgrade_as_judged answer none (inr h) =
         inr (
           h.0,
-          or_later (is_match (upgrade_answer p had password salt)) (is_ok (upgrade_answer p had password salt))
-              (check_may_lack p had password)
-              (ap is_ok upgrade_is ∙ checked_is_ok p (p.verdict password text) ∙ judged) (lack_is ∙ h.1),
+          rw (upgrade_is, lack_is)
+              (renewal_cases (p.stays password salt text) (judged_lack p password text) (judged p password text)
+              (lack_judged p law password text h.1) h.1),
         )
 
-    -- where the text matched, the answer is that it did, or want of memory
+    renewal_matches : (stays : Bool) → is_match (renewal {T = T} {V = V} stays (Ok true)) ≡ true
+    renewal_matches true = refl
+    renewal_matches false = refl
+
+    -- where the text matched, the answer is that it did, that it stays, or want of memory
     pub upgrade_done : (answer : Result Bool (FileError T V))
-        → IsAnswer (checked {T = T} (p.verdict password text)) (p.may_lack password text) (Ok true)
-        → (answer ≡ Ok true) ⊎ (answer ≡ Err refused.OutOfMemory)
+        → IsAnswer (judged p password text) (judged_lack p password text) (Ok true)
+        → (answer ≡ renewal (p.stays password salt text) (Ok true)) ⊎ (answer ≡ Err refused.OutOfMemory)
         → IsAnswer (upgrade_answer p had password salt) (upgrade_may_lack p had password salt) answer
-    upgrade_done answer (inl h) (inl done) = inl (done ∙ h ∙ sym upgrade_is)
+    upgrade_done answer (inl h) (inl done) = inl (done ∙ ap (renewal (p.stays password salt text)) h ∙ sym upgrade_is)
     upgrade_done answer (inl h) (inr want) =
-        let matched : is_match (upgrade_answer p had password salt) ≡ true = ap is_match (upgrade_is ∙ sym h) in
+        let matched : is_match (upgrade_answer p had password salt) ≡ true =
+        ap is_match (upgrade_is ∙ ap (renewal (p.stays password salt text)) (sym h)) ∙ renewal_matches (p.stays password salt text) in
         inr (want, rw matched refl)
     upgrade_done answer (inr h) r = absurd (ok_is_no_error true refused.OutOfMemory h.0)
 
@@ -218,28 +248,39 @@ module _ {T V : Type 0} (p : TextPolicy T V) (law : IsLawful p) where
   upgrade_closed had e password salt is = inl (rw is refl)
 
   pub upgrade_salt : (had : Option (List ℕ)) (text password salt : List ℕ) (e : phc_error.Error)
-      → open_text p had ≡ Ok text → salt_fault salt ≡ Some e
+      → open_text p had ≡ Ok text → p.salt_fault salt ≡ Some e
       → IsAnswer (upgrade_answer p had password salt) (upgrade_may_lack p had password salt) (Err (refused.BadSalt e))
   upgrade_salt had text password salt e is bad = inl (rw (is, bad) refl)
 
-  -- an upgrade that matches: the user has a text, and the salt is one
-  upgraded_cases : (had : Option (List ℕ)) (password salt : List ℕ) (opened : Result (List ℕ) (FileError T V))
-      (fault : Option phc_error.Error) → open_text p had ≡ opened → salt_fault salt ≡ fault
-      → Ok true ≡ open_upgrade p opened password salt → (is_some had ≡ true) × (salt_fault salt ≡ None)
+  pub stays_cases : (stays : Bool) (answer : Result Bool (FileError T V)) → Ok true ≡ renewal stays answer → stays ≡ false
+  stays_cases true (Ok true) h = absurd (ok_is_no_error true refused.Kept h)
+  stays_cases false answer h = refl
+  stays_cases true (Ok false) h = absurd (false_is_not_true (sym h))
+  stays_cases true (Err e) h = absurd (ok_is_no_error true e h)
+
+  -- an upgrade that makes a new text: the user has a text, which doesn't stay, and the salt is one
+  pub upgraded_cases : (had : Option (List ℕ)) (password salt : List ℕ) (opened : Result (List ℕ) (FileError T V))
+      (fault : Option phc_error.Error) → open_text p had ≡ opened → p.salt_fault salt ≡ fault
+      → Ok true ≡ open_upgrade p opened password salt
+      → (is_some had ≡ true) × (p.salt_fault salt ≡ None) × IsFresh p password (p.fresh password salt)
   upgraded_cases had password salt (Err e) fault is salt_is h = absurd (error_is_no_value e true (sym h))
-  upgraded_cases had password salt (Ok text) None is salt_is h = (open_some p had text is, salt_is)
+  upgraded_cases had password salt (Ok text) None is salt_is h =
+      let renewed : Ok true ≡ renewal (p.stays password salt text) (judged p password text) =
+      h ∙ ap (λ (f : Option phc_error.Error). with_salt f (renewal (p.stays password salt text) (judged p password text))) salt_is in
+      let leaves = stays_cases (p.stays password salt text) (judged p password text) renewed in
+      (open_some p had text is, salt_is, law.fresh password salt text salt_is leaves)
   upgraded_cases had password salt (Ok text) (Some e) is salt_is h =
       absurd (error_is_no_value {E = FileError T V} (refused.BadSalt e) true
-      (sym (h ∙ ap (λ (f : Option phc_error.Error). with_salt f (checked (p.verdict password text))) salt_is)))
+      (sym (h ∙ ap (λ (f : Option phc_error.Error). with_salt f (renewal (p.stays password salt text) (judged p password text))) salt_is)))
 
-  -- where the answer is that it matches
+  -- where the answer is that it matches, and is another text from now on
   pub upgrade_matched : (had : Option (List ℕ)) (password salt : List ℕ)
       → IsAnswer (upgrade_answer p had password salt) (upgrade_may_lack p had password salt) (Ok true)
-      → (upgrade_may_lack p had password salt ≡ true) × (is_some had ≡ true) × (salt_fault salt ≡ None)
+      → (upgrade_may_lack p had password salt ≡ true) × (is_some had ≡ true) × (p.salt_fault salt ≡ None) × IsFresh p password (p.fresh password salt)
   upgrade_matched had password salt (inl h) =
       let matched : is_match (upgrade_answer p had password salt) ≡ true = ap is_match (sym h) in
-      let parts = upgraded_cases had password salt (open_text p had) (salt_fault salt) refl refl h in
-      (rw matched refl, parts.0, parts.1)
+      let parts = upgraded_cases had password salt (open_text p had) (p.salt_fault salt) refl refl h in
+      (rw matched refl, parts.0, parts.1, parts.2)
   upgrade_matched had password salt (inr h) = absurd (ok_is_no_error true refused.OutOfMemory h.0)
 
 salt_cases : (t s : List ℕ) (fault : Option phc_error.Error) → Ok s ≡ value_or_fault t fault → (fault ≡ None) × (s ≡ t)
@@ -283,27 +324,24 @@ fresh_text password salt salt_is bytes a b c d decodes key_is first second third
     key_is ∙ ap (λ (o : Option (List ℕ)). scrypt password (unwrap_or o []) (2 ^ 14) 8 1 32) (sym decodes) in
     whole ∙ grouped ∙ ap (λ (k : List ℕ). codes "$scrypt$ln=14,r=8,p=1$" ++ (salt ++ 36 ∷ encoding k)) bytes_are
 
-same_value : {E : Type 0} → (a b : Bool) → ◌≡◌ {A = Result Bool E} (Ok a) (Ok b) → a ≡ b
-same_value a b h = cc
-
-pub false_is_not_true : {E : Type 0} → ◌≡◌ {A = Result Bool E} (Ok false) (Ok true) → ⊥
-false_is_not_true {E = E} h = false≢true (same_value {E = E} false true h)
-
 -- the text that an upgrade makes is one that `set` takes
-module _ {T V : Type 0} (p : TextPolicy T V) (law : IsLawful p) where
-  pub fresh_taken : (had : Option (List ℕ)) (n : ℕ) (password salt new : List ℕ) → is_some had ≡ true
-      → salt_fault salt ≡ None → new ≡ upgraded_text password salt → set_answer p had n new ≡ Ok tt
-  fresh_taken None n password salt new some good is = absurd (false≢true some)
-  fresh_taken (Some old) n password salt new some good is =
-      let most = fresh_short password salt good in
-      let short : nat_le (length (upgraded_text password salt)) 1024 ≡ true = grind (arith, nat_tests, most) in
-      rw (is, short, law.fresh_taken password salt good) refl
+module _ {T V : Type 0} (p : TextPolicy T V) where
+  pub fresh_taken : (had : Option (List ℕ)) (n : ℕ) (password new : List ℕ) → is_some had ≡ true
+      → IsFresh p password new → set_answer p had n new ≡ Ok tt
+  fresh_taken None n password new some fresh = absurd (false≢true some)
+  fresh_taken (Some old) n password new some fresh =
+      let most = fresh.short in
+      let short : nat_le (length new) 1024 ≡ true = grind (arith, nat_tests, most) in
+      rw (short, fresh.taken) refl
 
-  pub fresh_all : {A : Type 0} → (had : Option (List ℕ)) (n : ℕ) (password salt : List ℕ)
-      (answer : Result (Option (String A)) (FileError T V)) → is_some had ≡ true → salt_fault salt ≡ None
-      → IfOk answer (λ new. IfSome new (λ text. string_bytes text ≡ upgraded_text password salt))
-      → IfOk answer (λ new. IfSome new (λ text. set_answer p had n (string_bytes text) ≡ Ok tt))
-  fresh_all had n password salt (Ok (Some text)) some good is =
-      fresh_taken had n password salt (string_bytes text) some good is
-  fresh_all had n password salt (Ok None) some good is = tt
-  fresh_all had n password salt (Err e) some good is = tt
+  pub fresh_all : {A : Type 0} → IsLawful p → (had : Option (List ℕ)) (n : ℕ) (password salt text : List ℕ)
+      (answer : Result (Option (String A)) (FileError T V)) → is_some had ≡ true → p.salt_fault salt ≡ None
+      → (has_text answer ≡ renewal (p.stays password salt text) (Ok true)) ⊎ (has_text answer ≡ Err refused.OutOfMemory)
+      → IfOk answer (λ new. IfSome new (λ fresh. string_bytes fresh ≡ p.fresh password salt))
+      → IfOk answer (λ new. IfSome new (λ fresh. set_answer p had n (string_bytes fresh) ≡ Ok tt))
+  fresh_all law had n password salt text (Ok (Some new)) some good (inl made) is =
+      let fresh = law.fresh password salt text good (stays_cases p law (p.stays password salt text) (Ok true) made) in
+      rw is (fresh_taken had n password (p.fresh password salt) some fresh)
+  fresh_all law had n password salt text (Ok (Some new)) some good (inr want) is = absurd (ok_is_no_error true refused.OutOfMemory want)
+  fresh_all law had n password salt text (Ok None) some good made is = tt
+  fresh_all law had n password salt text (Err e) some good made is = tt

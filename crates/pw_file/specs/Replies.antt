@@ -12,7 +12,7 @@ use Rattle.pw_file.specs.declared.error.FileError.{FileError}
 use Rattle.pw_file.specs.declared.error.FileError.TheVariants as refused
 use Rattle.pw_file.specs.declared.reply.Word.{Word}
 use Rattle.pw_file.specs.declared.reply.Word.TheVariants.{TooLong, BadCommand, Done, TextLong, BadText, Full, NoUser}
-use Rattle.pw_file.specs.declared.reply.Word.TheVariants.{Locked, BadSalt, Invalid, Match, Mismatch, Upgraded, FileFull, DiskFault}
+use Rattle.pw_file.specs.declared.reply.Word.TheVariants.{Locked, BadSalt, Invalid, Match, Mismatch, Upgraded, FileFull, DiskFault, Kept, TooCostly}
 use Rattle.line_io.specs.Limits.{line_max}
 
 -- ---- words
@@ -26,6 +26,9 @@ error_word (refused.BadText fault) = BadText
 error_word refused.Full = Full
 error_word (refused.BadSalt fault) = BadSalt
 error_word (refused.Check fault) = Invalid
+error_word refused.TooCostly = TooCostly
+error_word refused.Unmatched = Invalid
+error_word refused.Kept = Kept
 error_word refused.OutOfMemory = Invalid
 
 -- the word of the answer of `set` and of `remove`
@@ -62,6 +65,8 @@ word_text Mismatch = codes "mismatch"
 word_text Upgraded = codes "upgraded"
 word_text FileFull = codes "file-full"
 word_text DiskFault = codes "disk-fault"
+word_text Kept = codes "kept"
+word_text TooCostly = codes "too-costly"
 
 -- a user and its text, as the command that sets it, and a line feed
 abbrev pub row_line : List ℕ × List ℕ → List ℕ
@@ -110,9 +115,10 @@ abbrev pub is_good_word : Word → Bool
 is_good_word Done = true
 is_good_word Match = true
 is_good_word Upgraded = true
+is_good_word Kept = true
 is_good_word word = false
 
--- `ok`, `match`, `upgraded` or a listing
+-- `ok`, `match`, `upgraded`, `kept` or a listing
 abbrev pub is_good : Reply → Bool
 is_good (Says word) = is_good_word word
 is_good (Lists rows) = true

@@ -6,6 +6,7 @@ use Rattle.std.specs.Option.{option_map}
 use Rattle.std.specs.Str.{IsAscii, IsUtf8}
 use Rattle.std.proofs.lemmas.Bool.{and_parts, false≢true}
 use Rattle.std.proofs.lemmas.Bool.Decides.{nat_tests}
+use Rattle.std.proofs.lemmas.List.{length-append}
 use Rattle.std.proofs.lemmas.Str.{IsUtf8-from_ascii}
 use Rattle.std.proofs.lemmas.Str.Ascii.{IsAscii-nil, IsAscii-cons}
 use Rattle.line_io.specs.Lines.{NoFeed, is_feed}
@@ -20,10 +21,12 @@ use Rattle.phc.specs.Encoded.{decoding, encoding}
 use Rattle.phc.specs.Grammar.{is_name, salt_fault}
 use Rattle.phc.specs.Record.{record_text}
 use Rattle.phc.proofs.Characters.{all_append, all_weaker, name_bytes}
-use Rattle.phc.proofs.EncodedBytes.{salt_bytes}
+use Rattle.phc.proofs.EncodedBytes.{encoded_length, salt_bytes}
 use Rattle.phc.proofs.NameLemmas.{name_utf8}
+use Rattle.scrypt_plain.specs.Lengths.{length-pbkdf2_once}
 use Rattle.scrypt_plain.specs.Profile.{accepted, key, needs_memory}
 use Rattle.scrypt_plain.specs.Scrypt.{scrypt}
+use Rattle.scrypt_plain.proofs.KeyBytes.{scrypt_bytes}
 use Rattle.scrypt_plain.proofs.MadeRecord.{IsWritten, made_read, made_text, scrypt_made}
 use Rattle.stored_check.specs.Verdict.{may_lack_memory, mcf_name, text_answer, text_needs, verdict}
 use Rattle.stored_check.specs.declared.error.StoredError.{StoredError}
@@ -145,6 +148,19 @@ fresh_good password salt good =
     let read = made_read (codes "14") (codes "8") (codes "1") 14 8 1 written password s.bytes s.small s.least s.most in
     fault_of (upgraded_text password salt) _ (ap mcf (is_made password salt s.bytes s.text s.decoded) ∙ read)
 
+-- it is short
+pub fresh_short : (password salt : List ℕ) → salt_fault salt ≡ None → length (upgraded_text password salt) ≤ 1024
+unfolding upgraded_text
+fresh_short password salt good =
+    let s = salt_bytes salt good in
+    let few = s.most in
+    let text : length salt ≡ length (encoding s.bytes) = ap length s.text in
+    let size = encoded_length s.bytes s.small in
+    let hash = encoded_length (upgraded_key password salt) (scrypt_bytes password _ (2 ^ 14) 8 1 32) in
+    let bytes : length (upgraded_key password salt) ≡ 32 = length-pbkdf2_once password _ 32 in
+    let all = length-append salt (36 ∷ encoding (upgraded_key password salt)) in
+    omega (arith, few, text, size, hash, bytes, all)
+
 -- a modular crypt text with the identifier `scrypt`
 abbrev pub IsScryptText : List ℕ → Type 0
 IsScryptText text = (q : Parts) × ((mcf text ≡ Ok q) × (q.id ≡ codes "scrypt"))
@@ -195,9 +211,14 @@ stored_lawful = record {
   name_feedless = name_feedless;
   text_utf8 = λ text none. text_utf8 text (no_fault (fault text) none);
   text_feedless = λ text none. text_feedless text (no_fault (fault text) none);
-  fresh_taken = λ password salt good. ap (option_map mcf_name) (fresh_good password salt good);
-  fresh_open = λ password salt good. refl;
-  fresh_matches = upgraded_matches;
+  salt_taken = λ salt good. good;
+  fresh = λ password salt text good leaves. record {
+    short = fresh_short password salt good;
+    taken = ap (option_map mcf_name) (fresh_good password salt good);
+    unlocked = refl;
+    affordable = refl;
+    matches = λ short. upgraded_matches password salt short good;
+  };
   judged_short = judged_short;
   lack_judged = lack_judged;
   some_users = omega arith;

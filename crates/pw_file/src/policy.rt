@@ -1,9 +1,10 @@
-//! Which names users have, how many users there may be, which texts are taken, and how a text is judged.
+//! Which names users have, how many users there may be, which texts are taken, how a text is judged, and what an upgrade makes of it.
 
-ghost use Rattle.std.specs.Prelude.{◌≡◌, true, IfOk, OnErr};
+ghost use Rattle.std.specs.Prelude.{◌≡◌, ◌≤◌, None, false, is_some, length, not, string_bytes, true, IfOk, IfSome, OnErr};
+ghost use Rattle.phc_kdf.specs.Limits.{password_max};
+ghost use Rattle.pw_file.specs.Limits.{text_max};
 ghost use Rattle.pw_file.specs.Policy.{IsLawful, TextPolicy};
 
-use scrypt_plain::ScryptKept;
 use std::alloc::{AllocError, Global};
 
 /// The kind of a table: the names of its users and their most, the texts that it takes, and the verdict on a text.
@@ -52,8 +53,31 @@ pub trait Policy: Drop {
     fn takes_remove() -> bool
         ensures { result ≡ policy.takes_remove };
 
-    /// The derivation by scrypt among what is kept, by which an upgraded text is made.
-    fn scrypt(kept: &Self::Kept) -> &ScryptKept;
+    /// Whether a run over a store doesn't set the text, though the table would take it.
+    fn is_refused(kept: &Self::Kept, text: &str) -> bool
+        ensures { result ≡ policy.is_refused text.now };
+
+    /// Whether a check of the password by the text asks for more than the bound on cost. Nothing is hashed for it.
+    fn is_too_costly(kept: &Self::Kept, password: &str, text: &str) -> bool
+        ensures { result ≡ policy.is_too_costly password.now text.now };
+
+    /// Why the text of a salt isn't taken for an upgrade, if it isn't.
+    fn salt_fault(kept: &Self::Kept, salt: &str) -> Option<phc::Error>
+        ensures { result ≡ policy.salt_fault salt.now };
+
+    /// The text that an upgrade by the password and the salt makes in the place of this text, which the password matches; none
+    /// where this text stays; or out of memory.
+    fn renewed(
+        alloc: Global,
+        kept: &Self::Kept,
+        password: &str,
+        salt: &str,
+        text: &str,
+    ) -> Result<Option<String>, AllocError>
+        requires short { length password.now ≤ password_max }
+        requires salt { policy.salt_fault salt.now ≡ None }
+        ensures stays { IfOk result (λ new. is_some new ≡ not (policy.stays password.now salt.now text.now)) }
+        ensures fresh { IfOk result (λ new. IfSome new (λ fresh. string_bytes fresh ≡ policy.fresh password.now salt.now)) };
 
     /// What the laws of tables rest on.
     ghost lawful: { IsLawful policy };

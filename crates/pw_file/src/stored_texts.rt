@@ -4,8 +4,9 @@ ghost use Rattle.std.specs.Prelude.{◌≡◌, ◌≢◌, Err, IfOk, OnErr};
 ghost use Rattle.stored_check.specs.declared.error.StoredError.TheVariants.{OutOfMemory};
 
 use crate::Policy;
+use crate::upgraded::upgraded_text;
 use mcf::PasswordHashRef;
-use phc::Ident;
+use phc::{Ident, SaltString};
 use scrypt_plain::ScryptKept;
 use std::alloc::{AllocError, Global};
 use stored_check::{McfFault, StoredError, check_stored, mcf_name};
@@ -76,8 +77,30 @@ impl Policy for StoredTexts {
         false
     }
 
-    fn scrypt(kept: &ScryptKept) -> &ScryptKept {
-        kept
+    fn is_refused(_kept: &ScryptKept, _text: &str) -> bool {
+        false
+    }
+
+    fn is_too_costly(_kept: &ScryptKept, _password: &str, _text: &str) -> bool {
+        false
+    }
+
+    fn salt_fault(_kept: &ScryptKept, salt: &str) -> Option<phc::Error> {
+        SaltString::from_b64(salt).err()
+    }
+
+    fn renewed(
+        alloc: Global,
+        kept: &ScryptKept,
+        password: &str,
+        salt: &str,
+        _text: &str,
+    ) -> Result<Option<String>, AllocError> {
+        match SaltString::from_b64(salt) {
+            Ok(salt) => Ok(Some(upgraded_text(alloc, kept, password, &salt)?)),
+            // A salt without a fault is always read.
+            Err(_) => Err(AllocError),
+        }
     }
 
     ghost lawful = { stored_lawful };

@@ -2,18 +2,15 @@
 
 ghost use Rattle.std.specs.Prelude.{◌≡◌, ◌≢◌, ◌⊎◌, ◌≤◌, ◌∷◌, ◌++◌, ℕ, List, [], true, Err, None, Ok, is_ok, is_some, length, slice_get, string_bytes, IfErr, IfOk, IfSome, OnErr, OnOk};
 ghost use Rattle.std.specs.Option.{option_copied, option_map};
-ghost use Rattle.pw_file.specs.Answers.{IsAnswer, check_answer, check_may_lack, checked, done_of, exchange_answer, has_room, has_text, open_text, remove_answer, set_answer, set_fault, upgrade_answer, upgrade_may_lack};
+ghost use Rattle.pw_file.specs.Answers.{IsAnswer, check_answer, check_may_lack, done_of, exchange_answer, has_room, has_text, judged, judged_lack, open_text, remove_answer, renewal, set_answer, set_fault, upgrade_answer, upgrade_may_lack};
 ghost use Rattle.pw_file.specs.Calls.{after_check, after_remove, after_set, after_upgrade, rows_after_remove, rows_after_set, rows_after_upgrade, with_text};
 ghost use Rattle.pw_file.specs.History.{History, IsContentOf, text_in};
 ghost use Rattle.pw_file.specs.Replies.{row_line};
-ghost use Rattle.pw_file.specs.Upgraded.{upgraded_text};
 ghost use Rattle.pw_file.specs.Limits.{text_max};
 ghost use Rattle.phc_kdf.specs.Limits.{password_max};
 
-use crate::upgraded::upgraded_text;
 use crate::{FileError, Policy, UserName};
 use indexmap::IndexMap;
-use phc::SaltString;
 use pieces::short_bytes::ShortBytes;
 use std::alloc::{AllocError, Global};
 use std::marker::Model;
@@ -181,15 +178,24 @@ impl<P: Policy> Table<P> {
         }
     }
 
-    // The verdict on a text.
+    /// Whether a run over a store doesn't set the text, though the table would take it.
+    pub fn refuses(&self, text: &str) -> bool
+        ensures refuses { result ≡ P.policy.is_refused text.now }
+    {
+        P::is_refused(&self.kept, text)
+    }
+
+    // The verdict on a text within the bound on cost.
     fn judged(
         &self,
         password: &str,
         text: &str,
     ) -> Result<bool, FileError<P::TextFault, P::VerdictFault>>
-        ensures answer { IsAnswer
-            (checked (P.policy.verdict password.now text.now)) (P.policy.may_lack password.now text.now) result }
+        ensures answer { IsAnswer (judged P.policy password.now text.now) (judged_lack P.policy password.now text.now) result }
     {
+        if P::is_too_costly(&self.kept, password, text) {
+            return Err(FileError::TooCostly);
+        }
         match P::verdict(self.alloc, &self.kept, password, text) {
             Ok(Ok(matches)) => Ok(matches),
             Ok(Err(e)) => Err(FileError::Check(e)),
@@ -381,7 +387,7 @@ impl<P: Policy> Table<P> {
             (upgrade_answer P.policy (text_in self.now user.now) password.now salt.now)
             (upgrade_may_lack P.policy (text_in self.now user.now) password.now salt.now)
             (has_text result) }
-        ensures text { IfOk result (λ new. IfSome new (λ text. string_bytes text ≡ upgraded_text password.now salt.now)) }
+        ensures text { IfOk result (λ new. IfSome new (λ text. string_bytes text ≡ P.policy.fresh password.now salt.now)) }
         ensures taken { IfOk result (λ new. IfSome new (λ text.
             set_answer P.policy (text_in self.now user.now) (length self.now) (string_bytes text) ≡ Ok tt)) }
     {
@@ -389,35 +395,38 @@ impl<P: Policy> Table<P> {
             Ok(text) => text,
             Err(e) => return Err(e),
         };
-        let salt = match SaltString::from_b64(salt) {
-            Ok(salt) => salt,
-            Err(e) => return Err(FileError::BadSalt(e)),
-        };
+        if let Some(e) = P::salt_fault(&self.kept, salt) {
+            return Err(FileError::BadSalt(e));
+        }
         match self.judged(password, text) {
-            Ok(true) => self.fresh(password, &salt),
+            Ok(true) => self.fresh(password, salt, text),
             Ok(false) => Ok(None),
             Err(e) => Err(e),
         }
     }
 
-    // The text that an upgrade makes, or memory is wanting.
+    // The text that an upgrade makes in the place of one that the password matches; or the text stays, or out of memory.
     fn fresh(
         &self,
         password: &str,
-        salt: &SaltString,
+        salt: &str,
+        text: &str,
     ) -> Result<Option<String>, FileError<P::TextFault, P::VerdictFault>>
         requires short { length password.now ≤ password_max }
-        ensures answer { (has_text result ≡ Ok true) ⊎ (has_text result ≡ Err FileError.OutOfMemory) }
-        ensures text { IfOk result (λ new. IfSome new (λ text. string_bytes text ≡ upgraded_text password.now salt.now)) }
+        requires salt { P.policy.salt_fault salt.now ≡ None }
+        ensures answer { (has_text result ≡ renewal (P.policy.stays password.now salt.now text.now) (Ok true))
+            ⊎ (has_text result ≡ Err FileError.OutOfMemory) }
+        ensures text { IfOk result (λ new. IfSome new (λ fresh. string_bytes fresh ≡ P.policy.fresh password.now salt.now)) }
     {
-        match upgraded_text(self.alloc, P::scrypt(&self.kept), password, salt) {
-            Ok(text) => Ok(Some(text)),
+        match P::renewed(self.alloc, &self.kept, password, salt, text) {
+            Ok(Some(fresh)) => Ok(Some(fresh)),
+            Ok(None) => Err(FileError::Kept),
             Err(_) => Err(FileError::OutOfMemory),
         }
     }
 
-    /// Checks as [`check`](Table::check). Where the text matches, the user's text is from then on a new one of
-    /// scrypt for the password and the salt.
+    /// Checks as [`check`](Table::check). Where the text matches, the user's text is from then on the one that the policy
+    /// makes of the password and the salt, unless the policy leaves the text as it is: `FileError::Kept` says that.
     pub fn upgrade(
         &mut self,
         user: &UserName<P>,
@@ -428,7 +437,7 @@ impl<P: Policy> Table<P> {
             (upgrade_answer P.policy (text_in self.old user.now) password.now salt.now)
             (upgrade_may_lack P.policy (text_in self.old user.now) password.now salt.now)
             result }
-        ensures rows { self.new ≡ rows_after_upgrade self.old user.now password.now salt.now result }
+        ensures rows { self.new ≡ rows_after_upgrade P.policy self.old user.now password.now salt.now result }
         ensures others { (other : List ℕ) → other ≢ user.now → text_in self.new other ≡ text_in self.old other }
         ensures content { (h : History) → IsContentOf P.policy h self.old
             → IsContentOf P.policy (after_upgrade h user.now password.now salt.now result) self.new }

@@ -5,7 +5,6 @@ use Rattle.std.specs.Option.{option_copied}
 use Rattle.std.specs.List.{list_any}
 use Rattle.std.specs.Str.{IsUtf8}
 use Rattle.pieces.specs.Characters.{is_tab}
-use Rattle.pw_file.specs.Upgraded.{upgraded_text}
 use Rattle.pieces.proofs.FaultLaws.{err_ok}
 use Rattle.pieces.specs.Faults.{value_or_fault}
 use Rattle.line_log.specs.Log.{file_max}
@@ -115,7 +114,7 @@ set_done {T} {V} p law h rows now user text is name utf8 held =
     (set_content p law h rows user held text (Ok tt) (λ done. name) utf8)
 
 pub upgrade_done : {T V : Type 0} (p : TextPolicy T V) (law : IsLawful p) (h : History) (rows now : Rows) (user password salt : List ℕ)
-    → now ≡ with_text rows user (upgraded_text password salt) → p.is_name user ≡ true → list_any is_tab salt ≡ false → IsUtf8 salt → IsUtf8 password
+    → now ≡ with_text rows user (p.fresh password salt) → p.is_name user ≡ true → list_any is_tab salt ≡ false → IsUtf8 salt → IsUtf8 password
     → IsContentOf p h rows → IsContentOf p (after_store_upgrade {T = T} {V = V} h user password salt (Ok true)) now
 upgrade_done {T} {V} p law h rows now user password salt is name tabless salt_utf8 utf8 held =
     subst (λ (r : Rows). IsContentOf p (after_store_upgrade {T = T} {V = V} h user password salt (Ok true)) r) (sym is)

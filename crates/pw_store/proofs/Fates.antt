@@ -1,19 +1,23 @@
 -- Rules over a fate: before a write fails, and after it.
 use Rattle.std.proofs.Common.{◌≡◌, ℕ, zero, suc, ◌+◌, ◌≤◌, Bool, true, false, cond, List, [], ◌∷◌, ◌++◌, length, take, drop, refl, sym, ap, ◌∙◌, arith, append_assoc, Option, Some, None}
-use Rattle.std.specs.Prelude.{◌<◌, ◌&&◌}
+use Rattle.std.specs.Prelude.{◌<◌, ◌&&◌, ◌||◌, nat_lt}
 use Rattle.std.specs.List.{list_all}
 use Rattle.std.proofs.lemmas.Bool.{and_parts}
+use Rattle.std.proofs.lemmas.Bool.Decides.{nat_tests}
+use Rattle.line_io.specs.Limits.{line_max}
 use Rattle.line_io.proofs.Moved.{append-nil}
 use Rattle.line_program.specs.Rules.{StateRules, after_lines, all_good, replies}
-use Rattle.pw_file.specs.Commands.{command}
+use Rattle.pw_file.specs.Commands.{Command, command}
+use Rattle.pw_file.specs.Commands as of
 use Rattle.pw_file.specs.History.{Change, Reply, Rows, Says, change}
+use Rattle.pw_file.specs.Lines.{Asks}
 use Rattle.pw_file.specs.Policy.{TextPolicy}
 use Rattle.pw_file.specs.Replies.{is_good, reply_text}
 use Rattle.pw_file.specs.Rules.{changed, table_is_costly, table_reply}
-use Rattle.pw_file.specs.declared.reply.Word.TheVariants.{DiskFault}
+use Rattle.pw_file.specs.declared.reply.Word.TheVariants.{DiskFault, Invalid}
 use Rattle.pw_file.proofs.Calls.{unchanged}
 use Rattle.pw_store.specs.Progress.{copies, fate_now, words}
-use Rattle.pw_store.specs.Run.{Fate, State, asks_change, grown, is_broken, next_fate, roomy_reply, state, store_after, store_lacks, store_reply, store_rules, where_room}
+use Rattle.pw_store.specs.Run.{Fate, State, asks_change, grown, is_broken, is_change, is_refused_set, next_fate, roomy_reply, sets_refused, state, store_after, store_lacks, store_reply, store_rules, usual_reply, where_room}
 
 -- ---- lists
 
@@ -108,37 +112,71 @@ module _ {T V : Type 0} (p : TextPolicy T V) where
       ap (λ (o : Option Change). state (changed rows o) (grown size o) (next_fate fate))
       (ap (λ (q : Reply). change p (line, q)) is ∙ some)
 
-  -- no write has failed
-  pub open_reply : (rows : Rows) (size : ℕ) (line : List ℕ) (said : Reply) (c : Option Change) → table_reply p rows line ≡ said → change p (line, said) ≡ c
-      → store_reply p (state rows size None) line ≡ where_room size c said
-  unfolding store_reply
-  open_reply rows size line said c is makes =
-      ap (λ (q : Reply). where_room size (change p (line, q)) q) is ∙ ap (λ (o : Option Change). where_room size o said) makes
+  -- a line that sets no text that is refused
 
-  pub open_lacks : (rows : Rows) (size : ℕ) (line : List ℕ) → table_is_costly p rows line ≡ true → store_lacks p (state rows size None) line ≡ true
+  free_command : (c : Option Command) → is_change c ≡ false → is_refused_set p c ≡ false
+  free_command None is = refl
+  free_command (Some (of.Set user text)) is = absurd (cc is)
+  free_command (Some (of.Check user password)) is = refl
+  free_command (Some (of.Upgrade user salt password)) is = absurd (cc is)
+  free_command (Some (of.Remove user)) is = absurd (cc is)
+  free_command (Some of.Listing) is = refl
+
+  pub free_line : (line : List ℕ) → asks_change p line ≡ false → sets_refused p line ≡ false
+  unfolding asks_change sets_refused
+  free_line line asks = by_length (nat_lt line_max (length line)) asks
+    where
+      by_length : (t : Bool) → cond t false (is_change (command p line)) ≡ false → cond t false (is_refused_set p (command p line)) ≡ false
+      by_length true h = refl
+      by_length false h = free_command (command p line) h
+
+  pub refused_as : (line : List ℕ) (c : Command) → Asks p line c → sets_refused p line ≡ is_refused_set p (Some c)
+  unfolding sets_refused
+  refused_as line c asks =
+      let short = asks.0 in
+      let test : nat_lt line_max (length line) ≡ false = grind (arith, nat_tests, short) in
+      ap (λ (b : Bool). cond b false (is_refused_set p (command p line))) test ∙ ap (is_refused_set p) asks.1
+
+  -- the line sets a text that is refused
+  pub refused_reply : (rows : Rows) (size : ℕ) (line : List ℕ) → sets_refused p line ≡ true → store_reply p (state rows size None) line ≡ Says Invalid
+  unfolding store_reply
+  refused_reply rows size line sets = ap (λ (b : Bool). cond b (Says Invalid) (roomy_reply p (state rows size None) line)) sets
+
+  -- no write has failed
+  pub open_reply : (rows : Rows) (size : ℕ) (line : List ℕ) (said : Reply) (c : Option Change) → sets_refused p line ≡ false → table_reply p rows line ≡ said
+      → change p (line, said) ≡ c → store_reply p (state rows size None) line ≡ where_room size c said
+  unfolding store_reply
+  open_reply rows size line said c free is makes =
+      ap (λ (b : Bool). cond b (Says Invalid) (roomy_reply p (state rows size None) line)) free
+      ∙ ap (λ (q : Reply). where_room size (change p (line, q)) q) is ∙ ap (λ (o : Option Change). where_room size o said) makes
+
+  pub open_lacks : (rows : Rows) (size : ℕ) (line : List ℕ) → sets_refused p line ≡ false → table_is_costly p rows line ≡ true
+      → store_lacks p (state rows size None) line ≡ true
   unfolding store_lacks
-  open_lacks rows size line is = is
+  open_lacks rows size line free is = ap (λ (b : Bool). cond b false (table_is_costly p rows line)) free ∙ is
 
   -- one has failed, and the line asks for a change
   pub broken_reply : (rows : Rows) (size : ℕ) (line : List ℕ) → asks_change p line ≡ true → store_reply p (state rows size (Some zero)) line ≡ Says DiskFault
   unfolding store_reply
-  broken_reply rows size line asks = ap (λ (b : Bool). cond b (Says DiskFault) (roomy_reply p (state rows size (Some zero)) line)) asks
+  broken_reply rows size line asks = ap (λ (b : Bool). cond b (Says DiskFault) (usual_reply p (state rows size (Some zero)) line)) asks
 
   -- the line asks for none
   pub other_reply : (rows : Rows) (size : ℕ) (fate : Fate) (line : List ℕ) → asks_change p line ≡ false → change p (line, table_reply p rows line) ≡ None
       → store_reply p (state rows size fate) line ≡ table_reply p rows line
   unfolding store_reply
   other_reply rows size fate line asks none =
-      ap (λ (b : Bool). cond (is_broken fate && b) (Says DiskFault) (roomy_reply p (state rows size fate) line)) asks
-      ∙ ap (λ (b : Bool). cond b (Says DiskFault) (roomy_reply p (state rows size fate) line)) (and_false (is_broken fate))
+      ap (λ (b : Bool). cond (is_broken fate && b) (Says DiskFault) (usual_reply p (state rows size fate) line)) asks
+      ∙ ap (λ (b : Bool). cond b (Says DiskFault) (usual_reply p (state rows size fate) line)) (and_false (is_broken fate))
+      ∙ ap (λ (b : Bool). cond b (Says Invalid) (roomy_reply p (state rows size fate) line)) (free_line line asks)
       ∙ ap (λ (o : Option Change). where_room size o (table_reply p rows line)) none
 
   pub other_lacks : (rows : Rows) (size : ℕ) (fate : Fate) (line : List ℕ) → asks_change p line ≡ false → table_is_costly p rows line ≡ true
       → store_lacks p (state rows size fate) line ≡ true
   unfolding store_lacks
   other_lacks rows size fate line asks is =
-      ap (λ (b : Bool). cond (is_broken fate && b) false (table_is_costly p rows line)) asks
-      ∙ ap (λ (b : Bool). cond b false (table_is_costly p rows line)) (and_false (is_broken fate)) ∙ is
+      ap (λ (b : Bool). cond ((is_broken fate && b) || sets_refused p line) false (table_is_costly p rows line)) asks
+      ∙ ap (λ (b : Bool). cond (b || sets_refused p line) false (table_is_costly p rows line)) (and_false (is_broken fate))
+      ∙ ap (λ (b : Bool). cond b false (table_is_costly p rows line)) (free_line line asks) ∙ is
 
   -- ---- before the write that fails
 
@@ -204,7 +242,7 @@ module _ {T V : Type 0} (p : TextPolicy T V) where
   broken_after : (rows : Rows) (size : ℕ) (line : List ℕ) → asks_change p line ≡ true
       → store_after p (state rows size (Some zero)) line ≡ state rows size (Some zero)
   broken_after rows size line asks =
-      same_after rows size (Some zero) line (Says DiskFault) (broken_reply rows size line asks) (unchanged (command p line) DiskFault refl refl)
+      same_after rows size (Some zero) line (Says DiskFault) (broken_reply rows size line asks) (unchanged p (command p line) DiskFault refl refl)
 
   -- lines that ask for changes
   pub record Refused (ls : List (List ℕ)) (rows : Rows) (size : ℕ) : Type 0 where

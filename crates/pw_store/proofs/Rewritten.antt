@@ -67,12 +67,12 @@ module _ {T V : Type 0} (p : TextPolicy T V) (law : IsLawful p) where
 
   set_after : (rows : Rows) (line : List ℕ) (taken : is_done (table_reply p rows line) ≡ true) (s : IsSet rows line) → table_after p rows line ≡ with_text rows s.user s.text
   set_after rows line taken s =
-      ap (changed rows) (ap (λ (c : Option Command). change_of c (table_reply p rows line)) s.is
+      ap (changed rows) (ap (λ (c : Option Command). change_of p c (table_reply p rows line)) s.is
       ∙ ap (λ b. cond b (Some (s.user, Some s.text)) None) taken)
 
   removal_after : (rows : Rows) (line : List ℕ) (taken : is_done (table_reply p rows line) ≡ true) (r : IsRemoval line) → table_after p rows line ≡ without rows r.0
   removal_after rows line taken r =
-      ap (changed rows) (ap (λ (c : Option Command). change_of c (table_reply p rows line)) r.1
+      ap (changed rows) (ap (λ (c : Option Command). change_of p c (table_reply p rows line)) r.1
       ∙ ap (λ (b : Bool). cond b (Some (r.0, None)) None) taken)
 
   command_good : (rows : Rows) (line : List ℕ) → AreRows p rows → is_done (table_reply p rows line) ≡ true → AreRows p (table_after p rows line)

@@ -18,14 +18,13 @@ use Rattle.pw_file.specs.Lines.{Asks}
 use Rattle.pw_file.specs.Policy.{TextPolicy}
 use Rattle.pw_file.specs.Replies.{is_good, is_good_word, reply_text}
 use Rattle.pw_file.specs.Rules.{table_is_costly, table_reply}
-use Rattle.pw_file.specs.Upgraded.{upgraded_text}
 use Rattle.pw_file.specs.declared.error.FileError.TheVariants as refused
 use Rattle.pw_file.specs.declared.reply.Word.{Word}
 use Rattle.pw_file.specs.declared.reply.Word.TheVariants as w
 use Rattle.pw_file.proofs.Calls.{unchanged}
 use Rattle.pw_file.proofs.LineAnswers.{long_is, long_reply}
 use Rattle.pw_store.specs.Progress.{Begun, Held, IsReady, IsRefusal, Lacks, Progress, Served, count_of, fate_now, oks, refusal_of, refusal_text, verdict_word, words}
-use Rattle.pw_store.specs.Run.{asks_change, is_change, state, store_lacks, store_reply}
+use Rattle.pw_store.specs.Run.{asks_change, is_change, sets_refused, state, store_lacks, store_reply}
 use Rattle.pw_store.specs.Staged.{IsStaged, lines_of, rows_in, undo_of}
 use Rattle.pw_store.specs.Store.{StandsFor, recovered_rows}
 use Rattle.pw_store.specs.Stored.{IsSound, IsStored, is_disk_fault, is_unwritten_set, is_unwritten_upgrade, rows_after_store_upgrade, rows_of, size_after, size_after_store_remove, size_after_store_upgrade, size_changed, stored_remove, stored_set, stored_upgrade}
@@ -57,16 +56,16 @@ asks_is p line c short is =
     ap (λ (b : Bool). cond b false (is_change (of.command p line))) test ∙ ap is_change is
 
 -- a line that asks for no change makes none
-kept_change : (c : Option of.Command) (reply : Reply) → is_change c ≡ false → change_of c reply ≡ None
-kept_change None reply is = refl
-kept_change (Some (of.Set user text)) reply is = absurd (cc is)
-kept_change (Some (of.Check user password)) reply is = refl
-kept_change (Some (of.Upgrade user salt password)) reply is = absurd (cc is)
-kept_change (Some (of.Remove user)) reply is = absurd (cc is)
-kept_change (Some of.Listing) reply is = refl
+kept_change : {T V : Type 0} → (p : TextPolicy T V) (c : Option of.Command) (reply : Reply) → is_change c ≡ false → change_of p c reply ≡ None
+kept_change p None reply is = refl
+kept_change p (Some (of.Set user text)) reply is = absurd (cc is)
+kept_change p (Some (of.Check user password)) reply is = refl
+kept_change p (Some (of.Upgrade user salt password)) reply is = absurd (cc is)
+kept_change p (Some (of.Remove user)) reply is = absurd (cc is)
+kept_change p (Some of.Listing) reply is = refl
 
 pub no_change_asked : {T V : Type 0} (p : TextPolicy T V) (line : List ℕ) (reply : Reply) → length line ≤ line_max → asks_change p line ≡ false → change p (line, reply) ≡ None
-no_change_asked p line reply short asks = kept_change (of.command p line) reply (sym (asks_is p line (of.command p line) short refl) ∙ asks)
+no_change_asked p line reply short asks = kept_change p (of.command p line) reply (sym (asks_is p line (of.command p line) short refl) ∙ asks)
 
 -- ---- a group that is empty
 
@@ -124,12 +123,12 @@ pub refuses_as : {T V : Type 0} (p : TextPolicy T V) (rows rows_now : Rows) (siz
 refuses_as p rows rows_now size size_now line e same as_big has =
     subst (λ (r : Rows). Refuses p r size_now line e) (sym same) (subst (λ (n : ℕ). Refuses p rows n line e) (sym as_big) has)
 
-pub set_refused : {T V : Type 0} (p : TextPolicy T V) (takes : Bool) (rows : Rows) (size : ℕ) (line user text : List ℕ) → Asks p line (of.Set user text) → (e : StoreError T V) → takes ≡ true
+pub set_refused : {T V : Type 0} (p : TextPolicy T V) (takes : Bool) (rows : Rows) (size : ℕ) (line user text : List ℕ) → Asks p line (of.Set user text) → sets_refused p line ≡ false → (e : StoreError T V) → takes ≡ true
     → (Err e ≡ stored_set p takes rows size user text)
     ⊎ ((◌≡◌ {A = Result (Unit {0}) (StoreError T V)} (Err e) (Err (Table refused.OutOfMemory))) × (is_ok (set_answer p (text_in rows user) (length rows) text) ≡ true))
     → Refuses p rows size line e
-set_refused p true rows size line user text asks e opened answer = set_refuses p rows size line user text asks e answer
-set_refused p false rows size line user text asks e opened answer = absurd (cc opened)
+set_refused p true rows size line user text asks free e opened answer = set_refuses p rows size line user text asks free e answer
+set_refused p false rows size line user text asks free e opened answer = absurd (cc opened)
 
 pub remove_open : {T V : Type 0} (p : TextPolicy T V) (takes : Bool) (rows : Rows) (size : ℕ) (user : List ℕ) (f g : ℕ)
     → IsStored (stored_remove p takes rows size user) false (Ok tt) f g (Ok tt) → takes ≡ true
@@ -146,7 +145,7 @@ size_away p user size size_now waiting (Err e) none is = omega (arith, none, is)
 
 -- the size after an upgrade, beside no bytes that wait
 pub size_with : {T V : Type 0} (p : TextPolicy T V) (user password salt : List ℕ) (size size_now waiting : ℕ) (result : Result Bool (StoreError T V)) → waiting ≡ 0
-    → size_now ≡ size_after_store_upgrade size user password salt result → size_now + waiting ≡ size_after_store_upgrade (size + waiting) user password salt result
+    → size_now ≡ size_after_store_upgrade p size user password salt result → size_now + waiting ≡ size_after_store_upgrade p (size + waiting) user password salt result
 size_with p user password salt size size_now waiting (Ok true) none is = omega (arith, none, is)
 size_with p user password salt size size_now waiting (Ok false) none is = omega (arith, none, is)
 size_with p user password salt size size_now waiting (Err e) none is = omega (arith, none, is)
@@ -173,7 +172,7 @@ pub long_says : {T V : Type 0} (p : TextPolicy T V) (rows : Rows) (size : ℕ) (
     → store_reply p (state rows size (fate_now takes)) line ≡ Says w.TooLong
 long_says p rows size takes line long =
     let said : table_reply p rows line ≡ Says w.TooLong = long_reply p rows line long in
-    let none : change p (line, table_reply p rows line) ≡ None = ap (λ (q : Reply). change p (line, q)) said ∙ unchanged (of.command p line) w.TooLong refl refl in
+    let none : change p (line, table_reply p rows line) ≡ None = ap (λ (q : Reply). change p (line, q)) said ∙ unchanged p (of.command p line) w.TooLong refl refl in
     other_reply p rows size (fate_now takes) line (long_asks p line long) none ∙ said
 
 -- ---- a run goes on
@@ -234,14 +233,13 @@ module _ {D T V : Type 0} (p : TextPolicy T V) (seen : D → List ℕ) (may_leav
     open_says line reply opened is size same =
         ap (λ (b : Bool). store_reply p (state held.rows size (fate_now b)) line) opened ∙ ap (λ (n : ℕ). store_reply p (state held.rows n None) line) (same opened) ∙ is
 
-    said : {E : Type 0} (line : List ℕ) (word : Word) (result : Result Bool E) → result ≡ Ok false → is_good_word word ≡ false
+    said : {E : Type 0} (line : List ℕ) (word : Word) (result : Result Bool E) → result ≡ Ok (is_good_word word)
         → ((size : ℕ) → (held.takes ≡ true → size ≡ held.size) → store_reply p (state held.rows size (fate_now held.takes)) line ≡ Says word)
         → change p (line, Says word) ≡ None → Puts written written_now faults faults_now out out_now (reply_text (Says word))
         → Served p held.rows held.takes (λ asked all. Runs asked held out_now written_now faults_now all) asked all line result
-    said {E} line word result is bad says makes put =
+    said {E} line word result is says makes put =
         subst (λ (r : Result Bool E). Served p held.rows held.takes (λ asked all. Runs asked held out_now written_now faults_now all) asked all line r) (sym is)
-        (subst (λ (b : Bool). Runs (asked ++ line ∷ []) held out_now written_now faults_now (all && b)) bad
-        (line_answered line (Says word) says makes put))
+        (line_answered line (Says word) says makes put)
 
     -- want of memory
     wanted : {E : Type 0} (line : List ℕ) (result : Result Bool E) → is_err result ≡ true → Lacks p held.rows held.takes line
@@ -259,15 +257,18 @@ module _ {D T V : Type 0} (p : TextPolicy T V) (seen : D → List ℕ) (may_leav
         → Served p held.rows held.takes (λ asked all. Runs asked held out_now written_now faults_now all) asked all line result
     open_refusal line (Table refused.OutOfMemory) result opened may put is =
         wanted line result is
-        (λ size. ap (λ (b : Bool). store_lacks p (state held.rows size (fate_now b)) line) opened ∙ open_lacks p held.rows size line may) put
-    open_refusal line (Table refused.NoUser) result opened stays put is = said line w.NoUser result is refl (open_says line (Says w.NoUser) opened stays.0) stays.1 put
-    open_refusal line (Table refused.Locked) result opened stays put is = said line w.Locked result is refl (open_says line (Says w.Locked) opened stays.0) stays.1 put
-    open_refusal line (Table refused.TextTooLong) result opened stays put is = said line w.TextLong result is refl (open_says line (Says w.TextLong) opened stays.0) stays.1 put
-    open_refusal line (Table (refused.BadText fault)) result opened stays put is = said line w.BadText result is refl (open_says line (Says w.BadText) opened stays.0) stays.1 put
-    open_refusal line (Table refused.Full) result opened stays put is = said line w.Full result is refl (open_says line (Says w.Full) opened stays.0) stays.1 put
-    open_refusal line (Table (refused.BadSalt fault)) result opened stays put is = said line w.BadSalt result is refl (open_says line (Says w.BadSalt) opened stays.0) stays.1 put
-    open_refusal line (Table (refused.Check fault)) result opened stays put is = said line w.Invalid result is refl (open_says line (Says w.Invalid) opened stays.0) stays.1 put
-    open_refusal line FileFull result opened stays put is = said line w.FileFull result is refl (open_says line (Says w.FileFull) opened stays.0) stays.1 put
+        (λ size. ap (λ (b : Bool). store_lacks p (state held.rows size (fate_now b)) line) opened ∙ open_lacks p held.rows size line may.0 may.1) put
+    open_refusal line (Table refused.NoUser) result opened stays put is = said line w.NoUser result is (open_says line (Says w.NoUser) opened stays.0) stays.1 put
+    open_refusal line (Table refused.Locked) result opened stays put is = said line w.Locked result is (open_says line (Says w.Locked) opened stays.0) stays.1 put
+    open_refusal line (Table refused.TextTooLong) result opened stays put is = said line w.TextLong result is (open_says line (Says w.TextLong) opened stays.0) stays.1 put
+    open_refusal line (Table (refused.BadText fault)) result opened stays put is = said line w.BadText result is (open_says line (Says w.BadText) opened stays.0) stays.1 put
+    open_refusal line (Table refused.Full) result opened stays put is = said line w.Full result is (open_says line (Says w.Full) opened stays.0) stays.1 put
+    open_refusal line (Table (refused.BadSalt fault)) result opened stays put is = said line w.BadSalt result is (open_says line (Says w.BadSalt) opened stays.0) stays.1 put
+    open_refusal line (Table (refused.Check fault)) result opened stays put is = said line w.Invalid result is (open_says line (Says w.Invalid) opened stays.0) stays.1 put
+    open_refusal line (Table refused.TooCostly) result opened stays put is = said line w.TooCostly result is (open_says line (Says w.TooCostly) opened stays.0) stays.1 put
+    open_refusal line (Table refused.Unmatched) result opened stays put is = said line w.Invalid result is (open_says line (Says w.Invalid) opened stays.0) stays.1 put
+    open_refusal line (Table refused.Kept) result opened stays put is = said line w.Kept result is (open_says line (Says w.Kept) opened stays.0) stays.1 put
+    open_refusal line FileFull result opened stays put is = said line w.FileFull result is (open_says line (Says w.FileFull) opened stays.0) stays.1 put
     open_refusal line DiskFault result opened never put is = absurd never
 
     -- a change is refused, as a write has failed
@@ -275,9 +276,9 @@ module _ {D T V : Type 0} (p : TextPolicy T V) (seen : D → List ℕ) (may_leav
         → Puts written written_now faults faults_now out out_now (reply_text (Says w.DiskFault)) → result ≡ Ok false
         → Served p held.rows held.takes (λ asked all. Runs asked held out_now written_now faults_now all) asked all line result
     closed_refusal line result closed asks put is =
-        said line w.DiskFault result is refl
+        said line w.DiskFault result is
         (λ size same. ap (λ (b : Bool). store_reply p (state held.rows size (fate_now b)) line) closed ∙ broken_reply p held.rows size line asks)
-        (unchanged (of.command p line) w.DiskFault refl refl) put
+        (unchanged p (of.command p line) w.DiskFault refl refl) put
 
     pub refusal_served : {E : Type 0} (takes : Bool) → held.takes ≡ takes → (line : List ℕ) (e : StoreError T V) (result : Result Bool E) → asks_change p line ≡ true
         → (held.takes ≡ true → Refuses p held.rows held.size line e) → (word : Option Word) → word ≡ refusal_of held.takes e
@@ -367,11 +368,11 @@ module _ {D T V : Type 0} (p : TextPolicy T V) (seen : D → List ℕ) (may_leav
     pub upgrade_answered : (may : Bool) (matches : Bool)
         → IsStored (stored_upgrade p held.takes held.rows held.size user password salt) may (Ok true) (disk_faults held.device) (disk_faults held_now.device) (Ok matches)
         → may ≡ upgrade_may_lack p (text_in held.rows user) password salt
-        → held_now.takes ≡ held.takes && not (is_disk_fault {T = T} {V = V} (Ok matches)) → held_now.rows ≡ rows_after_store_upgrade {T = T} {V = V} held.rows user password salt (Ok matches)
-        → (held_now.takes ≡ true → held_now.size ≡ size_after_store_upgrade {T = T} {V = V} held.size user password salt (Ok matches))
+        → held_now.takes ≡ held.takes && not (is_disk_fault {T = T} {V = V} (Ok matches)) → held_now.rows ≡ rows_after_store_upgrade p held.rows user password salt (Ok matches)
+        → (held_now.takes ≡ true → held_now.size ≡ size_after_store_upgrade p held.size user password salt (Ok matches))
         → (held_now.takes ≡ true → rows_in p (seen held_now.device) ≡ held_now.rows)
         → (held.takes ≡ true → LeavesOnly moment left_since held.device held_now.device
-        (λ c. StandsFor p held.rows c ⊎ StandsFor p (with_text held.rows user (upgraded_text password salt)) c))
+        (λ c. StandsFor p held.rows c ⊎ StandsFor p (with_text held.rows user (p.fresh password salt)) c))
         → (is_unwritten_upgrade {T = T} {V = V} (Ok matches) ≡ true → held_now.device ≡ held.device)
         → Puts written written_now faults faults_now out out_now (reply_text (Says (verdict_word matches)))
         → Runs (asked ++ line ∷ []) held_now out_now written_now faults_now (all && matches)
@@ -382,7 +383,7 @@ module _ {D T V : Type 0} (p : TextPolicy T V) (seen : D → List ℕ) (may_leav
         (subst (λ (m : Bool). IsStored (stored_upgrade p held.takes held.rows held.size user password salt) m (Ok true) (disk_faults held.device) (disk_faults held_now.device) (Ok true)) same answer) in
         let changes = told_true p held.rows held.size line user salt password asks (disk_faults held.device) (disk_faults held_now.device) answer_open in
         let still : held_now.takes ≡ true = takes ∙ ap (λ (b : Bool). b && true) opened in
-        alone_done asked held out written faults all so_far none out_now written_now faults_now opened line w.Upgraded refl user (Some (upgraded_text password salt)) upgrade_asks changes (file opened) held_now idle_now
+        alone_done asked held out written faults all so_far none out_now written_now faults_now opened line w.Upgraded refl user (Some (p.fresh password salt)) upgrade_asks changes (file opened) held_now idle_now
         (crash opened) still rows (size still) (file_now still) count put
     upgrade_answered may false answer same takes rows size file_now crash unwritten put =
         let opened : held.takes ≡ true = upgrade_open p held.takes held.rows held.size user password salt may (disk_faults held.device) (disk_faults held_now.device) false answer in
@@ -403,8 +404,8 @@ module _ {D T V : Type 0} (p : TextPolicy T V) (seen : D → List ℕ) (may_leav
         → held_now.takes ≡ held.takes && not (is_disk_fault {A = Bool} (Err e)) → held_now.rows ≡ held.rows
         → (held_now.takes ≡ true → held_now.size ≡ held.size)
         → (held.takes ≡ true → LeavesOnly moment left_since held.device held_now.device
-        (λ c. StandsFor p held.rows c ⊎ StandsFor p (with_text held.rows user (upgraded_text password salt)) c))
-        → (held.takes ≡ true → (c : List ℕ) → may_leave held_now.device c → StandsFor p held.rows c ⊎ StandsFor p (with_text held.rows user (upgraded_text password salt)) c)
+        (λ c. StandsFor p held.rows c ⊎ StandsFor p (with_text held.rows user (p.fresh password salt)) c))
+        → (held.takes ≡ true → (c : List ℕ) → may_leave held_now.device c → StandsFor p held.rows c ⊎ StandsFor p (with_text held.rows user (p.fresh password salt)) c)
         → (is_unwritten_upgrade (Err e) ≡ true → held_now.device ≡ held.device) → (held.takes ≡ false → held_now.device ≡ held.device)
         → (word : Option Word) → word ≡ refusal_of held_now.takes e → Puts written written_now faults faults_now out out_now (refusal_text word) → IsRefusal word result
         → Served p held_now.rows held_now.takes (λ asked all. Runs asked held_now out_now written_now faults_now all) asked all line result
@@ -422,7 +423,7 @@ module _ {D T V : Type 0} (p : TextPolicy T V) (seen : D → List ℕ) (may_leav
             refusal_served asked held_now out written faults all mid idle_now out_now written_now faults_now true still line e result upgrade_asks
             (λ opened. refuses_as p held.rows held_now.rows held.size held_now.size line e rows (size still) refuses) word is put answered_so
 
-        by_fault : (e ≡ DiskFault) × (HasRisen (disk_faults held.device) (disk_faults held_now.device) × Changes p held.rows held.size line (Says w.Upgraded) (user, Some (upgraded_text password salt)))
+        by_fault : (e ≡ DiskFault) × (HasRisen (disk_faults held.device) (disk_faults held_now.device) × Changes p held.rows held.size line (Says w.Upgraded) (user, Some (p.fresh password salt)))
             → Served p held_now.rows held_now.takes (λ asked all. Runs asked held_now out_now written_now faults_now all) asked all line result
         by_fault (fault, (risen, changes)) =
             let broken : held_now.takes ≡ false = takes ∙ ap (λ (b : Bool). b && not (is_disk_fault {A = Bool} (Err e))) opened
@@ -430,7 +431,7 @@ module _ {D T V : Type 0} (p : TextPolicy T V) (seen : D → List ℕ) (may_leav
             let word_is : word ≡ Some w.DiskFault = is ∙ ap (λ (b : Bool). refusal_of b e) broken in
             let answer_is : result ≡ Ok false = subst (λ (o : Option Word). IsRefusal o result) word_is answered_so in
             subst (λ (r : Result Bool E). Served p held_now.rows held_now.takes (λ asked all. Runs asked held_now out_now written_now faults_now all) asked all line r) (sym answer_is)
-            (alone_failed asked held out written faults all so_far none out_now written_now faults_now opened line w.Upgraded refl user (Some (upgraded_text password salt)) upgrade_asks changes (file opened) held_now idle_now
+            (alone_failed asked held out written faults all so_far none out_now written_now faults_now opened line w.Upgraded refl user (Some (p.fresh password salt)) upgrade_asks changes (file opened) held_now idle_now
             (crash opened) broken rows (left opened) risen count
             (subst (λ (o : Option Word). Puts written written_now faults faults_now out out_now (refusal_text o)) word_is put))
     upgrade_refused {E} false closed may e result answer same takes rows size crash left unwritten closed_device word is put answered_so =

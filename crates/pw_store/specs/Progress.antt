@@ -13,7 +13,7 @@ use Rattle.line_program.specs.Next.{TakesLine}
 use Rattle.line_program.specs.Rules.{after_lines, all_good, replies}
 use Rattle.pw_file.specs.History.{Rows, Says}
 use Rattle.pw_file.specs.Policy.{TextPolicy}
-use Rattle.pw_file.specs.Replies.{error_word, reply_text}
+use Rattle.pw_file.specs.Replies.{error_word, is_good_word, reply_text}
 use Rattle.pw_file.specs.declared.error.FileError.TheVariants.{OutOfMemory}
 use Rattle.pw_file.specs.declared.reply.Word.{Word}
 use Rattle.pw_file.specs.declared.reply.Word.TheVariants.{Done, Mismatch, Upgraded}
@@ -181,9 +181,9 @@ abbrev pub refusal_text : Option Word → List ℕ
 refusal_text None = []
 refusal_text (Some word) = reply_text (Says word)
 
--- a reply that isn't good, or none
+-- whether that reply is a good one, as `kept` is; or there is none
 abbrev pub IsRefusal : {E : Type 0} → Option Word → Result Bool E → Type 0
-IsRefusal (Some word) result = result ≡ Ok false
+IsRefusal (Some word) result = result ≡ Ok (is_good_word word)
 IsRefusal None result = is_err result ≡ true
 
 -- ---- the end

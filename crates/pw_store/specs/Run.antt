@@ -2,7 +2,7 @@
 --
 -- Nobody knows beforehand when a write of the file fails. A fate says it, so that the replies are those of rules: the
 -- outcome of a run says that there is a fate for which they hold.
-use Rattle.std.specs.Prelude.{◌≡◌, ◌⊎◌, ◌≤◌, ℕ, ◌+◌, ◌==◌, ◌&&◌, Bool, true, false, List, [], ◌∷◌, length, take, drop, nat_le, nat_lt, Option, None, Some, if◌then◌else◌}
+use Rattle.std.specs.Prelude.{◌≡◌, ◌⊎◌, ◌≤◌, ℕ, ◌+◌, ◌==◌, ◌&&◌, ◌||◌, Bool, true, false, List, [], ◌∷◌, length, take, drop, nat_le, nat_lt, Option, None, Some, if◌then◌else◌}
 use Rattle.std.proofs.Common.{zero, suc}
 use Rattle.std.specs.List.{list_all}
 use Rattle.line_io.specs.Limits.{line_max}
@@ -17,7 +17,7 @@ use Rattle.pw_file.specs.History.{Change, History, Reply, Rows, Says, change}
 use Rattle.pw_file.specs.Policy.{TextPolicy}
 use Rattle.pw_file.specs.Replies.{is_good, reply_text}
 use Rattle.pw_file.specs.Rules.{changed, table_is_costly, table_reply}
-use Rattle.pw_file.specs.declared.reply.Word.TheVariants.{DiskFault, FileFull}
+use Rattle.pw_file.specs.declared.reply.Word.TheVariants.{DiskFault, FileFull, Invalid}
 use Rattle.pw_store.specs.Store.{StandsFor}
 use Rattle.pw_store.specs.Stored.{size_changed}
 
@@ -60,7 +60,17 @@ is_change (Some (of.Upgrade user salt password)) = true
 is_change (Some (of.Remove user)) = true
 is_change (Some of.Listing) = false
 
--- the line is one of these commands
+-- `set` of a text that the policy lets no run set
+abbrev pub is_refused_set : {T V : Type 0} → TextPolicy T V → Option Command → Bool
+is_refused_set p None = false
+is_refused_set p (Some (of.Set user text)) = p.is_refused text
+is_refused_set p (Some other) = false
+
+-- the line is such a command
+unfoldable pub sets_refused : {T V : Type 0} → TextPolicy T V → List ℕ → Bool
+sets_refused p line = if nat_lt line_max (length line) then false else is_refused_set p (command p line)
+
+-- the line is one of the commands that change the table
 unfoldable pub asks_change : {T V : Type 0} → TextPolicy T V → List ℕ → Bool
 asks_change p line = if nat_lt line_max (length line) then false else is_change (command p line)
 
@@ -78,9 +88,13 @@ where_room size (Some c) reply = if nat_le (size_changed size c.0 c.1) file_max 
 abbrev pub roomy_reply : {T V : Type 0} → TextPolicy T V → State → List ℕ → Reply
 roomy_reply p s line = where_room s.size (change p (line, table_reply p s.rows line)) (table_reply p s.rows line)
 
+-- the same, where changes are taken: a text that no run sets is no text of a verdict
+abbrev pub usual_reply : {T V : Type 0} → TextPolicy T V → State → List ℕ → Reply
+usual_reply p s line = if sets_refused p line then Says Invalid else roomy_reply p s line
+
 -- The reply to a line. Once a write has failed no change is taken.
 unfoldable pub store_reply : {T V : Type 0} → TextPolicy T V → State → List ℕ → Reply
-store_reply p s line = if is_broken s.fate && asks_change p line then Says DiskFault else roomy_reply p s line
+store_reply p s line = if is_broken s.fate && asks_change p line then Says DiskFault else usual_reply p s line
 
 -- the state after a line and its reply
 unfoldable pub store_after : {T V : Type 0} → TextPolicy T V → State → List ℕ → State
@@ -92,7 +106,8 @@ store_after p s line = record {
 
 -- memory may be wanting for a line
 unfoldable pub store_lacks : {T V : Type 0} → TextPolicy T V → State → List ℕ → Bool
-store_lacks p s line = if is_broken s.fate && asks_change p line then false else table_is_costly p s.rows line
+store_lacks p s line =
+    if (is_broken s.fate && asks_change p line) || sets_refused p line then false else table_is_costly p s.rows line
 
 -- what is owed, line by line
 abbrev pub store_rules : {T V : Type 0} → TextPolicy T V → StateRules State

@@ -9,7 +9,6 @@ use Rattle.pw_file.specs.Commands.{set_line}
 use Rattle.pw_file.specs.History.{History, Rows, text_in}
 use Rattle.pw_file.specs.Replies.{row_line}
 use Rattle.pw_file.specs.Policy.{TextPolicy}
-use Rattle.pw_file.specs.Upgraded.{upgraded_text}
 use Rattle.pw_file.specs.declared.error.FileError.{FileError}
 use Rattle.pw_file.specs.declared.error.FileError.TheVariants.{OutOfMemory}
 use Rattle.pw_store.specs.Store.{recovered_rows, removal_line}
@@ -87,7 +86,7 @@ stored_remove p takes rows size user =
 abbrev pub stored_upgrade : {T V : Type 0} → TextPolicy T V → Bool → Rows → ℕ → List ℕ → List ℕ → List ℕ
     → Result Bool (StoreError T V)
 stored_upgrade p takes rows size user password salt =
-    if takes then upgrade_by (size_after size user (upgraded_text password salt)) (upgrade_answer p (text_in rows user) password salt)
+    if takes then upgrade_by (size_after size user (p.fresh password salt)) (upgrade_answer p (text_in rows user) password salt)
     else Err DiskFault
 
 -- The answer is this one; or want of memory, where that may be; or a fault of the device in this call, where it was to be
@@ -121,10 +120,10 @@ rows_after_store_set rows user text (Ok done) = with_text rows user text
 rows_after_store_set rows user text (Err e) = rows
 
 -- the rows after `upgrade`: changed where the text matched
-abbrev pub rows_after_store_upgrade : {T V : Type 0} → Rows → List ℕ → List ℕ → List ℕ → Result Bool (StoreError T V) → Rows
-rows_after_store_upgrade rows user password salt (Ok true) = with_text rows user (upgraded_text password salt)
-rows_after_store_upgrade rows user password salt (Ok false) = rows
-rows_after_store_upgrade rows user password salt (Err e) = rows
+abbrev pub rows_after_store_upgrade : {T V : Type 0} → TextPolicy T V → Rows → List ℕ → List ℕ → List ℕ → Result Bool (StoreError T V) → Rows
+rows_after_store_upgrade p rows user password salt (Ok true) = with_text rows user (p.fresh password salt)
+rows_after_store_upgrade p rows user password salt (Ok false) = rows
+rows_after_store_upgrade p rows user password salt (Err e) = rows
 
 -- the rows after `remove`: changed where it is done
 abbrev pub rows_after_store_remove : {T V : Type 0} → Rows → List ℕ → Result (Unit {0}) (StoreError T V) → Rows
@@ -142,10 +141,10 @@ size_after_store_remove size user (Ok done) = size_changed size user None
 size_after_store_remove size user (Err e) = size
 
 -- and after `upgrade`
-abbrev pub size_after_store_upgrade : {T V : Type 0} → ℕ → List ℕ → List ℕ → List ℕ → Result Bool (StoreError T V) → ℕ
-size_after_store_upgrade size user password salt (Ok true) = size_after size user (upgraded_text password salt)
-size_after_store_upgrade size user password salt (Ok false) = size
-size_after_store_upgrade size user password salt (Err e) = size
+abbrev pub size_after_store_upgrade : {T V : Type 0} → TextPolicy T V → ℕ → List ℕ → List ℕ → List ℕ → Result Bool (StoreError T V) → ℕ
+size_after_store_upgrade p size user password salt (Ok true) = size_after size user (p.fresh password salt)
+size_after_store_upgrade p size user password salt (Ok false) = size
+size_after_store_upgrade p size user password salt (Err e) = size
 
 -- a history after `set`; a refusal by the file is no pair of it
 abbrev pub after_store_set : {T V : Type 0} → History → List ℕ → List ℕ → Result (Unit {0}) (StoreError T V) → History

@@ -8,7 +8,7 @@ ghost use Rattle.pw_store.specs.Progress.{IsRefusal, refusal_of, refusal_text, v
 
 use crate::StoreError;
 use line_io::{OutputBuffer, Sink};
-use pw_file::{FileError, Word, error_word};
+use pw_file::{FileError, LineReply, Word, error_word};
 use std::alloc::AllocError;
 
 /// Puts a word and a line feed.
@@ -66,7 +66,7 @@ pub(crate) fn refusal_word<T: Copy, V: Copy>(takes: bool, e: StoreError<T, V>) -
     }
 }
 
-/// Puts the reply of a refusal, which isn't a good one; or memory is wanting.
+/// Puts the reply of a refusal, and tells whether the reply is a good one, as `kept` is; or out of memory.
 pub(crate) fn put_refusal<K: Sink>(
     word: Option<Word>,
     out: &mut OutputBuffer,
@@ -79,7 +79,7 @@ pub(crate) fn put_refusal<K: Sink>(
     match word {
         Some(word) => {
             put_word(word, out, sink);
-            Ok(false)
+            Ok(LineReply::Word(word).is_good())
         }
         None => Err(AllocError),
     }

@@ -11,12 +11,12 @@ ghost use Rattle.pw_store.specs.Run.{asks_change};
 ghost use Rattle.pw_store.specs.Staged.{lines_of};
 ghost use Rattle.pw_store.specs.Stored.{IsSound, rows_of, size_of, takes_changes};
 
-use crate::Store;
+use crate::{Store, StoreError};
 use crate::group::Group;
 use crate::replies::{put_refusal, put_verdict, put_word, put_words, refusal_word};
 use line_io::{Failed, OutputBuffer, Sink};
 use line_log::Device;
-use pw_file::{Command, Policy, ROW_LINE_MAX, UserName, Word, answer_line, put_reply};
+use pw_file::{Command, FileError, Policy, ROW_LINE_MAX, UserName, Word, answer_line, put_reply};
 use std::alloc::AllocError;
 
 impl<D: Device, P: Policy> Store<D, P> {
@@ -64,6 +64,7 @@ impl<D: Device, P: Policy> Store<D, P> {
     ) -> Result<bool, AllocError>
         requires ready { IsReady P.policy D.seen D.may_leave self.old group.old }
         requires room { length (lines_of group.old) + ROW_LINE_MAX ≤ group_max }
+        requires free { P.policy.is_refused text.now ≡ false }
         ensures ready { IsReady P.policy D.seen D.may_leave self.new group.new }
         ensures none { OnErr result (count_of group.new ≡ 0) }
         ensures served { (line : List ℕ) → Asks P.policy line (of.Set user.now text.now)
@@ -77,6 +78,25 @@ impl<D: Device, P: Policy> Store<D, P> {
                 put_refusal(refusal_word(self.is_open, e), out, sink)
             }
         }
+    }
+
+    /// Answers a `set` of a text that the policy lets no run set.
+    fn serve_refused<K: Sink>(
+        &mut self,
+        group: &mut Group<P>,
+        out: &mut OutputBuffer,
+        sink: &mut K,
+    ) -> Result<bool, AllocError>
+        requires ready { IsReady P.policy D.seen D.may_leave self.old group.old }
+        ensures ready { IsReady P.policy D.seen D.may_leave self.new group.new }
+        ensures none { OnErr result (count_of group.new ≡ 0) }
+        ensures served { (line user text : List ℕ) → Asks P.policy line (of.Set user text) → P.policy.is_refused text ≡ true
+            → Serves P.policy D.seen D.may_leave D.moment D.left_since D.faults self.old self.new
+            group.old group.new out.old out.new K.written K.faults sink.old sink.new line result }
+    {
+        self.commit(group, out, sink);
+        let refusal = StoreError::Table(FileError::Unmatched);
+        put_refusal(refusal_word::<P::TextFault, P::VerdictFault>(self.is_open, refusal), out, sink)
     }
 
     /// Answers an `upgrade`.
@@ -194,7 +214,13 @@ impl<D: Device, P: Policy> Store<D, P> {
             group.old group.new out.old out.new K.written K.faults sink.old sink.new line.now result }
     {
         match Command::parse(line) {
-            Some(Command::Set { user, text }) => self.serve_set(group, &user, text, out, sink),
+            Some(Command::Set { user, text }) => {
+                if self.table.refuses(text) {
+                    self.serve_refused(group, out, sink)
+                } else {
+                    self.serve_set(group, &user, text, out, sink)
+                }
+            }
             Some(
                 Command::Upgrade {
                     user,

@@ -10,7 +10,6 @@ ghost use Rattle.pw_file.specs.Calls.{with_text, without};
 ghost use Rattle.pw_file.specs.History.{History, IsContentOf, text_in};
 ghost use Rattle.pw_file.specs.Limits.{text_max};
 ghost use Rattle.pw_file.specs.Replies.{row_line};
-ghost use Rattle.pw_file.specs.Upgraded.{upgraded_text};
 ghost use Rattle.pw_store.specs.Staged.{IsStaged, lines_of, rows_in, undo_of};
 ghost use Rattle.pw_store.specs.Store.{StandsFor, recovered_rows};
 ghost use Rattle.pw_store.specs.Stored.{IsSound, IsStored, after_store_remove, after_store_set, after_store_upgrade, device_of, is_disk_fault, is_unwritten_set, is_unwritten_upgrade, removal_text, rows_after_store_remove, rows_after_store_set, rows_after_store_upgrade, rows_of, size_after_store_remove, size_after_store_set, size_after_store_upgrade, size_of, stored_remove, stored_set, stored_upgrade, takes_changes};
@@ -284,8 +283,8 @@ impl<D: Device, P: Policy> Store<D, P> {
         }
     }
 
-    /// Checks as [`check`](Store::check). Where the text matches, the user's text is from then on a new one of scrypt for
-    /// the password and the salt.
+    /// Checks as [`check`](Store::check). Where the text matches, the user's text is from then on the one that the policy makes of
+    /// the password and the salt, unless the policy leaves the text as it is: `FileError::Kept` says that.
     pub fn upgrade(
         &mut self,
         user: &UserName<P>,
@@ -297,17 +296,17 @@ impl<D: Device, P: Policy> Store<D, P> {
             (stored_upgrade P.policy (takes_changes self.old) (rows_of self.old) (size_of self.old) user.now password.now salt.now)
             (upgrade_may_lack P.policy (text_in (rows_of self.old) user.now) password.now salt.now)
             (Ok true) (D.faults (device_of self.old)) (D.faults (device_of self.new)) result }
-        ensures rows { rows_of self.new ≡ rows_after_store_upgrade (rows_of self.old) user.now password.now salt.now result }
+        ensures rows { rows_of self.new ≡ rows_after_store_upgrade P.policy (rows_of self.old) user.now password.now salt.now result }
         ensures content { (h : History) → IsContentOf P.policy h (rows_of self.old)
             → IsContentOf P.policy (after_store_upgrade h user.now password.now salt.now result) (rows_of self.new) }
         ensures size { takes_changes self.new ≡ true
-            → size_of self.new ≡ size_after_store_upgrade (size_of self.old) user.now password.now salt.now result }
+            → size_of self.new ≡ size_after_store_upgrade P.policy (size_of self.old) user.now password.now salt.now result }
         ensures takes { takes_changes self.new ≡ takes_changes self.old && not (is_disk_fault result) }
         ensures sound { IsSound P.policy D.seen D.may_leave self.new }
         ensures count { D.faults (device_of self.old) ≤ D.faults (device_of self.new) }
         ensures any_moment { takes_changes self.old ≡ true → LeavesOnly D.moment D.left_since (device_of self.old) (device_of self.new)
             (λ c. StandsFor P.policy (rows_of self.old) c
-            ⊎ StandsFor P.policy (with_text (rows_of self.old) user.now (upgraded_text password.now salt.now)) c) }
+            ⊎ StandsFor P.policy (with_text (rows_of self.old) user.now (P.policy.fresh password.now salt.now)) c) }
         ensures closed { takes_changes self.old ≡ false → device_of self.new ≡ device_of self.old }
         ensures unwritten { is_unwritten_upgrade result ≡ true → device_of self.new ≡ device_of self.old }
     {

@@ -83,7 +83,7 @@ fn bytes(costs: &Costs) -> u64
 }
 
 /// The memory of a text in KiB, by its family.
-pub(crate) fn memory(family: CostFamily, costs: &Costs) -> u64
+pub fn memory(family: CostFamily, costs: &Costs) -> u64
     ensures { result ≡ memory family costs.now }
 {
     match family {
@@ -92,8 +92,8 @@ pub(crate) fn memory(family: CostFamily, costs: &Costs) -> u64
     }
 }
 
-// The memory of a text, as often as it is gone through.
-fn work(family: CostFamily, costs: &Costs) -> u64
+/// The memory of a text in KiB, as often as it is gone through: in the passes of Argon2, in the parts of scrypt.
+pub fn work(family: CostFamily, costs: &Costs) -> u64
     ensures { result ≡ work family costs.now }
 {
     match family {

@@ -14,6 +14,6 @@ pub use any_check::{Costs, NO_COSTS, Scheme, TextCosts};
 pub use cells::Format;
 pub use counts::{Counts, Kind};
 pub use judgement::{Judgement, judged};
-pub use least::{LeastCosts, RECOMMENDED_LEAST, Weakness};
+pub use least::{LeastCosts, RECOMMENDED_LEAST, Weakness, memory, work};
 pub use lines::{SurveyLines, run_survey};
 pub use unsupported::UnsupportedForm;

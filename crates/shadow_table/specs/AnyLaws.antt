@@ -1,6 +1,6 @@
 -- The policy is lawful. The proofs stand here because its `impl` names the last of them.
-use Rattle.std.proofs.Common.{◌≡◌, ℕ, ◌<◌, ◌≤◌, Bool, true, false, List, [], ◌∷◌, length, refl, sym, ap, ◌∙◌, arith}
-use Rattle.std.specs.Prelude.{codes, is_ok, nat_lt, Option, Some, None, Result, Ok, Err, if◌then◌else◌}
+use Rattle.std.proofs.Common.{◌≡◌, ℕ, ◌<◌, ◌≤◌, Bool, true, false, List, [], ◌∷◌, length, refl, sym, ap, ◌∙◌, arith, subst}
+use Rattle.std.specs.Prelude.{◌&&◌, is_ok, nat_le, nat_lt, not, Option, Some, None, Result, Ok, Err, if◌then◌else◌}
 use Rattle.std.specs.List.{list_all, list_any}
 use Rattle.std.specs.Str.{IsAscii, IsUtf8, is_utf8}
 use Rattle.std.proofs.lemmas.Bool.{and_parts, or_parts, false≢true}
@@ -8,17 +8,18 @@ use Rattle.std.proofs.lemmas.Bool.Decides.{nat_tests}
 use Rattle.std.proofs.lemmas.Str.{IsUtf8-from_ascii, IsUtf8-from_is_utf8}
 use Rattle.std.proofs.lemmas.Str.Ascii.{IsAscii-nil, IsAscii-cons}
 use Rattle.line_io.specs.Lines.{NoFeed, is_feed}
-use Rattle.mcf.specs.Grammar.{Parts, fault, mcf, parts}
-use Rattle.phc.specs.Grammar.{Layout, fault_of_layout, layout, salt_fault}
-use Rattle.phc.specs.Record.{phc, record_of_layout}
-use Rattle.phc.specs.declared.error.Error as phc_error
-use Rattle.phc.specs.declared.password_hash.PasswordHash.{PasswordHash}
-use Rattle.phc.proofs.Characters.{all_weaker}
+use Rattle.mcf.specs.Grammar.{mcf}
+use Rattle.phc.specs.Grammar.{salt_fault}
+use Rattle.phc.proofs.EncodedBytes.{salt_bytes}
+use Rattle.base64ct.specs.Encoding.{EachBelow}
+use Rattle.any_make.specs.Made.{made}
+use Rattle.any_make.specs.declared.error.MakeFault.{MakeFault}
+use Rattle.any_make.proofs.Matches.{made_matches}
+use Rattle.any_check.specs.Kinds.{text_kind}
 use Rattle.pieces.specs.Characters.{is_tab}
-use Rattle.pieces.specs.Faults.{unless, value_or_fault}
-use Rattle.pieces.proofs.FaultLaws.{value_found}
-use Rattle.scrypt_plain.specs.Profile as scrypt
-use Rattle.stored_check.specs.Verdict.{key_answer, may_lack_memory, parts_answer, phc_answer, same_text, scheme_of, text_answer}
+use Rattle.pieces.specs.Faults.{unless}
+use Rattle.pieces.proofs.FaultLaws.{first_none}
+use Rattle.stored_check.specs.Verdict.{may_lack_memory, text_answer}
 use Rattle.stored_check.specs.Verdict.{text_needs, verdict}
 use Rattle.stored_check.specs.declared.error.StoredError.{StoredError}
 use Rattle.stored_check.specs.declared.error.StoredError.TheVariants.{PasswordTooLong}
@@ -29,19 +30,18 @@ use Rattle.yescrypt_plain.specs.declared.error.CheckError.TheVariants as of_cryp
 use Rattle.yescrypt_plain.specs.declared.error.TextFault.{TextFault}
 use Rattle.any_check.specs.Given.{given_may_lack, given_verdict}
 use Rattle.any_check.specs.Records.{accepted, needs_memory, tag}
-use Rattle.any_check.specs.Table.{any_may_lack, any_verdict, identifier, of_scrypt_check, of_stored, of_yescrypt_check}
+use Rattle.any_check.specs.Table.{any_may_lack, any_verdict, of_scrypt_check, of_stored, of_yescrypt_check}
 use Rattle.any_check.specs.Table.{row_may_lack, scheme_answer, text_scheme}
-use Rattle.scheme_list.specs.Schemes.{scheme_named}
 use Rattle.any_check.specs.declared.error.AnyError.{AnyError}
 use Rattle.any_check.specs.declared.error.AnyError.TheVariants.{Stored}
 use Rattle.scheme_list.specs.declared.schemes.Scheme.{Scheme}
 use Rattle.scheme_list.specs.declared.schemes.Scheme.TheVariants.{Argon2d, Argon2i, Argon2id, Pbkdf2Sha256}
 use Rattle.scheme_list.specs.declared.schemes.Scheme.TheVariants.{Pbkdf2Sha512, Scrypt, ScryptCrypt, Yescrypt}
-use Rattle.pw_file.specs.Policy.{IsLawful}
-use Rattle.pw_file.specs.StoredLaws.{IsScryptText, fresh_good, fresh_read, is_text_byte, stored_lawful, text_bytes}
-use Rattle.pw_file.specs.StoredTexts.{verdict_on}
-use Rattle.pw_file.specs.Upgraded.{upgraded_text}
+use Rattle.pw_file.specs.Policy.{IsFresh, IsLawful}
 use Rattle.shadow_table.specs.AnyTexts.{any_texts}
+use Rattle.shadow_table.specs.Rules.{bytes_of_salt, fault_of_salt, fresh_text, is_put, is_too_costly, keeps, keeps_beside, text_made}
+use Rattle.shadow_table.specs.Strength.{is_weaker_kind, keeps_kind}
+use Rattle.shadow_table.specs.declared.rules.TableRules.{TableRules}
 use Rattle.shadow_table.specs.Fields.{has_name_bytes, is_cut_byte, is_field, is_field_byte, is_locked_text, is_user_name}
 use Rattle.shadow_table.specs.declared.fault.FieldFault.TheVariants.{Byte}
 
@@ -106,76 +106,79 @@ text_feedless s none = feedless s (field_if (is_field s) none)
 
 -- ---- the text that an upgrade makes
 
--- a byte of a modular crypt text is one of a field
-of_mcf : (b : ℕ) → is_text_byte b ≡ true → is_field_byte b ≡ true
-of_mcf b is = grind (arith, nat_tests, is)
+salt_taken : (r : TableRules) (salt : List ℕ) → fault_of_salt r salt ≡ None → salt_fault salt ≡ None
+salt_taken r salt none = (first_none (salt_fault salt) _ none).0
 
-fresh_field : (password salt : List ℕ) → salt_fault salt ≡ None → is_field (upgraded_text password salt) ≡ true
-fresh_field password salt good =
-    let text = upgraded_text password salt in
-    all_weaker is_text_byte is_field_byte of_mcf text (text_bytes text (fresh_good password salt good))
+-- the bytes of a salt are bytes
+salt_below : (salt : List ℕ) → salt_fault salt ≡ None → EachBelow 256 (bytes_of_salt salt)
+salt_below salt good = let s = salt_bytes salt good in rw (s.decoded) s.small
 
-fresh_open : (password salt : List ℕ) → is_locked_text (upgraded_text password salt) ≡ false
-unfolding upgraded_text
-fresh_open password salt = refl
+not_true : (t : Bool) → not t ≡ true → t ≡ false
+not_true true h = absurd (false≢true h)
+not_true false h = refl
 
--- The derivation of all records is that of scrypt where the identifier is `scrypt`.
-module _ (password : List ℕ) where
-  abbrev by_all : Result PasswordHash phc_error.Error → Result Bool StoredError
-  by_all r = phc_answer accepted tag password r
+not_false : (t : Bool) → not t ≡ false → t ≡ true
+not_false true h = refl
+not_false false h = absurd (false≢true (sym h))
 
-  abbrev by_scrypt : Result PasswordHash phc_error.Error → Result Bool StoredError
-  by_scrypt r = phc_answer scrypt.accepted scrypt.key password r
+-- what is asked of a text that comes in the place of another
+pub record IsPut (r : TableRules) (password old fresh : List ℕ) : Type 0 where
+  pub short : length fresh ≤ 1024
+  pub is_text : is_field fresh ≡ true
+  pub unlocked : is_locked_text fresh ≡ false
+  pub affordable : is_too_costly r.limits password fresh ≡ false
+  pub no_weaker : is_weaker_kind (text_kind accepted fresh) (text_kind accepted old) ≡ false
 
-  same_key : (r : PasswordHash) (salt hash : Option (List ℕ)) → same_text r.algorithm (codes "scrypt") ≡ true
-      → key_answer accepted tag password r salt hash ≡ key_answer scrypt.accepted scrypt.key password r salt hash
-  same_key r None hash is = refl
-  same_key r (Some salt) None is = refl
-  same_key r (Some salt) (Some hash) is = rw is refl
+pub put_parts : (r : TableRules) (password old fresh : List ℕ) → is_put r password old fresh ≡ true → IsPut r password old fresh
+put_parts r password old fresh h =
+    let costly = is_too_costly r.limits password fresh in
+    let weaker = is_weaker_kind (text_kind accepted fresh) (text_kind accepted old) in
+    let a = and_parts (nat_le (length fresh) 1024) (is_field fresh && (not (is_locked_text fresh) && (not costly && not weaker))) h in
+    let b = and_parts (is_field fresh) (not (is_locked_text fresh) && (not costly && not weaker)) a.1 in
+    let c = and_parts (not (is_locked_text fresh)) (not costly && not weaker) b.1 in
+    let d = and_parts (not costly) (not weaker) c.1 in
+    let few = a.0 in
+    record {
+      short = grind (arith, nat_tests, few);
+      is_text = b.0;
+      unlocked = not_true (is_locked_text fresh) c.0;
+      affordable = not_true costly d.0;
+      no_weaker = not_true weaker d.1;
+    }
 
-  same_layout : (id : List ℕ) (l : Layout) (o : Option phc_error.Error) → same_text id (codes "scrypt") ≡ true
-      → by_all (value_or_fault (record_of_layout id l) o) ≡ by_scrypt (value_or_fault (record_of_layout id l) o)
-  same_layout id l (Some e) is = refl
-  same_layout id l None is =
-      same_key (record_of_layout id l) (record_of_layout id l).salt (record_of_layout id l).hash is
+-- a text that was made of the password and comes in the place of the old one
+pub record IsMade (r : TableRules) (password salt old : List ℕ) : Type 0 where
+  pub put : IsPut r password old (fresh_text r password salt)
+  pub kept_not : keeps_kind r.upgrade_to (text_kind accepted old) ≡ false
+  pub matches : given_verdict None password (fresh_text r password salt) ≡ Ok true
 
-  same_phc : (id : List ℕ) (pieces : List (List ℕ)) → same_text id (codes "scrypt") ≡ true
-      → by_all (phc id pieces) ≡ by_scrypt (phc id pieces)
-  unfolding phc
-  same_phc id pieces is = same_layout id (layout pieces) (fault_of_layout id (layout pieces)) is
+pub made_parts : (r : TableRules) (password salt old : List ℕ) → salt_fault salt ≡ None → keeps r password salt old ≡ false → IsMade r password salt old
+made_parts r password salt old good leaves =
+    let parts = or_parts (keeps_kind r.upgrade_to (text_kind accepted old)) (keeps_beside r password old (made r.upgrade_to password (bytes_of_salt salt))) leaves in
+    by_made parts.0 (made r.upgrade_to password (bytes_of_salt salt)) refl parts.1
+  where
+    by_made : keeps_kind r.upgrade_to (text_kind accepted old) ≡ false → (m : Result (List ℕ) MakeFault)
+        → made r.upgrade_to password (bytes_of_salt salt) ≡ m → keeps_beside r password old m ≡ false → IsMade r password salt old
+    by_made other (Err e) at h = absurd (false≢true (sym h))
+    by_made other (Ok fresh) at h =
+        let is : fresh_text r password salt ≡ fresh = ap text_made at in
+        record {
+          put = subst (λ (t : List ℕ). IsPut r password old t) (sym is) (put_parts r password old fresh (not_false (is_put r password old fresh) h));
+          kept_not = other;
+          matches = ap (given_verdict None password) is ∙ made_matches r.upgrade_to password (bytes_of_salt salt) fresh (salt_below salt good) at;
+        }
 
-  same_parts : (q : Parts) → q.id ≡ codes "scrypt"
-      → parts_answer accepted tag password (scheme_of q.id) q
-      ≡ parts_answer scrypt.accepted scrypt.key password (scheme_of q.id) q
-  same_parts q is =
-      let named : same_text q.id (codes "scrypt") ≡ true = rw is refl in
-      let none : scheme_of q.id ≡ None = rw is refl in
-      rw none (same_phc q.id q.fields named)
-
-  same_verdict : (text : List ℕ) → IsScryptText text → verdict accepted tag password text ≡ verdict_on password text
-  unfolding verdict
-  same_verdict text is =
-      ap (λ (r : Result Bool StoredError). if nat_lt 4096 (length password) then Err PasswordTooLong else r)
-      (ap (text_answer accepted tag password) is.1.0 ∙ same_parts is.0 is.1.1
-      ∙ ap (text_answer scrypt.accepted scrypt.key password) (sym is.1.0))
-
-record_scheme : (text : List ℕ) → IsScryptText text → text_scheme text ≡ Some Scrypt
-unfolding text_scheme mcf
-record_scheme text is =
-    let found : parts text ≡ is.0 = (value_found (parts text) is.0 (fault text) is.1.0).1 in
-    let named : identifier text ≡ codes "scrypt" = ap (λ (q : Parts). q.id) found ∙ is.1.1 in
-    ap scheme_named named
-
-fresh_matches : (password salt : List ℕ) → length password ≤ 4096 → salt_fault salt ≡ None
-    → given_verdict None password (upgraded_text password salt) ≡ Ok true
-unfolding any_verdict
-fresh_matches password salt short good =
-    let text = upgraded_text password salt in
-    let read = fresh_read password salt good in
-    let fits : nat_lt 4096 (length password) ≡ false = grind (arith, nat_tests, short) in
-    let matches : verdict accepted tag password text ≡ Ok true =
-    same_verdict password text read ∙ stored_lawful.fresh_matches password salt short good in
-    rw (fits, record_scheme text read) (ap of_stored matches)
+fresh_known : (r : TableRules) (password salt old : List ℕ) → fault_of_salt r salt ≡ None → keeps r password salt old ≡ false
+    → IsFresh (any_texts r) password (fresh_text r password salt)
+fresh_known r password salt old good leaves =
+    let m = made_parts r password salt old (salt_taken r salt good) leaves in
+    record {
+      short = m.put.short;
+      taken = ap (λ (t : Bool). unless t Byte) m.put.is_text;
+      unlocked = m.put.unlocked;
+      affordable = m.put.affordable;
+      matches = λ short. m.matches;
+    }
 
 -- ---- verdicts
 
@@ -275,17 +278,16 @@ lack_judged password text h =
 
 -- ---- all of it
 
-pub any_lawful : IsLawful any_texts
-any_lawful = record {
+pub any_lawful : (r : TableRules) → IsLawful (any_texts r)
+any_lawful r = record {
   name_short = λ name is. (name_bytes name is).most;
   name_utf8 = name_utf8;
   name_tabless = name_tabless;
   name_feedless = name_feedless;
   text_utf8 = text_utf8;
   text_feedless = text_feedless;
-  fresh_taken = λ password salt good. ap (λ (t : Bool). unless t Byte) (fresh_field password salt good);
-  fresh_open = λ password salt good. fresh_open password salt;
-  fresh_matches = fresh_matches;
+  salt_taken = salt_taken r;
+  fresh = fresh_known r;
   judged_short = judged_short;
   lack_judged = lack_judged;
   some_users = omega arith;

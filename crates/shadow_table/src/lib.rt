@@ -5,9 +5,13 @@
 mod any_texts;
 mod fault;
 mod fields;
+pub mod laws;
+mod rules;
+mod strength;
 mod words;
 
-pub use any_texts::{AnyKept, AnyTexts};
+pub use any_texts::{AnyKept, AnyTexts, TableRuled};
 pub use fault::FieldFault;
 pub use fields::{is_field, is_locked_text, is_user_name};
+pub use rules::TableRules;
 pub use words::answer_word;

@@ -1,7 +1,7 @@
 use Rattle.std.proofs.Common.{rules, ◌≡◌, ◌^◌}
 use Rattle.std.specs.Prelude.{string_bytes}
 use Rattle.scrypt_plain.specs.Scrypt.{scrypt}
-use Rattle.pw_file.proofs.UpgradedTexts.{fresh_short}
+use Rattle.pw_file.specs.StoredLaws.{fresh_short}
 use Rattle.pw_file.proofs.TableAnswers.{fresh_text}
 use Rattle.pw_file.proofs.upgraded.upgraded_text.Goals as goal
 

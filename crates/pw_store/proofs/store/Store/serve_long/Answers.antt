@@ -16,4 +16,4 @@ returns-clause-served g c = λ line long from asked all so_far.
     (held_by store c.commit.new.group) c.commit.new.out (g.K.Sink.written c.commit.new.sink) (g.K.Sink.faults c.commit.new.sink) all after c.commit.ensures.none
     c.put_word.new.out (g.K.Sink.written c.put_word.new.sink) (g.K.Sink.faults c.put_word.new.sink) line (Says TooLong)
     (λ size same. long_says g.P.Policy.policy (rows_of store) size (takes_changes store) line long)
-    (unchanged (command g.P.Policy.policy line) TooLong refl refl) c.put_word.ensures.puts
+    (unchanged g.P.Policy.policy (command g.P.Policy.policy line) TooLong refl refl) c.put_word.ensures.puts

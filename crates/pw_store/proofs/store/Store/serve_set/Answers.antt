@@ -6,6 +6,7 @@ use Rattle.pw_store.specs.Progress.{count_of, held_by, oks}
 use Rattle.pw_store.specs.Staged.{lines_of}
 use Rattle.pw_store.specs.Stored.{rows_of, size_after, size_of, takes_changes}
 use Rattle.pw_store.proofs.Answering.{set_staged}
+use Rattle.pw_store.proofs.Fates.{refused_as}
 use Rattle.pw_store.proofs.Progressing.{held_as}
 use Rattle.pw_store.proofs.Serving.{asks_is, refusal_served, refuses_as, set_open, set_refused, set_waits}
 use Rattle.pw_store.proofs.store.Store.serve_set.Goals as goal
@@ -23,7 +24,7 @@ returns-in-Ok-clause-served g c = λ line asks from asked all so_far.
     let size : size_of c.stage.new.self + length (lines_of c.stage.new.group) ≡ size_after (size_of store + length (lines_of c.args.group.now)) user text = omega (arith, end, grown) in
     set_waits g.P.Policy.policy g.D.Device.seen g.D.Device.may_leave g.D.Device.moment g.D.Device.left_since g.D.Device.faults from asked held c.args.out.now
     (g.K.Sink.written c.args.sink.now) (g.K.Sink.faults c.args.sink.now) all so_far more.0 line user text (asks_is g.P.Policy.policy line (Some (of.Set user text)) asks.0 asks.1)
-    (set_staged g.P.Policy.policy (rows_of store) (size_of store + length (lines_of c.args.group.now)) line user text asks more.1)
+    (set_staged g.P.Policy.policy (rows_of store) (size_of store + length (lines_of c.args.group.now)) line user text asks (refused_as g.P.Policy.policy line (of.Set user text) asks ∙ c.requires.free) more.1)
     (held_by c.stage.new.self c.stage.new.group) c.stage.ensures.takes c.in-Ok.ensures.rows size
     (ap (λ (log : LineLog _). log.device) c.stage.ensures.log) c.in-Ok.ensures.more
 
@@ -50,6 +51,6 @@ returns-in-Err-clause-served g c = λ line asks from asked all so_far.
     let size_now : size_of c.commit.new.self + length (lines_of c.commit.new.group) ≡ size_of store + length (lines_of c.args.group.now) = omega (arith, none, grown, size) in
     refuses_as g.P.Policy.policy (rows_of store) (rows_of c.commit.new.self) (size_of store + length (lines_of c.args.group.now)) (size_of c.commit.new.self + length (lines_of c.commit.new.group)) line c.in-Err.e
     (c.commit.ensures.rows opened ∙ c.in-Err.ensures.same_rows) size_now
-    (set_refused g.P.Policy.policy (takes_changes store) (rows_of store) (size_of store + length (lines_of c.args.group.now)) line user text asks c.in-Err.e
+    (set_refused g.P.Policy.policy (takes_changes store) (rows_of store) (size_of store + length (lines_of c.args.group.now)) line user text asks (refused_as g.P.Policy.policy line (of.Set user text) asks ∙ c.requires.free) c.in-Err.e
     (sym c.stage.ensures.takes ∙ c.commit.ensures.open opened) c.in-Err.ensures.answer))
     c.refusal_word.result c.refusal_word.ensures.word c.put_refusal.ensures.puts c.put_refusal.ensures.answer

@@ -2,7 +2,6 @@ use Rattle.std.proofs.Common.{◌≡◌, ◌⊎◌, ℕ, ◌+◌, List, length, 
 use Rattle.pw_file.specs.Answers.{upgrade_may_lack}
 use Rattle.pw_file.specs.Calls.{with_text}
 use Rattle.pw_file.specs.History.{text_in}
-use Rattle.pw_file.specs.Upgraded.{upgraded_text}
 use Rattle.pw_store.specs.Progress.{held_by}
 use Rattle.pw_store.specs.Staged.{lines_of}
 use Rattle.pw_store.specs.Store.{StandsFor}
@@ -43,7 +42,7 @@ returns-in-Err-clause-served g c = λ line asks from asked all so_far.
     let none : length (lines_of c.commit.new.group) ≡ 0 = ap length c.commit.ensures.lines in
     let end : size_of store ≡ size_of store + length (lines_of c.commit.new.group) = omega (arith, none) in
     let after = c.commit.ensures.goes_on from asked all so_far in
-    let P : List ℕ → Type 0 = λ f. StandsFor g.P.Policy.policy (rows_of store) f ⊎ StandsFor g.P.Policy.policy (with_text (rows_of store) user (upgraded_text password salt)) f in
+    let P : List ℕ → Type 0 = λ f. StandsFor g.P.Policy.policy (rows_of store) f ⊎ StandsFor g.P.Policy.policy (with_text (rows_of store) user (g.P.Policy.policy.fresh password salt)) f in
     upgrade_refused g.P.Policy.policy g.D.Device.seen g.D.Device.may_leave g.D.Device.moment g.D.Device.left_since g.D.Device.faults from asked
     (held_by store c.commit.new.group) c.commit.new.out (g.K.Sink.written c.commit.new.sink) (g.K.Sink.faults c.commit.new.sink) all after c.commit.ensures.none
     line user salt password asks

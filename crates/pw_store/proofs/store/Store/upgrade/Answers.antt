@@ -7,7 +7,6 @@ use Rattle.pw_file.proofs.TableAnswers.{false_is_not_true, upgrade_matched}
 use Rattle.pw_file.proofs.Cuts.{salt_has_no_tab}
 use Rattle.pw_store.proofs.Changing.{refused_upgrade, upgrade_done}
 use Rattle.pw_store.specs.declared.error.StoreError.TheVariants.{Table}
-use Rattle.pw_file.specs.Upgraded.{upgraded_text}
 use Rattle.pw_store.specs.Store.{StandsFor}
 use Rattle.pw_store.specs.Stored.{after_store_upgrade, rows_of, size_after, size_of}
 use Rattle.pw_store.proofs.Grouped.{rest_left}
@@ -17,7 +16,7 @@ pub returns-in-Ok-None-clause-any_moment : goal.returns-in-Ok-None-clause-any_mo
 returns-in-Ok-None-clause-any_moment g c = λ is_open.
     let log = c.args.self.now.log in
     let rows = rows_of c.args.self.now in
-    let P : List ℕ → Type 0 = λ f. StandsFor g.P.Policy.policy rows f ⊎ StandsFor g.P.Policy.policy (with_text rows c.args.user.now (upgraded_text c.args.password.now c.args.salt.now)) f in
+    let P : List ℕ → Type 0 = λ f. StandsFor g.P.Policy.policy rows f ⊎ StandsFor g.P.Policy.policy (with_text rows c.args.user.now (g.P.Policy.policy.fresh c.args.password.now c.args.salt.now)) f in
     started g.D.Device.moment g.D.Device.left_since log.device P
     (λ f left. inl (rest_left g.P.Policy.policy g.D.Device.seen g.D.Device.may_leave log rows (c.requires.sound.settled is_open) (c.requires.sound.rows is_open) f (g.met.D.Device.only_now log.device f left)))
 
@@ -25,7 +24,7 @@ pub returns-clause-any_moment : goal.returns-clause-any_moment
 returns-clause-any_moment g c = λ is_open.
     let log = c.args.self.now.log in
     let rows = rows_of c.args.self.now in
-    let P : List ℕ → Type 0 = λ f. StandsFor g.P.Policy.policy rows f ⊎ StandsFor g.P.Policy.policy (with_text rows c.args.user.now (upgraded_text c.args.password.now c.args.salt.now)) f in
+    let P : List ℕ → Type 0 = λ f. StandsFor g.P.Policy.policy rows f ⊎ StandsFor g.P.Policy.policy (with_text rows c.args.user.now (g.P.Policy.policy.fresh c.args.password.now c.args.salt.now)) f in
     started g.D.Device.moment g.D.Device.left_since log.device P
     (λ f left. inl (rest_left g.P.Policy.policy g.D.Device.seen g.D.Device.may_leave log rows (c.requires.sound.settled is_open) (c.requires.sound.rows is_open) f (g.met.D.Device.only_now log.device f left)))
 
@@ -40,7 +39,7 @@ returns-in-Ok-clause-content g c = λ h held.
     let parts = upgrade_matched g.P.Policy.policy g.met.P.Policy.lawful (text_in rows user) password salt matched in
     let name = rw c.as_str-name.ensures.text at c.as_str-name.ensures.name in
     upgrade_done g.P.Policy.policy g.met.P.Policy.lawful h rows (rows_of c.set.new.self) user password salt
-    (c.in-Ok.ensures.rows ∙ ap (with_text rows user) (c.deref.ensures ∙ text)) name (salt_has_no_tab salt parts.2) c.utf8.salt c.utf8.password held
+    (c.in-Ok.ensures.rows ∙ ap (with_text rows user) (c.deref.ensures ∙ text)) name (salt_has_no_tab salt (g.met.P.Policy.lawful.salt_taken salt parts.2)) c.utf8.salt c.utf8.password held
 
 pub returns-in-Ok-Some-clause-content : goal.returns-in-Ok-Some-clause-content
 returns-in-Ok-Some-clause-content g c = λ h held.
