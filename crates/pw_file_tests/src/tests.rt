@@ -392,11 +392,17 @@ fn words(rt: HostRuntime) {
     let word = upgrade_word::<McfFault, StoredError>(Err(FileError::Locked));
     check(&rt, word == Word::Locked, "locked");
     check(&rt, !LineReply::Word(Word::DiskFault).is_good(), "a fault");
+    check(&rt, !LineReply::Word(Word::TooCostly).is_good(), "too costly");
+    check(&rt, LineReply::Word(Word::Kept).is_good(), "kept");
+    let word = upgrade_word::<McfFault, StoredError>(Err(FileError::Unmatched));
+    check(&rt, word == Word::Invalid, "no check matches");
     for (word, text) in [
         (Word::Invalid, "invalid"),
         (Word::Locked, "locked"),
         (Word::FileFull, "file-full"),
         (Word::DiskFault, "disk-fault"),
+        (Word::Kept, "kept"),
+        (Word::TooCostly, "too-costly"),
     ] {
         assert!(rt; word.as_str() == text, "{text}");
     }

@@ -1,4 +1,5 @@
-//! A table of at most three users, who can be taken away: else the policy is that of `pwfile`.
+//! A table of at most three users, who can be taken away, with a bound on cost and texts that stay at an upgrade: else the policy is
+//! that of `pwfile`.
 
 use crate::tests::{check, has_row};
 use pw_file::{FileError, LineReply, Policy, StoredTexts, Table, UserName, Word, answer_line};
@@ -6,14 +7,13 @@ use scrypt_plain::ScryptKept;
 use std::alloc::{AllocError, Global};
 use stored_check::{McfFault, StoredError};
 
-// As `StoredTexts`, with at most three users, who can be taken away.
+// As `StoredTexts`, with at most three users, who can be taken away. Checks of SHA-512-crypt are too costly, and texts of SHA-256-crypt
+// stay.
 #[derive(Drop)]
 struct ThreeUsers;
 
 impl Policy for ThreeUsers {
-    ghost use Rattle.std.proofs.Common.{arith, true};
-    ghost use Rattle.pw_file.specs.StoredTexts.{stored_texts};
-    ghost use Rattle.pw_file.specs.StoredLaws.{stored_lawful};
+    ghost use Rattle.pw_file_tests.specs.ThreeUsers.{three_lawful, three_users};
 
     type TextFault = McfFault;
 
@@ -21,7 +21,7 @@ impl Policy for ThreeUsers {
 
     type Kept = ScryptKept;
 
-    ghost policy = { record stored_texts { users_max = 3; takes_remove = true } };
+    ghost policy = { three_users };
 
     fn is_name(name: &str) -> bool {
         StoredTexts::is_name(name)
@@ -52,24 +52,32 @@ impl Policy for ThreeUsers {
         true
     }
 
-    fn scrypt(kept: &ScryptKept) -> &ScryptKept {
-        kept
+    fn is_refused(kept: &ScryptKept, text: &str) -> bool {
+        StoredTexts::is_refused(kept, text)
     }
 
-    ghost lawful = { record {
-      name_short = stored_lawful.name_short;
-      name_utf8 = stored_lawful.name_utf8;
-      name_tabless = stored_lawful.name_tabless;
-      name_feedless = stored_lawful.name_feedless;
-      text_utf8 = stored_lawful.text_utf8;
-      text_feedless = stored_lawful.text_feedless;
-      fresh_taken = stored_lawful.fresh_taken;
-      fresh_open = stored_lawful.fresh_open;
-      fresh_matches = stored_lawful.fresh_matches;
-      judged_short = stored_lawful.judged_short;
-      lack_judged = stored_lawful.lack_judged;
-      some_users = omega arith;
-    } };
+    fn is_too_costly(_kept: &ScryptKept, _password: &str, text: &str) -> bool {
+        text.as_bytes().starts_with(b"$6")
+    }
+
+    fn salt_fault(kept: &ScryptKept, salt: &str) -> Option<phc::Error> {
+        StoredTexts::salt_fault(kept, salt)
+    }
+
+    fn renewed(
+        alloc: Global,
+        kept: &ScryptKept,
+        password: &str,
+        salt: &str,
+        text: &str,
+    ) -> Result<Option<String>, AllocError> {
+        if text.as_bytes().starts_with(b"$5") {
+            return Ok(None);
+        }
+        StoredTexts::renewed(alloc, kept, password, salt, text)
+    }
+
+    ghost lawful = { three_lawful };
 }
 
 // Commands over one table, and their words: the fourth user has no room, and those who have a text still do.
@@ -170,6 +178,40 @@ fn the_last_and_the_only_one_taken_away(rt: HostRuntime) {
     check(&rt, table.len() == 0, "no user is left");
     check(&rt, table.set(&bob, "$1$a$b") == Ok(()), "set again");
     has_row(&rt, &table, 0, "bob", "$1$a$b");
+}
+
+// A text of SHA-256-crypt and one of SHA-512-crypt of `Hello world!`, both of the specification (Drepper); and one of scrypt of Python's
+// hashlib, over OpenSSL.
+const SHA256: &str = "$5$saltstring$5B8vYYiY.CVt1RlTTf8KbXBH3hsxY/GNooZaBBGWEc5";
+const SHA512: &str = "$6$saltstring$svn8UoSVapNtMuq1ukKS4tPQd8iKwSMHWjl/O817G3uBnIFNjnQJuesI68u4OTLiBFdcbYEdFCoEOfaS35inz1";
+const SCRYPT: &str =
+    "$scrypt$ln=14,r=8,p=1$abcdabcdabc$XUd185cY0rXnj/Ge/MUaiTt89Svsd7UcdrI5w2MoCoU";
+
+// What is asked of a user with a text, and the word of the reply.
+const RULED: [(&str, &str, Word); 9] = [
+    (SHA256, "check\tann\tHello world!", Word::Match),
+    (SHA256, "upgrade\tann\tabcdabcdabc\tHello world!", Word::Kept),
+    (SHA256, "upgrade\tann\tabcdabcdabc\tHello world", Word::Mismatch),
+    (SHA256, "upgrade\tann\tabc\tHello world!", Word::BadSalt),
+    (SHA512, "check\tann\tHello world!", Word::TooCostly),
+    (SHA512, "check\tann\tHello world", Word::TooCostly),
+    (SHA512, "upgrade\tann\tabcdabcdabc\tHello world!", Word::TooCostly),
+    (SHA512, "upgrade\tann\tabc\tHello world!", Word::BadSalt),
+    (SCRYPT, "upgrade\tann\tabcdabcdabc\tHello world!", Word::Upgraded),
+];
+
+#[test]
+fn bounds_and_texts_that_stay(rt: HostRuntime) {
+    let Some(ann) = UserName::<ThreeUsers>::new("ann") else {
+        panic!(rt; "it is a name")
+    };
+    for (text, line, word) in RULED {
+        let mut table: Table<ThreeUsers> = Table::new(rt.alloc(), ScryptKept::new(rt.alloc()));
+        assert!(rt; table.set(&ann, text) == Ok(()), "{text}");
+        let reply = answer_line(&mut table, line.as_bytes());
+        assert!(rt; reply == Some(LineReply::Word(word)), "{line:?} of {text}");
+        assert!(rt; table.get(&ann) == Some(text), "{line:?} changes no text");
+    }
 }
 
 #[test]

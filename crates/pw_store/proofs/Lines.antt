@@ -187,6 +187,9 @@ same_want (refused.BadText fault) = refl
 same_want refused.Full = refl
 same_want (refused.BadSalt fault) = refl
 same_want (refused.Check fault) = refl
+same_want refused.TooCostly = refl
+same_want refused.Unmatched = refl
+same_want refused.Kept = refl
 same_want refused.OutOfMemory = refl
 
 -- ---- lines that are no `set`

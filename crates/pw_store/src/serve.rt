@@ -11,9 +11,9 @@ ghost use Rattle.pw_store.specs.Run.{asks_change};
 ghost use Rattle.pw_store.specs.Staged.{lines_of};
 ghost use Rattle.pw_store.specs.Stored.{IsSound, rows_of, size_of, takes_changes};
 
-use crate::{Store, StoreError};
 use crate::group::Group;
 use crate::replies::{put_refusal, put_verdict, put_word, put_words, refusal_word};
+use crate::{Store, StoreError};
 use line_io::{Failed, OutputBuffer, Sink};
 use line_log::Device;
 use pw_file::{Command, FileError, Policy, ROW_LINE_MAX, UserName, Word, answer_line, put_reply};
@@ -96,7 +96,11 @@ impl<D: Device, P: Policy> Store<D, P> {
     {
         self.commit(group, out, sink);
         let refusal = StoreError::Table(FileError::Unmatched);
-        put_refusal(refusal_word::<P::TextFault, P::VerdictFault>(self.is_open, refusal), out, sink)
+        put_refusal(
+            refusal_word::<P::TextFault, P::VerdictFault>(self.is_open, refusal),
+            out,
+            sink,
+        )
     }
 
     /// Answers an `upgrade`.

@@ -1,6 +1,7 @@
 //! The command line.
 
 use clap::{Arg, Command};
+use rule_options::with_rules;
 use std::alloc::{AllocError, Global};
 use store_run::{ACTIONS, HELP, VERSION};
 
@@ -13,7 +14,7 @@ pub fn command<'a>(alloc: Global) -> Result<Command<'a>, AllocError> {
     let users = Arg::new(alloc, "USERS").help(
         "The file of users for 'import'; - or left out: standard input",
     );
-    Command::new(alloc, "pwstore")
+    let command = Command::new(alloc, "pwstore")
         .bin_name("pwstore")?
         .version(VERSION)
         .about(
@@ -22,5 +23,6 @@ pub fn command<'a>(alloc: Global) -> Result<Command<'a>, AllocError> {
         .after_help(HELP)
         .arg(file)?
         .arg(action)?
-        .arg(users)
+        .arg(users);
+    with_rules(alloc, command)
 }

@@ -18,6 +18,7 @@ use crate::status::BAD_WORDS;
 use clap::ArgMatches;
 use clap::error::ErrorKind;
 use line_program::status::{ALL_GOOD, NO_MEMORY, NO_WORDS, WRITE_FAULT};
+use rule_options::rules_of;
 use std::process::ExitCode;
 use std::{env, io};
 use store_run::messages::Speaker;
@@ -62,7 +63,8 @@ fn run_words(rt: &HostRuntime, matches: &ArgMatches<'_>) -> u8 {
         return BAD_WORDS;
     };
     let action = matches.get_str("ACTION");
-    match table_action(rt, PROGRAM, name, action, matches.get_str("USERS")) {
+    let rules = rules_of(matches);
+    match table_action(rt, PROGRAM, name, rules, action, matches.get_str("USERS")) {
         Some(status) => status,
         None => {
             say(

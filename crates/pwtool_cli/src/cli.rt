@@ -6,7 +6,8 @@ use crate::options::{
     with_telling,
 };
 use crate::tables::table;
-use clap::{Arg, Command, value_parser};
+use clap::Command;
+use rule_options::{CostOption, cost, with_costs, with_most};
 use std::alloc::{AllocError, Global};
 use store_run::VERSION;
 
@@ -54,62 +55,6 @@ is a line, whose user is the first uid of the entry, or else its dn. md5-crypt i
 JSON as an escape. Status 0 is for accounts that are ok or locked, 1 for some other;
 pwtool --help has the rest.";
 
-// What an option bounds: its name, its help, its least and its most.
-#[derive(Drop)]
-struct CostOption {
-    name: &'static str,
-    help: &'static str,
-    least: i64,
-    most: i64,
-}
-
-fn cost(name: &'static str, help: &'static str, least: i64, most: i64) -> CostOption {
-    CostOption {
-        name,
-        help,
-        least,
-        most,
-    }
-}
-
-// The bounds on cost. The most of each is what its scheme takes.
-fn costs() -> [CostOption; 12] {
-    [
-        cost(
-            "max-sha-rounds",
-            "SHA-crypt: rounds, 1000 to 999999999",
-            1_000,
-            999_999_999,
-        ),
-        cost("max-bcrypt-cost", "bcrypt: cost, 4 to 31", 4, 31),
-        cost("max-yescrypt-ln", "yescrypt: log2 of N, 2 to 23", 2, 23),
-        cost("max-yescrypt-r", "yescrypt: r, 1 to 524287", 1, 524_287),
-        cost("max-yescrypt-t", "yescrypt: t, 0 to 1024", 0, 1_024),
-        cost(
-            "max-pbkdf2-rounds",
-            "PBKDF2: i, 1 to 10000000",
-            1,
-            10_000_000,
-        ),
-        cost(
-            "max-scrypt-ln",
-            "scrypt: ln, 1 to 24, and log2 of N of $7$",
-            1,
-            24,
-        ),
-        cost("max-scrypt-r", "scrypt: r, 1 to 131072", 1, 131_072),
-        cost("max-scrypt-p", "scrypt: p, 1 to 1024", 1, 1_024),
-        cost(
-            "max-argon2-memory",
-            "Argon2: m in KiB, 8 to 2097152",
-            8,
-            2_097_152,
-        ),
-        cost("max-argon2-passes", "Argon2: t, 1 to 2097152", 1, 2_097_152),
-        cost("max-argon2-lanes", "Argon2: p, 1 to 262144", 1, 262_144),
-    ]
-}
-
 // The least costs that aren't weak.
 fn least_costs() -> [CostOption; 10] {
     [
@@ -142,33 +87,6 @@ fn least(name: &'static str, help: &'static str) -> CostOption {
     cost(name, help, 0, 4_294_967_295)
 }
 
-// The argument of an option.
-fn argument<'a>(alloc: Global, option: &CostOption, heading: &'static str) -> Arg<'a> {
-    Arg::new(alloc, option.name)
-        .long(option.name)
-        .value_name("N")
-        .value_parser(value_parser!(u32).range(option.least..=option.most))
-        .help_heading(heading)
-        .help(option.help)
-}
-
-// A form with options that bound costs, below a heading.
-fn with_costs<'a>(
-    alloc: Global,
-    command: Result<Command<'a>, AllocError>,
-    options: &[CostOption],
-    heading: &'static str,
-) -> Result<Command<'a>, AllocError> {
-    let mut command = command;
-    for option in options {
-        command = plus(command, argument(alloc, option, heading));
-    }
-    command
-}
-
-/// The heading of the bounds on cost.
-const MOST: &str = "The most that a stored text may ask for (left out: what its scheme takes)";
-
 /// The heading of the least costs.
 const LEAST: &str = "The least that isn't weak (left out: the number in brackets)";
 
@@ -196,7 +114,7 @@ fn check<'a>(alloc: Global, help: &'a str) -> Result<Command<'a>, AllocError> {
     let command = plus(Ok(command), file(alloc));
     let users = "Lines begin with a user and a colon; keep the user before the word";
     let command = plus(command, flag(alloc, "users", users));
-    with_costs(
+    with_most(
         alloc,
         with_telling(
             alloc,
@@ -206,8 +124,6 @@ fn check<'a>(alloc: Global, help: &'a str) -> Result<Command<'a>, AllocError> {
                 GOOD_WORDS,
             ),
         ),
-        &costs(),
-        MOST,
     )
 }
 
@@ -225,7 +141,7 @@ fn join<'a>(alloc: Global) -> Result<Command<'a>, AllocError> {
     let command = plus(command, wanted(alloc, "PASSWORDS", passwords));
     let no_text = "Answer the users of PASSWORDS who have no line in TEXTS, and check no password";
     let command = plus(command, flag(alloc, "no-text", no_text));
-    with_costs(
+    with_most(
         alloc,
         with_telling(
             alloc,
@@ -235,8 +151,6 @@ fn join<'a>(alloc: Global) -> Result<Command<'a>, AllocError> {
                 GOOD_USERS,
             ),
         ),
-        &costs(),
-        MOST,
     )
 }
 
@@ -253,7 +167,7 @@ fn survey<'a>(alloc: Global) -> Result<Command<'a>, AllocError> {
     let command = plus(command, flag(alloc, "csv", csv));
     let json = "Write an object of JSON a line, and no counts";
     let command = plus(command, flag(alloc, "json", json));
-    with_costs(
+    with_most(
         alloc,
         with_telling(
             alloc,

@@ -1,6 +1,7 @@
 //! What the forms have in common on the command line.
 
 use clap::{Arg, ArgAction, Command};
+pub use rule_options::plus;
 use std::alloc::{AllocError, Global};
 
 /// The makers of foreign texts by their names, of lines with passwords.
@@ -46,16 +47,6 @@ pub fn form<'a>(
     Command::new(alloc, name)
         .about(about)
         .after_help(after_help)
-}
-
-/// A form with one more word or option.
-///
-/// A chain of these takes less of the prover's time than one of `?`, at each of which all that was made before is given back.
-pub fn plus<'a>(
-    command: Result<Command<'a>, AllocError>,
-    argument: Arg<'a>,
-) -> Result<Command<'a>, AllocError> {
-    command?.arg(argument)
 }
 
 /// The word that names the file.

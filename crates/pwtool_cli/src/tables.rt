@@ -3,6 +3,7 @@
 use clap::{Arg, ArgMatches, Command};
 use pwtool_forms::fault::say;
 use pwtool_forms::status::BAD_WORDS;
+use rule_options::{rules_of, with_rules};
 use std::alloc::{AllocError, Global};
 use store_run::{ACTIONS, HELP, table_action};
 
@@ -18,21 +19,23 @@ pub fn table<'a>(alloc: Global) -> Result<Command<'a>, AllocError> {
     let users = Arg::new(alloc, "USERS").help(
         "The file of users for 'import'; - or left out: standard input",
     );
-    Command::new(alloc, "table")
+    let command = Command::new(alloc, "table")
         .about(
             "Keep users and their stored texts in a file, each change on the disk before its reply",
         )
         .after_help(HELP)
         .arg(file)?
         .arg(action)?
-        .arg(users)
+        .arg(users);
+    with_rules(alloc, command)
 }
 
 /// Does what the words ask for with the table of the file that is named, and gives the status.
 pub fn table_form(rt: &HostRuntime, matches: &ArgMatches<'_>) -> u8 {
     let file = matches.get_str("FILE").unwrap_or("");
     let action = matches.get_str("ACTION");
-    match table_action(rt, PROGRAM, file, action, matches.get_str("USERS")) {
+    let rules = rules_of(matches);
+    match table_action(rt, PROGRAM, file, rules, action, matches.get_str("USERS")) {
         Some(status) => status,
         None => {
             say(

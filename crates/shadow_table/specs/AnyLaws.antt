@@ -10,6 +10,8 @@ use Rattle.std.proofs.lemmas.Str.Ascii.{IsAscii-nil, IsAscii-cons}
 use Rattle.line_io.specs.Lines.{NoFeed, is_feed}
 use Rattle.mcf.specs.Grammar.{mcf}
 use Rattle.phc.specs.Grammar.{salt_fault}
+use Rattle.phc.specs.declared.error.Error.TheVariants.{SaltTooLong, SaltTooShort}
+use Rattle.any_make.specs.Costs.{salt_length}
 use Rattle.phc.proofs.EncodedBytes.{salt_bytes}
 use Rattle.base64ct.specs.Encoding.{EachBelow}
 use Rattle.any_make.specs.Made.{made}
@@ -98,7 +100,7 @@ feedless (b ∷ s) h =
     let other : is_feed b ≡ false = grind (arith, nat_tests, byte) in
     rw other (feedless s parts.1)
 
-text_utf8 : (s : List ℕ) → unless (is_field s) Byte ≡ None → IsUtf8 s
+pub text_utf8 : (s : List ℕ) → unless (is_field s) Byte ≡ None → IsUtf8 s
 text_utf8 s none = IsUtf8-from_ascii s (ascii s (field_if (is_field s) none))
 
 text_feedless : (s : List ℕ) → unless (is_field s) Byte ≡ None → NoFeed s
@@ -107,7 +109,11 @@ text_feedless s none = feedless s (field_if (is_field s) none)
 -- ---- the text that an upgrade makes
 
 salt_taken : (r : TableRules) (salt : List ℕ) → fault_of_salt r salt ≡ None → salt_fault salt ≡ None
-salt_taken r salt none = (first_none (salt_fault salt) _ none).0
+salt_taken r salt none =
+    (first_none (salt_fault salt)
+    (unless (nat_le (salt_length r.upgrade_to) (length (bytes_of_salt salt))) SaltTooShort
+    ∷ unless (nat_le (length (bytes_of_salt salt)) (salt_length r.upgrade_to)) SaltTooLong
+    ∷ []) none).0
 
 -- the bytes of a salt are bytes
 salt_below : (salt : List ℕ) → salt_fault salt ≡ None → EachBelow 256 (bytes_of_salt salt)
@@ -133,17 +139,19 @@ pub put_parts : (r : TableRules) (password old fresh : List ℕ) → is_put r pa
 put_parts r password old fresh h =
     let costly = is_too_costly r.limits password fresh in
     let weaker = is_weaker_kind (text_kind accepted fresh) (text_kind accepted old) in
-    let a = and_parts (nat_le (length fresh) 1024) (is_field fresh && (not (is_locked_text fresh) && (not costly && not weaker))) h in
-    let b = and_parts (is_field fresh) (not (is_locked_text fresh) && (not costly && not weaker)) a.1 in
-    let c = and_parts (not (is_locked_text fresh)) (not costly && not weaker) b.1 in
-    let d = and_parts (not costly) (not weaker) c.1 in
-    let few = a.0 in
+    let short = nat_le (length fresh) 1024 in
+    let unlocked = not (is_locked_text fresh) in
+    let a = and_parts (short && is_field fresh && unlocked && not costly) (not weaker) h in
+    let b = and_parts (short && is_field fresh && unlocked) (not costly) a.0 in
+    let c = and_parts (short && is_field fresh) unlocked b.0 in
+    let d = and_parts short (is_field fresh) c.0 in
+    let few = d.0 in
     record {
       short = grind (arith, nat_tests, few);
-      is_text = b.0;
-      unlocked = not_true (is_locked_text fresh) c.0;
-      affordable = not_true costly d.0;
-      no_weaker = not_true weaker d.1;
+      is_text = d.1;
+      unlocked = not_true (is_locked_text fresh) c.1;
+      affordable = not_true costly b.1;
+      no_weaker = not_true weaker a.1;
     }
 
 -- a text that was made of the password and comes in the place of the old one

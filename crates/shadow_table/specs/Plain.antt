@@ -3,6 +3,6 @@ use Rattle.std.specs.Prelude.{None, false}
 use Rattle.any_make.specs.declared.scheme.MakeCost.TheVariants as cost
 use Rattle.shadow_table.specs.declared.rules.TableRules.{TableRules}
 
--- no bound on cost, no text refused, and upgrades to what is recommended for yescrypt
+-- no bound on cost, no text refused, and upgrades to what is recommended for Argon2id (RFC 9106, section 4, second recommended option)
 abbrev pub plain_rules : TableRules
-plain_rules = record { limits = None; strict = false; upgrade_to = cost.Yescrypt (record { ln = 12; r = 32; t = 0 }) }
+plain_rules = record { limits = None; strict = false; upgrade_to = cost.Argon2id (record { memory = 65536; passes = 3; lanes = 4 }) }

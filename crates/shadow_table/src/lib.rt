@@ -13,5 +13,5 @@ mod words;
 pub use any_texts::{AnyKept, AnyTexts, TableRuled};
 pub use fault::FieldFault;
 pub use fields::{is_field, is_locked_text, is_user_name};
-pub use rules::TableRules;
+pub use rules::{PLAIN_RULES, TableRules};
 pub use words::answer_word;

@@ -10,7 +10,7 @@ ghost use Rattle.shadow_table.specs.Rules.{fault_of_salt, fresh_text, is_put, is
 use crate::fields::{is_field, is_locked_text};
 use crate::strength::{is_weaker_kind, keeps_kind};
 use any_check::{PlainRecords, SchemeCosts, TextKind, text_kind};
-use any_make::{MakeCost, MakeFault, made_text};
+use any_make::{Argon2Cost, MakeCost, MakeFault, made_text};
 use phc::Salt;
 use pieces::text::text_of;
 use pw_file::TEXT_MAX;
@@ -18,7 +18,7 @@ use std::alloc::{AllocError, Global};
 use stored_check::PASSWORD_MAX;
 
 /// The rules of a run over a table: a bound on cost, which texts are set, and what an upgrade makes.
-#[derive(Clone, Copy, Debug, PartialEq, Eq)]
+#[derive(Clone, Copy)]
 pub struct TableRules {
     /// A `check` and an `upgrade` by a text that asks for more are answered `too-costly`, before anything is hashed.
     pub limits: Option<SchemeCosts>,
@@ -28,6 +28,17 @@ pub struct TableRules {
     /// these costs, or asks for more memory or work.
     pub upgrade_to: MakeCost,
 }
+
+/// The rules where nothing else is said: no bound on cost, no text refused, and upgrades to what is recommended for Argon2id.
+pub const PLAIN_RULES: TableRules = TableRules {
+    limits: None,
+    strict: false,
+    upgrade_to: MakeCost::Argon2id(Argon2Cost {
+        memory: 65_536,
+        passes: 3,
+        lanes: 4,
+    }),
+};
 
 // Whether a text asks for more than the bound.
 #[tactic(auto, unfolding(any_check::specs::Cost::is_costly))]

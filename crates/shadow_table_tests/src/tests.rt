@@ -1,15 +1,19 @@
 //! Texts that outside programs made: openssl, glibc's and libxcrypt's crypt, Python's hashlib and the program argon2.
 
 use any_check::AnyError;
+use any_make::MakeCost;
 use line_io::{MemorySink, MemorySource};
 use pw_file::{
     FileError, LineReply, Policy, Table, UserName, Word, answer_line, laws, run_commands,
 };
 use shadow_table::{
-    AnyKept, AnyTexts, FieldFault, answer_word, is_field, is_locked_text, is_user_name,
+    AnyKept, AnyTexts, FieldFault, PLAIN_RULES, TableRuled, TableRules, answer_word, is_field,
+    is_locked_text, is_user_name,
 };
 use std::alloc::Global;
+use std::marker::Brand;
 use std::process::Abort;
+use yescrypt_plain::ScryptParams;
 
 // Texts of the password `secret`, one of each scheme.
 const TEXTS: [&str; 9] = [
@@ -36,9 +40,12 @@ const FAULTS: [(&str, &str); 5] = [
     ),
 ];
 
-// What an upgrade makes of `secret` and the salt `abcdabcdabc`: hashlib.scrypt of Python, over OpenSSL.
+// The salt of 16 bytes `saltsaltsaltsalt`.
+const SALT: &str = "c2FsdHNhbHRzYWx0c2FsdA";
+
+// What an upgrade to scrypt makes of `secret` and that salt: hashlib.scrypt of Python, over OpenSSL.
 const RENEWED: &str =
-    "$scrypt$ln=14,r=8,p=1$abcdabcdabc$IuLs9C/JnzQ5mnGQYNjuRl9uv4WWmwjfOTt1A/g7Uxk";
+    "$scrypt$ln=14,r=8,p=1$c2FsdHNhbHRzYWx0c2FsdA$1RL+Xg0R5UtrsEx1/34MJGhCuDjQdo5E2HyYnASS5FE";
 
 // Names, and texts that are none.
 // The last two: 64 bytes are a name, and U+00A0 is no control character.
@@ -63,9 +70,12 @@ const NO_NAMES: [&str; 7] = [
     "12345678901234567890123456789012345678901234567890123456789012345",
 ];
 
+// The rules where nothing else is said.
+type PlainTexts = AnyTexts<Brand>;
+
 // A table with no users.
-fn no_users(alloc: Global) -> Table<AnyTexts> {
-    Table::new(alloc, AnyKept::new(alloc))
+fn no_users(alloc: Global) -> Table<PlainTexts> {
+    Table::new(alloc, AnyKept::new(alloc, PLAIN_RULES))
 }
 
 // Stops a test at a check that fails, and names the check.
@@ -74,7 +84,7 @@ fn check<R: Abort>(rt: &R, holds: bool, what: &str) {
 }
 
 // The user of this name.
-fn user<R: Abort>(rt: &R, name: &str) -> UserName<AnyTexts> {
+fn user<R: Abort>(rt: &R, name: &str) -> UserName<PlainTexts> {
     match UserName::new(name) {
         Some(user) => user,
         None => panic!(rt; "{name:?} is no name"),
@@ -85,11 +95,11 @@ fn user<R: Abort>(rt: &R, name: &str) -> UserName<AnyTexts> {
 fn names(rt: HostRuntime) {
     for name in NAMES {
         assert!(rt; is_user_name(name), "{name:?}");
-        assert!(rt; AnyTexts::is_name(name), "{name:?}");
+        assert!(rt; PlainTexts::is_name(name), "{name:?}");
     }
     for name in NO_NAMES {
         assert!(rt; !is_user_name(name), "{name:?}");
-        assert!(rt; UserName::<AnyTexts>::new(name).is_none(), "{name:?}");
+        assert!(rt; UserName::<PlainTexts>::new(name).is_none(), "{name:?}");
     }
 }
 
@@ -115,10 +125,10 @@ const FIELDS: [(&str, Option<FieldFault>); 4] = [
 #[test]
 fn fields(rt: HostRuntime) {
     for (text, fault) in FIELDS {
-        assert!(rt; AnyTexts::text_fault(text) == fault, "{text:?}");
+        assert!(rt; PlainTexts::text_fault(text) == fault, "{text:?}");
     }
     check(&rt, !is_locked_text(""), "no text isn't locked");
-    check(&rt, AnyTexts::is_locked("*LK*"), "*LK* is locked");
+    check(&rt, PlainTexts::is_locked("*LK*"), "*LK* is locked");
 }
 
 #[test]
@@ -229,36 +239,63 @@ fn taken_away(rt: HostRuntime) {
         );
     }
     check(&rt, table.len() == 3, "three users are left");
-    check(&rt, AnyTexts::takes_remove(), "users can be taken away");
+    check(&rt, PlainTexts::takes_remove(), "users can be taken away");
 }
+
+// Upgrades to scrypt at N = 2^14.
+struct ToScrypt;
+
+impl TableRuled for ToScrypt {
+    ghost use Rattle.std.specs.Prelude.{None, false};
+    ghost use Rattle.any_make.specs.declared.scheme.MakeCost.TheVariants.{Scrypt};
+
+    ghost rules = { record { limits = None; strict = false; upgrade_to = Scrypt (record { ln = 14; r = 8; p = 1 }) } };
+}
+
+const TO_SCRYPT: TableRules = TableRules {
+    limits: None,
+    strict: false,
+    upgrade_to: MakeCost::Scrypt(ScryptParams { ln: 14, r: 8, p: 1 }),
+};
 
 #[test]
 fn upgraded(rt: HostRuntime) {
-    let mut table = no_users(rt.alloc());
-    let user = user(&rt, "Joe");
+    let kept = AnyKept::<ToScrypt>::new(rt.alloc(), TO_SCRYPT);
+    let mut table = Table::<AnyTexts<ToScrypt>>::new(rt.alloc(), kept);
+    let Some(user) = UserName::new("Joe") else {
+        panic!(rt; "it is a name")
+    };
     check(&rt, table.set(&user, TEXTS[3]) == Ok(()), "the first text");
-    let answer = table.upgrade(&user, "Secret", "abcdabcdabc");
+    let answer = table.upgrade(&user, "Secret", SALT);
     check(&rt, answer == Ok(false), "another password");
     check(&rt, table.get(&user) == Some(TEXTS[3]), "the text is kept");
-    let answer = table.upgrade(&user, "secret", "abc");
-    let short = FileError::BadSalt(phc::Error::SaltTooShort);
-    check(&rt, answer == Err(short), "a short salt");
-    let answer = table.upgrade(&user, "secret", "abcdabcdabc");
+    for (salt, fault) in [
+        ("abc", phc::Error::SaltTooShort),
+        ("abcdabcdabc", phc::Error::SaltTooShort),
+        ("c2FsdHNhbHRzYWx0c2FsdHM", phc::Error::SaltTooLong),
+    ] {
+        let answer = table.upgrade(&user, "secret", salt);
+        assert!(rt; answer == Err(FileError::BadSalt(fault)), "{salt}");
+    }
+    let answer = table.upgrade(&user, "secret", SALT);
     check(&rt, answer == Ok(true), "the password");
     check(&rt, table.get(&user) == Some(RENEWED), "the new text");
     check(
         &rt,
         table.check(&user, "secret") == Ok(true),
-        "a match behind the upgrade",
+        "a match after the upgrade",
     );
     let answer = table.check(&user, "Secret");
-    check(&rt, answer == Ok(false), "a mismatch behind the upgrade");
+    check(&rt, answer == Ok(false), "a mismatch after the upgrade");
+    let answer = table.upgrade(&user, "secret", SALT);
+    check(&rt, answer == Err(FileError::Kept), "the new text stays");
+    check(&rt, table.get(&user) == Some(RENEWED), "as it was");
 }
 
 // More users than `pwfile` takes.
 #[test]
 fn many_users(rt: HostRuntime) {
-    check(&rt, AnyTexts::users_max() == 1_000_000, "the most users");
+    check(&rt, PlainTexts::users_max() == 1_000_000, "the most users");
     let mut table = no_users(rt.alloc());
     for i in 0..4_098 {
         let Ok(name) = format!(in rt.alloc(); "u{i}") else {
@@ -284,8 +321,8 @@ fn command_file(rt: HostRuntime) {
     let mut room = [0; 128];
     let mut source = MemorySource::new(input.as_slice(), 7, &[]);
     let mut sink = MemorySink::new(&mut room, 5, &[]);
-    let kept = AnyKept::new(rt.alloc());
-    let got = run_commands::<AnyTexts, MemorySource<'_>, MemorySink<'_>>(
+    let kept = AnyKept::new(rt.alloc(), PLAIN_RULES);
+    let got = run_commands::<PlainTexts, MemorySource<'_>, MemorySink<'_>>(
         rt.alloc(),
         kept,
         &mut source,
@@ -298,7 +335,7 @@ fn command_file(rt: HostRuntime) {
 
 #[test]
 fn laws_are_calls(_rt: HostRuntime) {
-    laws::own_pairs::<AnyTexts>();
-    laws::upgraded_matches::<AnyTexts>();
-    laws::listed_again::<AnyTexts>();
+    laws::own_pairs::<PlainTexts>();
+    laws::upgraded_matches::<PlainTexts>();
+    laws::listed_again::<PlainTexts>();
 }

@@ -5,40 +5,48 @@ ghost use Rattle.store_run.specs.Statuses.{IsTableStatus};
 
 use crate::imported::import_file;
 use crate::opened::{compact_file, export_file, serve_file};
+use shadow_table::TableRules;
 
 /// What a help says of the word after the file.
 pub const ACTIONS: &str =
     "'compact' writes the file anew, 'export' writes USER:TEXT for each user, 'import' sets the users of such lines; left out: commands are read from standard input";
 
 // Does what a word without a file of users asks for.
-fn plain_action(rt: &HostRuntime, program: &str, file: &str, action: Option<&str>) -> Option<u8>
+fn plain_action(
+    rt: &HostRuntime,
+    program: &str,
+    file: &str,
+    rules: TableRules,
+    action: Option<&str>,
+) -> Option<u8>
     ensures statuses { IfSome result (λ status. IsTableStatus status) }
 {
     match action {
-        None => Some(serve_file(rt, program, file)),
+        None => Some(serve_file(rt, program, file, rules)),
         Some("compact") => Some(compact_file(rt, program, file)),
         Some("export") => Some(export_file(rt, program, file)),
-        Some("import") => Some(import_file(rt, program, file, "-")),
+        Some("import") => Some(import_file(rt, program, file, "-", rules)),
         Some(_) => None,
     }
 }
 
-/// Does what the words after the file of a table ask for, with a file of users where one is named, and gives the status; none where
+/// Does what the words after the file of a table ask for by these rules, with a file of users where one is named, and gives the status; none where
 /// they ask for nothing that there is.
 pub fn table_action(
     rt: &HostRuntime,
     program: &str,
     file: &str,
+    rules: TableRules,
     action: Option<&str>,
     users: Option<&str>,
 ) -> Option<u8>
     ensures statuses { IfSome result (λ status. IsTableStatus status) }
 {
     let Some(users) = users else {
-        return plain_action(rt, program, file, action);
+        return plain_action(rt, program, file, rules, action);
     };
     match action {
-        Some("import") => Some(import_file(rt, program, file, users)),
+        Some("import") => Some(import_file(rt, program, file, users, rules)),
         _ => None,
     }
 }

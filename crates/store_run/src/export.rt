@@ -13,10 +13,10 @@ use line_log::Device;
 use line_program::status::{ALL_GOOD, WRITE_FAULT};
 use pw_file::UserName;
 use pw_store::Store;
-use shadow_table::AnyTexts;
+use shadow_table::{AnyTexts, TableRuled};
 
 // Puts the line of a user.
-fn put_line<K: Sink>(user: &UserName<AnyTexts>, text: &str, out: &mut OutputBuffer, sink: &mut K)
+fn put_line<T: TableRuled, K: Sink>(user: &UserName<AnyTexts<T>>, text: &str, out: &mut OutputBuffer, sink: &mut K)
     ensures puts { Puts (K.written sink.old) (K.written sink.new) (K.faults sink.old) (K.faults sink.new) out.old out.new
         (export_line (user.now, text.now)) }
 {
@@ -26,8 +26,8 @@ fn put_line<K: Sink>(user: &UserName<AnyTexts>, text: &str, out: &mut OutputBuff
 }
 
 // Puts the line of the user at a place, where there is one.
-fn put_row<D: Device, K: Sink>(
-    store: &Store<D, AnyTexts>,
+fn put_row<T: TableRuled, D: Device, K: Sink>(
+    store: &Store<D, AnyTexts<T>>,
     i: usize,
     out: &mut OutputBuffer,
     sink: &mut K,
@@ -42,7 +42,7 @@ fn put_row<D: Device, K: Sink>(
 }
 
 // Puts the line of each user.
-fn put_lines<D: Device, K: Sink>(store: &Store<D, AnyTexts>, out: &mut OutputBuffer, sink: &mut K)
+fn put_lines<T: TableRuled, D: Device, K: Sink>(store: &Store<D, AnyTexts<T>>, out: &mut OutputBuffer, sink: &mut K)
     ensures puts { Puts (K.written sink.old) (K.written sink.new) (K.faults sink.old) (K.faults sink.new) out.old out.new
         (export_text (rows_of store.now)) }
 {
@@ -53,7 +53,7 @@ fn put_lines<D: Device, K: Sink>(store: &Store<D, AnyTexts>, out: &mut OutputBuf
 
 /// Writes each user with its text, as a line of a shadow or htpasswd file, in the order of `list`, and gives the status: 0; or 4
 /// where a write failed, and the beginning of the lines was written.
-pub fn export_users<D: Device, K: Sink>(store: &Store<D, AnyTexts>, sink: &mut K) -> u8
+pub fn export_users<T: TableRuled, D: Device, K: Sink>(store: &Store<D, AnyTexts<T>>, sink: &mut K) -> u8
     ensures statuses { (result ≡ 0) ⊎ (result ≡ 4) }
     ensures all { result ≡ 0 → Appends (K.written sink.old) (K.written sink.new) (export_text (rows_of store.now)) }
     ensures beginning { AppendsPrefix (K.written sink.old) (K.written sink.new) (export_text (rows_of store.now)) }

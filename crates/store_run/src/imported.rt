@@ -14,10 +14,11 @@ use crate::table::import_users;
 use file_device::FileDevice;
 use line_io::{StdSink, StdSource};
 use pw_store::Store;
-use shadow_table::AnyTexts;
+use shadow_table::{AnyTexts, TableRuled, TableRules};
 use std::fs::File;
 use std::io;
 use std::io::Read;
+use std::marker::Brand;
 
 // Opens a file of users, or says why it isn't opened.
 fn opened_users(rt: &HostRuntime, speaker: &Speaker<'_>, users: &str) -> Result<File, u8>
@@ -40,15 +41,15 @@ fn opened_users(rt: &HostRuntime, speaker: &Speaker<'_>, users: &str) -> Result<
 }
 
 // Sets the users of the lines that a reader gives, in a store.
-fn import_store<'a, R: Read + Drop>(
+fn import_store<'a, T: TableRuled, R: Read + Drop>(
     rt: &'a HostRuntime,
     speaker: &Speaker<'_>,
-    store: Store<FileDevice<'a>, AnyTexts>,
+    store: Store<FileDevice<'a>, AnyTexts<T>>,
     name: &str,
     reader: R,
 ) -> u8
     requires open { takes_changes store ≡ true }
-    requires sound { IsSound any_texts (λ d. seen d.record.calls) (λ d c. MayLeave d.record.calls c) store }
+    requires sound { IsSound (any_texts T.rules) (λ d. seen d.record.calls) (λ d c. MayLeave d.record.calls c) store }
     ensures statuses { (result ≤ 7) × (result ≢ 2) }
 {
     let mut store = store;
@@ -73,10 +74,17 @@ fn import_store<'a, R: Read + Drop>(
 }
 
 // Sets the users of the lines that a reader gives, in the table of a file.
-fn import_from<R: Read + Drop>(rt: &HostRuntime, speaker: &Speaker<'_>, name: &str, reader: R) -> u8
+fn import_from<T: TableRuled, R: Read + Drop>(
+    rt: &HostRuntime,
+    speaker: &Speaker<'_>,
+    rules: TableRules,
+    name: &str,
+    reader: R,
+) -> u8
+    requires rules { rules ≡ T.rules }
     ensures statuses { IsTableStatus result }
 {
-    match store_at(rt, speaker, true) {
+    match store_at::<T>(rt, speaker, rules, true) {
         Ok(store) => import_store(rt, speaker, store, name, reader),
         Err(status) => status,
     }
@@ -85,15 +93,21 @@ fn import_from<R: Read + Drop>(rt: &HostRuntime, speaker: &Speaker<'_>, name: &s
 /// Sets the text of each line of a shadow or htpasswd file for the line's user, in the table of a file that is made where it isn't there,
 /// and gives the status: that of [`import_users`], as for [`serve_file`](crate::serve_file); and 66
 /// where the file of users isn't opened. `-` is standard input. What is said on standard error begins with the name of the program.
-pub fn import_file(rt: &HostRuntime, program: &str, file: &str, users: &str) -> u8
+pub fn import_file(
+    rt: &HostRuntime,
+    program: &str,
+    file: &str,
+    users: &str,
+    rules: TableRules,
+) -> u8
     ensures statuses { IsTableStatus result }
 {
     let speaker = Speaker { program, file };
     if users == "-" {
-        return import_from(rt, &speaker, STANDARD_INPUT, rt.reader());
+        return import_from::<Brand, _>(rt, &speaker, rules, STANDARD_INPUT, rt.reader());
     }
     match opened_users(rt, &speaker, users) {
-        Ok(reader) => import_from(rt, &speaker, users, reader),
+        Ok(reader) => import_from::<Brand, _>(rt, &speaker, rules, users, reader),
         Err(status) => status,
     }
 }

@@ -16,8 +16,9 @@ use line_io::{StdSink, StdSource};
 use line_log::OpenError;
 use line_program::status::{ALL_GOOD, NO_MEMORY, OVER_MAX, READ_FAULT, WRITE_FAULT};
 use pw_store::{DISK_FAULT, Store};
-use shadow_table::AnyTexts;
+use shadow_table::{AnyTexts, PLAIN_RULES, TableRuled, TableRules};
 use std::io;
+use std::marker::Brand;
 
 /// What standard input is called in messages.
 pub(crate) const STANDARD_INPUT: &str = "standard input";
@@ -60,18 +61,20 @@ fn untaken(cause: Option<DeviceFault>, error: OpenError) -> u8
 }
 
 // The store of an opened file, or the status.
-fn store_in<'a>(
+fn store_in<'a, T: TableRuled>(
     rt: &'a HostRuntime,
     speaker: &Speaker<'_>,
+    rules: TableRules,
     opened: Opened<'a>,
-) -> Result<Store<FileDevice<'a>, AnyTexts>, u8>
+) -> Result<Store<FileDevice<'a>, AnyTexts<T>>, u8>
+    requires rules { rules ≡ T.rules }
     requires bytes { opened.bytes.items ≡ seen opened.device.record.calls }
     ensures takes { IfOk result (λ store. takes_changes store ≡ true) }
-    ensures sound { IfOk result (λ store. IsSound any_texts (λ d. seen d.record.calls) (λ d c. MayLeave d.record.calls c) store) }
+    ensures sound { IfOk result (λ store. IsSound (any_texts T.rules) (λ d. seen d.record.calls) (λ d c. MayLeave d.record.calls c) store) }
     ensures untaken { IfErr result (λ status. IsTableStatus status) }
 {
     let is_there = opened.is_there;
-    match store_of(rt.alloc(), opened.device, opened.bytes, is_there) {
+    match store_of(rt.alloc(), rules, opened.device, opened.bytes, is_there) {
         Ok(store) => Ok(store),
         Err(Untaken { device, error }) => {
             speaker.say_untaken(rt, is_there, error, Failure::of(&device));
@@ -103,13 +106,13 @@ pub fn tell(
 }
 
 // Answers the commands of standard input over a store.
-fn serve_store<'a>(
+fn serve_store<'a, T: TableRuled>(
     rt: &'a HostRuntime,
     speaker: &Speaker<'_>,
-    store: Store<FileDevice<'a>, AnyTexts>,
+    store: Store<FileDevice<'a>, AnyTexts<T>>,
 ) -> u8
     requires open { takes_changes store ≡ true }
-    requires sound { IsSound any_texts (λ d. seen d.record.calls) (λ d c. MayLeave d.record.calls c) store }
+    requires sound { IsSound (any_texts T.rules) (λ d. seen d.record.calls) (λ d c. MayLeave d.record.calls c) store }
     ensures statuses { (result ≤ 7) × (result ≢ 2) }
 {
     let mut store = store;
@@ -135,13 +138,15 @@ fn serve_store<'a>(
 }
 
 /// The store of a file that is opened, or the status. Where the file isn't there it is made, or that is said.
-pub(crate) fn store_at<'a>(
+pub(crate) fn store_at<'a, T: TableRuled>(
     rt: &'a HostRuntime,
     speaker: &Speaker<'_>,
+    rules: TableRules,
     is_made: bool,
-) -> Result<Store<FileDevice<'a>, AnyTexts>, u8>
+) -> Result<Store<FileDevice<'a>, AnyTexts<T>>, u8>
+    requires rules { rules ≡ T.rules }
     ensures takes { IfOk result (λ store. takes_changes store ≡ true) }
-    ensures sound { IfOk result (λ store. IsSound any_texts (λ d. seen d.record.calls) (λ d c. MayLeave d.record.calls c) store) }
+    ensures sound { IfOk result (λ store. IsSound (any_texts T.rules) (λ d. seen d.record.calls) (λ d c. MayLeave d.record.calls c) store) }
     ensures unopened { IfErr result (λ status. IsTableStatus status) }
 {
     match open(rt, speaker.file) {
@@ -151,7 +156,7 @@ pub(crate) fn store_at<'a>(
                 return Err(NO_FILE);
             }
             speaker.say_shared(rt, opened.is_shared);
-            store_in(rt, speaker, opened)
+            store_in(rt, speaker, rules, opened)
         }
         Err(fault) => {
             speaker.say_unopened(rt, fault);
@@ -160,27 +165,35 @@ pub(crate) fn store_at<'a>(
     }
 }
 
-/// Answers the commands of standard input over the table of a file, which is made where it isn't there, and gives the
-/// status: that of [`serve`]; or 65, 66, 73 or 75, and 5 or 7, where the file isn't opened, made or taken. What is said on
-/// standard error begins with the name of the program.
-pub fn serve_file(rt: &HostRuntime, program: &str, file: &str) -> u8
+// `serve_file` by rules that the type has.
+fn serve_at<T: TableRuled>(rt: &HostRuntime, speaker: &Speaker<'_>, rules: TableRules) -> u8
+    requires rules { rules ≡ T.rules }
     ensures statuses { IsTableStatus result }
 {
-    let speaker = Speaker { program, file };
-    match store_at(rt, &speaker, true) {
-        Ok(store) => serve_store(rt, &speaker, store),
+    match store_at::<T>(rt, speaker, rules, true) {
+        Ok(store) => serve_store(rt, speaker, store),
         Err(status) => status,
     }
 }
 
+/// Answers the commands of standard input by these rules over the table of a file, which is made where it isn't there, and gives the
+/// status: that of [`serve`]; or 65, 66, 73 or 75, and 5 or 7, where the file isn't opened, made or taken. What is said on
+/// standard error begins with the name of the program.
+pub fn serve_file(rt: &HostRuntime, program: &str, file: &str, rules: TableRules) -> u8
+    ensures statuses { IsTableStatus result }
+{
+    let speaker = Speaker { program, file };
+    serve_at::<Brand>(rt, &speaker, rules)
+}
+
 // Writes the file of a store anew.
-fn compact_store<'a>(
+fn compact_store<'a, T: TableRuled>(
     rt: &'a HostRuntime,
     speaker: &Speaker<'_>,
-    store: Store<FileDevice<'a>, AnyTexts>,
+    store: Store<FileDevice<'a>, AnyTexts<T>>,
 ) -> u8
     requires open { takes_changes store ≡ true }
-    requires sound { IsSound any_texts (λ d. seen d.record.calls) (λ d c. MayLeave d.record.calls c) store }
+    requires sound { IsSound (any_texts T.rules) (λ d. seen d.record.calls) (λ d c. MayLeave d.record.calls c) store }
     ensures statuses { IsTableStatus result }
 {
     let mut store = store;
@@ -210,17 +223,17 @@ pub fn compact_file(rt: &HostRuntime, program: &str, file: &str) -> u8
     ensures statuses { IsTableStatus result }
 {
     let speaker = Speaker { program, file };
-    match store_at(rt, &speaker, false) {
+    match store_at::<Brand>(rt, &speaker, PLAIN_RULES, false) {
         Ok(store) => compact_store(rt, &speaker, store),
         Err(status) => status,
     }
 }
 
 // Writes the users of a store to standard output.
-fn export_store<'a>(
+fn export_store<'a, T: TableRuled>(
     rt: &'a HostRuntime,
     speaker: &Speaker<'_>,
-    store: &Store<FileDevice<'a>, AnyTexts>,
+    store: &Store<FileDevice<'a>, AnyTexts<T>>,
 ) -> u8
     ensures statuses { (result ≡ 0) ⊎ (result ≡ 4) }
 {
@@ -239,7 +252,7 @@ pub fn export_file(rt: &HostRuntime, program: &str, file: &str) -> u8
     ensures statuses { IsTableStatus result }
 {
     let speaker = Speaker { program, file };
-    match store_at(rt, &speaker, false) {
+    match store_at::<Brand>(rt, &speaker, PLAIN_RULES, false) {
         Ok(store) => export_store(rt, &speaker, &store),
         Err(status) => status,
     }

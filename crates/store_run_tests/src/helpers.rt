@@ -2,13 +2,15 @@
 
 ghost use Rattle.std.specs.Prelude.{◌≡◌, true, IfSome};
 ghost use Rattle.shadow_table.specs.AnyTexts.{any_texts};
+ghost use Rattle.shadow_table.specs.Plain.{plain_rules};
 ghost use Rattle.line_log.specs.MemoryBytes.{device_bytes};
 ghost use Rattle.pw_store.specs.Stored.{IsSound, takes_changes};
 
 use line_log::{Device, MemoryDevice};
 use pw_store::Store;
-use shadow_table::AnyTexts;
+use shadow_table::{AnyTexts, PLAIN_RULES, TableRuled, TableRules};
 use std::alloc::Global;
+use std::marker::Brand;
 use store_run::store_of;
 
 pub const EMPTY: &[u8] = b"#pwstore 1\n#";
@@ -37,13 +39,31 @@ pub fn memory(alloc: Global, file: &[u8], failing: u64) -> Option<(MemoryDevice,
     Some((device, bytes))
 }
 
-/// The store of a file that is there.
-pub fn opened(alloc: Global, file: &[u8], failing: u64) -> Option<Store<MemoryDevice, AnyTexts>>
+/// The store of a file that is there, by these rules.
+pub fn opened_by<T: TableRuled>(
+    alloc: Global,
+    rules: TableRules,
+    file: &[u8],
+    failing: u64,
+) -> Option<Store<MemoryDevice, AnyTexts<T>>>
+    requires rules { rules ≡ T.rules }
     ensures takes { IfSome result (λ store. takes_changes store ≡ true) }
-    ensures sound { IfSome result (λ store. IsSound any_texts ⟦<MemoryDevice as Device>⟧.seen ⟦<MemoryDevice as Device>⟧.may_leave store) }
+    ensures sound { IfSome result (λ store. IsSound (any_texts T.rules) ⟦<MemoryDevice as Device>⟧.seen ⟦<MemoryDevice as Device>⟧.may_leave store) }
 {
     let (device, bytes) = memory(alloc, file, failing)?;
-    store_of(alloc, device, bytes, true).ok()
+    store_of(alloc, rules, device, bytes, true).ok()
+}
+
+/// The same by the rules where nothing else is said.
+pub fn opened(
+    alloc: Global,
+    file: &[u8],
+    failing: u64,
+) -> Option<Store<MemoryDevice, AnyTexts<Brand>>>
+    ensures takes { IfSome result (λ store. takes_changes store ≡ true) }
+    ensures sound { IfSome result (λ store. IsSound (any_texts plain_rules) ⟦<MemoryDevice as Device>⟧.seen ⟦<MemoryDevice as Device>⟧.may_leave store) }
+{
+    opened_by::<Brand>(alloc, PLAIN_RULES, file, failing)
 }
 
 // Whether recovery makes a file into one of these.

@@ -8,6 +8,8 @@ mod files;
 #[cfg(test)]
 mod helpers;
 #[cfg(test)]
+mod rules;
+#[cfg(test)]
 mod runs;
 #[cfg(test)]
 mod said;

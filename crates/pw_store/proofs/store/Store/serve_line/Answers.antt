@@ -1,4 +1,4 @@
-use Rattle.std.proofs.Common.{sym, None, Some}
+use Rattle.std.proofs.Common.{◌∙◌, sym, None, Some}
 use Rattle.pw_file.specs.Commands as of
 use Rattle.pw_file.proofs.Listed.{command_named}
 use Rattle.pw_store.proofs.Serving.{asks_is}
@@ -21,3 +21,9 @@ pub serve_remove-requires-clause-takes : goal.serve_remove-requires-clause-takes
 serve_remove-requires-clause-takes g c =
     let is = sym (rw c.in-Some-Remove.field-0-is at c.in-Some-Remove.ensures.command) in
     (rw is at (command_named g.P.Policy.policy g.met.P.Policy.lawful c.args.line.now)).1
+
+-- a text that no run sets
+pub returns-then-refuses-clause-served : goal.returns-then-refuses-clause-served
+returns-then-refuses-clause-served g c =
+    c.serve_refused.ensures.served c.args.line.now c.in-Some-Set.user c.in-Some-Set.text.now
+    (c.requires.short, sym (rw c.in-Some-Set.field-0-is at c.in-Some-Set.ensures.command)) (sym c.refuses.ensures.refuses ∙ c.if-refuses.true)
