@@ -1,6 +1,6 @@
 -- What an upgrade that says `upgraded` leaves.
-use Rattle.std.proofs.Common.{◌≡◌, ◌⊎◌, inl, inr, ℕ, zero, suc, ◌≤◌, Bool, true, false, cond, List, length, refl, sym, ap, ◌∙◌, arith, subst}
-use Rattle.std.specs.Prelude.{◌&&◌, ◌||◌, IfOk, is_ok, is_some, nat_le, nat_lt, not, Option, Some, None, Result, Ok, Err, if◌then◌else◌}
+use Rattle.std.proofs.Common.{◌≡◌, ◌⊎◌, inl, inr, ℕ, zero, suc, ◌≤◌, Bool, true, false, List, length, refl, sym, ap, arith, subst}
+use Rattle.std.specs.Prelude.{◌||◌, IfOk, is_ok, is_some, nat_le, nat_lt, not, Option, Some, None, Result, Ok, Err, if◌then◌else◌}
 use Rattle.std.proofs.lemmas.Bool.{and_parts, or_parts, false≢true}
 use Rattle.std.proofs.lemmas.Bool.Decides.{nat_tests}
 use Rattle.phc.specs.declared.error.Error as phc_error
@@ -11,12 +11,9 @@ use Rattle.any_check.specs.Cost.{is_costly, verdict_within}
 use Rattle.any_check.specs.Given.{given_verdict}
 use Rattle.any_check.specs.Kinds.{is_valid, text_kind}
 use Rattle.any_check.specs.Records.{accepted, tag}
-use Rattle.any_check.specs.Table.{any_verdict}
 use Rattle.any_check.specs.declared.error.AnyError.{AnyError}
-use Rattle.any_check.specs.declared.error.AnyError.TheVariants.{TooCostly as CostlyCause}
 use Rattle.any_check.specs.declared.kinds.TextKind.{TextKind}
 use Rattle.any_check.specs.declared.kinds.TextKind.TheVariants.{NoScheme, Invalid, Valid}
-use Rattle.any_check.specs.declared.numbers.SchemeCosts.{SchemeCosts}
 use Rattle.any_check.specs.declared.numbers.TextCosts.{TextCosts}
 use Rattle.any_check.specs.Laws.{ValidIsVerdictOnSome}
 use Rattle.pw_file.specs.Answers.{checked, judged, renewal, upgrade_answer, with_salt}
@@ -26,9 +23,9 @@ use Rattle.shadow_table.specs.AnyLaws.{any_lawful, made_parts, put_parts, text_u
 use Rattle.shadow_table.specs.AnyTexts.{any_texts}
 use Rattle.shadow_table.specs.Fields.{is_locked_text}
 use Rattle.shadow_table.specs.Plain.{plain_rules}
-use Rattle.shadow_table.specs.Laws.{CostlyByVerdict, IsNoWeaker, IsUpgrade, NeverWeakens}
+use Rattle.shadow_table.specs.Laws.{CostlyByVerdict, IsNoWeaker, NeverWeakens}
 use Rattle.shadow_table.specs.Rules.{bytes_of_salt, fault_of_salt, fresh_text, is_put, is_too_costly, keeps}
-use Rattle.shadow_table.specs.Strength.{costs_memory, costs_work, has_less, is_fewer, is_weaker, is_weaker_kind, keeps_kind}
+use Rattle.shadow_table.specs.Strength.{costs_memory, costs_work, has_less, is_fewer, is_weaker, keeps_kind}
 use Rattle.shadow_table.specs.declared.fault.FieldFault.{FieldFault}
 use Rattle.shadow_table.specs.declared.fault.FieldFault.TheVariants.{Byte}
 use Rattle.shadow_table.specs.declared.rules.TableRules.{TableRules}

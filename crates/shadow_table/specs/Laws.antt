@@ -1,5 +1,5 @@
 -- Laws over the rules.
-use Rattle.std.specs.Prelude.{◌≡◌, ◌≤◌, ◌⊎◌, ℕ, false, List, None, Option, Ok, Err}
+use Rattle.std.specs.Prelude.{◌≡◌, ◌≤◌, ◌⊎◌, ℕ, List, None, Option, Ok, Err}
 use Rattle.any_check.specs.Given.{given_verdict}
 use Rattle.any_check.specs.Kinds.{text_kind}
 use Rattle.any_check.specs.Records.{accepted}
@@ -9,7 +9,6 @@ use Rattle.any_check.specs.declared.numbers.SchemeCosts.{SchemeCosts}
 use Rattle.any_check.specs.declared.numbers.TextCosts.{TextCosts}
 use Rattle.pw_file.specs.Answers.{check_answer, upgrade_answer}
 use Rattle.std.specs.Prelude.{Some, true}
-use Rattle.phc_kdf.specs.Limits.{password_max}
 use Rattle.shadow_table.specs.AnyTexts.{any_texts}
 use Rattle.shadow_table.specs.Rules.{is_too_costly}
 use Rattle.shadow_table.specs.Strength.{costs_memory, costs_work}

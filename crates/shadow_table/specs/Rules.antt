@@ -1,5 +1,5 @@
 -- The rules of a run over a table: a bound on cost, texts that a password can match, and upgrades that never weaken a text.
-use Rattle.std.specs.Prelude.{ℕ, ◌==◌, ◌&&◌, ◌||◌, Bool, true, false, List, [], ◌∷◌, length, nat_le, not, unwrap_or, Option, Some, None, Result, Ok, Err}
+use Rattle.std.specs.Prelude.{ℕ, ◌&&◌, ◌||◌, Bool, true, false, List, [], ◌∷◌, length, nat_le, not, unwrap_or, Option, Some, None, Result, Ok, Err}
 use Rattle.phc.specs.Encoded.{decoding}
 use Rattle.phc.specs.Grammar.{salt_fault}
 use Rattle.phc.specs.declared.error.Error as phc_error

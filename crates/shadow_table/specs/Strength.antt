@@ -1,12 +1,10 @@
 -- What a text asks for, in the measure of a survey: its memory and its work, or its rounds or its cost. And which texts an upgrade
 -- leaves as they are.
-use Rattle.std.specs.Prelude.{ℕ, true, ◌==◌, ◌&&◌, ◌||◌, Bool, false, List, nat_lt, not}
+use Rattle.std.specs.Prelude.{ℕ, true, ◌==◌, ◌&&◌, ◌||◌, Bool, false, nat_lt, not}
 use Rattle.scheme_list.specs.Schemes.{place, row_of}
 use Rattle.scheme_list.specs.declared.schemes.CostFamily.{CostFamily}
 use Rattle.scheme_list.specs.declared.schemes.CostFamily.TheVariants as family
-use Rattle.any_check.specs.Kinds.{text_kind}
 use Rattle.any_check.specs.Numbers.{is_above, of_cost, of_ln_r_p, of_ln_r_t, of_m_t_p, of_rounds}
-use Rattle.any_check.specs.Records.{accepted}
 use Rattle.any_check.specs.declared.kinds.TextKind.{TextKind}
 use Rattle.any_check.specs.declared.kinds.TextKind.TheVariants.{NoScheme, Invalid, Valid}
 use Rattle.any_check.specs.declared.numbers.Costs.{Costs}

@@ -1,9 +1,9 @@
 use Rattle.std.proofs.Common.{rules, ◌≡◌, ◌⊎◌, ⊎_elim, ℕ, List, length, true, ap, ◌∙◌, arith}
 use Rattle.line_log.specs.Log.{Stands, open_lines, recovered}
-use Rattle.line_log.proofs.Moments.{weaker}
+use Rattle.line_log.proofs.Moments.{started, weaker}
 use Rattle.pw_store.specs.Store.{StandsFor}
 use Rattle.pw_store.specs.Stored.{rows_of, takes_changes}
-use Rattle.pw_store.proofs.Grouped.{file_is, rows_of_lines, stands_as}
+use Rattle.pw_store.proofs.Grouped.{file_is, rest_left, rows_of_lines, stands_as}
 use Rattle.pw_store.proofs.Rewritten.{rewritten_as}
 use Rattle.pw_store.proofs.store.Store.compact.Goals as goal
 
@@ -51,3 +51,17 @@ returns-in-Ok-rewrite-clause-lines g c = λ done.
     let is_open : takes_changes c.args.self.now ≡ true = search rules in
     let w = rewritten_as g.P.Policy.policy g.met.P.Policy.lawful (g.D.Device.seen c.args.self.now.log.device) (rows_of c.args.self.now) c.as_slice.result.now (c.requires.sound.rows is_open) c.in-Ok.ensures.few (c.as_slice.ensures.value ∙ c.in-Ok.ensures.lines) in
     c.in-Ok-rewrite.ensures.lines ∙ w.lines
+
+pub returns-in_default-clause-any_moment : goal.returns-in_default-clause-any_moment
+returns-in_default-clause-any_moment g c = λ is_open.
+    let log = c.args.self.now.log in
+    let rows = rows_of c.args.self.now in
+    started g.D.Device.moment g.D.Device.left_since log.device (StandsFor g.P.Policy.policy rows)
+    (λ f left. rest_left g.P.Policy.policy g.D.Device.seen g.D.Device.may_leave log rows (c.requires.sound.settled is_open) (c.requires.sound.rows is_open) f (g.met.D.Device.only_now log.device f left))
+
+pub returns-then-len-gt-FILE_MAX-clause-any_moment : goal.returns-then-len-gt-FILE_MAX-clause-any_moment
+returns-then-len-gt-FILE_MAX-clause-any_moment g c = λ is_open.
+    let log = c.args.self.now.log in
+    let rows = rows_of c.args.self.now in
+    started g.D.Device.moment g.D.Device.left_since log.device (StandsFor g.P.Policy.policy rows)
+    (λ f left. rest_left g.P.Policy.policy g.D.Device.seen g.D.Device.may_leave log rows (c.requires.sound.settled is_open) (c.requires.sound.rows is_open) f (g.met.D.Device.only_now log.device f left))

@@ -2,8 +2,7 @@ use Rattle.std.proofs.Common.{◌∙◌, refl, Some}
 use Rattle.pw_file.specs.Commands as of
 use Rattle.pw_file.specs.declared.error.FileError.TheVariants.{Unmatched}
 use Rattle.pw_store.specs.Progress.{held_by}
-use Rattle.pw_store.specs.Staged.{lines_of}
-use Rattle.pw_store.specs.Stored.{rows_of, size_of, takes_changes}
+use Rattle.pw_store.specs.Stored.{rows_of, takes_changes}
 use Rattle.pw_store.specs.declared.error.StoreError.TheVariants.{Table}
 use Rattle.pw_store.proofs.Answering.{unmatched_says}
 use Rattle.pw_store.proofs.Fates.{refused_as}

@@ -1,4 +1,3 @@
-use Rattle.std.proofs.Common.{rules}
 use Rattle.shadow_table.proofs.Upgrades.{not_put}
 use Rattle.shadow_table.proofs.rules.TableRules.put.Goals as goal
 

@@ -1,4 +1,4 @@
-use Rattle.std.proofs.Common.{◌≡◌, ◌∙◌, Ok, ap, false, rules, sym}
+use Rattle.std.proofs.Common.{◌≡◌, Ok, false, rules, sym}
 use Rattle.pieces.proofs.FaultLaws.{value_found}
 use Rattle.phc.specs.Grammar.{salt_fault}
 use Rattle.any_check.specs.Kinds.{text_kind}
