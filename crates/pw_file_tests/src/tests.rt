@@ -392,7 +392,11 @@ fn words(rt: HostRuntime) {
     let word = upgrade_word::<McfFault, StoredError>(Err(FileError::Locked));
     check(&rt, word == Word::Locked, "locked");
     check(&rt, !LineReply::Word(Word::DiskFault).is_good(), "a fault");
-    check(&rt, !LineReply::Word(Word::TooCostly).is_good(), "too costly");
+    check(
+        &rt,
+        !LineReply::Word(Word::TooCostly).is_good(),
+        "too costly",
+    );
     check(&rt, LineReply::Word(Word::Kept).is_good(), "kept");
     let word = upgrade_word::<McfFault, StoredError>(Err(FileError::Unmatched));
     check(&rt, word == Word::Invalid, "no check matches");

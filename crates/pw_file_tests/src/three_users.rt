@@ -183,21 +183,40 @@ fn the_last_and_the_only_one_taken_away(rt: HostRuntime) {
 // A text of SHA-256-crypt and one of SHA-512-crypt of `Hello world!`, both of the specification (Drepper); and one of scrypt of Python's
 // hashlib, over OpenSSL.
 const SHA256: &str = "$5$saltstring$5B8vYYiY.CVt1RlTTf8KbXBH3hsxY/GNooZaBBGWEc5";
-const SHA512: &str = "$6$saltstring$svn8UoSVapNtMuq1ukKS4tPQd8iKwSMHWjl/O817G3uBnIFNjnQJuesI68u4OTLiBFdcbYEdFCoEOfaS35inz1";
+
+const SHA512: &str =
+    "$6$saltstring$svn8UoSVapNtMuq1ukKS4tPQd8iKwSMHWjl/O817G3uBnIFNjnQJuesI68u4OTLiBFdcbYEdFCoEOfaS35inz1";
+
 const SCRYPT: &str =
     "$scrypt$ln=14,r=8,p=1$abcdabcdabc$XUd185cY0rXnj/Ge/MUaiTt89Svsd7UcdrI5w2MoCoU";
 
 // What is asked of a user with a text, and the word of the reply.
 const RULED: [(&str, &str, Word); 9] = [
     (SHA256, "check\tann\tHello world!", Word::Match),
-    (SHA256, "upgrade\tann\tabcdabcdabc\tHello world!", Word::Kept),
-    (SHA256, "upgrade\tann\tabcdabcdabc\tHello world", Word::Mismatch),
+    (
+        SHA256,
+        "upgrade\tann\tabcdabcdabc\tHello world!",
+        Word::Kept,
+    ),
+    (
+        SHA256,
+        "upgrade\tann\tabcdabcdabc\tHello world",
+        Word::Mismatch,
+    ),
     (SHA256, "upgrade\tann\tabc\tHello world!", Word::BadSalt),
     (SHA512, "check\tann\tHello world!", Word::TooCostly),
     (SHA512, "check\tann\tHello world", Word::TooCostly),
-    (SHA512, "upgrade\tann\tabcdabcdabc\tHello world!", Word::TooCostly),
+    (
+        SHA512,
+        "upgrade\tann\tabcdabcdabc\tHello world!",
+        Word::TooCostly,
+    ),
     (SHA512, "upgrade\tann\tabc\tHello world!", Word::BadSalt),
-    (SCRYPT, "upgrade\tann\tabcdabcdabc\tHello world!", Word::Upgraded),
+    (
+        SCRYPT,
+        "upgrade\tann\tabcdabcdabc\tHello world!",
+        Word::Upgraded,
+    ),
 ];
 
 #[test]

@@ -16,7 +16,12 @@ use pw_store::Store;
 use shadow_table::{AnyTexts, TableRuled};
 
 // Puts the line of a user.
-fn put_line<T: TableRuled, K: Sink>(user: &UserName<AnyTexts<T>>, text: &str, out: &mut OutputBuffer, sink: &mut K)
+fn put_line<T: TableRuled, K: Sink>(
+    user: &UserName<AnyTexts<T>>,
+    text: &str,
+    out: &mut OutputBuffer,
+    sink: &mut K,
+)
     ensures puts { Puts (K.written sink.old) (K.written sink.new) (K.faults sink.old) (K.faults sink.new) out.old out.new
         (export_line (user.now, text.now)) }
 {
@@ -42,7 +47,11 @@ fn put_row<T: TableRuled, D: Device, K: Sink>(
 }
 
 // Puts the line of each user.
-fn put_lines<T: TableRuled, D: Device, K: Sink>(store: &Store<D, AnyTexts<T>>, out: &mut OutputBuffer, sink: &mut K)
+fn put_lines<T: TableRuled, D: Device, K: Sink>(
+    store: &Store<D, AnyTexts<T>>,
+    out: &mut OutputBuffer,
+    sink: &mut K,
+)
     ensures puts { Puts (K.written sink.old) (K.written sink.new) (K.faults sink.old) (K.faults sink.new) out.old out.new
         (export_text (rows_of store.now)) }
 {
@@ -53,7 +62,10 @@ fn put_lines<T: TableRuled, D: Device, K: Sink>(store: &Store<D, AnyTexts<T>>, o
 
 /// Writes each user with its text, as a line of a shadow or htpasswd file, in the order of `list`, and gives the status: 0; or 4
 /// where a write failed, and the beginning of the lines was written.
-pub fn export_users<T: TableRuled, D: Device, K: Sink>(store: &Store<D, AnyTexts<T>>, sink: &mut K) -> u8
+pub fn export_users<T: TableRuled, D: Device, K: Sink>(
+    store: &Store<D, AnyTexts<T>>,
+    sink: &mut K,
+) -> u8
     ensures statuses { (result ≡ 0) ⊎ (result ≡ 4) }
     ensures all { result ≡ 0 → Appends (K.written sink.old) (K.written sink.new) (export_text (rows_of store.now)) }
     ensures beginning { AppendsPrefix (K.written sink.old) (K.written sink.new) (export_text (rows_of store.now)) }

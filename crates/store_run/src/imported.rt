@@ -90,8 +90,34 @@ fn import_from<T: TableRuled, R: Read + Drop>(
     }
 }
 
-/// Sets the text of each line of a shadow or htpasswd file for the line's user, in the table of a file that is made where it isn't there,
-/// and gives the status: that of [`import_users`], as for [`serve_file`](crate::serve_file); and 66
+// What is imported: the file of users by its name, or `-`.
+#[derive(Clone, Copy)]
+struct Import<'a> {
+    users: &'a str,
+}
+
+// `import_file` by rules that the type has.
+fn import_at<T: TableRuled>(
+    rt: &HostRuntime,
+    speaker: &Speaker<'_>,
+    rules: TableRules,
+    import: Import<'_>,
+) -> u8
+    requires rules { rules ≡ T.rules }
+    ensures statuses { IsTableStatus result }
+{
+    let users = import.users;
+    if users == "-" {
+        return import_from::<T, _>(rt, speaker, rules, STANDARD_INPUT, rt.reader());
+    }
+    match opened_users(rt, speaker, users) {
+        Ok(reader) => import_from::<T, _>(rt, speaker, rules, users, reader),
+        Err(status) => status,
+    }
+}
+
+/// Sets the text of each line of a shadow or htpasswd file for the line's user by these rules, in the table of a file that is made
+/// where it isn't there, and gives the status: that of [`import_users`], as for [`serve_file`](crate::serve_file); and 66
 /// where the file of users isn't opened. `-` is standard input. What is said on standard error begins with the name of the program.
 pub fn import_file(
     rt: &HostRuntime,
@@ -103,11 +129,5 @@ pub fn import_file(
     ensures statuses { IsTableStatus result }
 {
     let speaker = Speaker { program, file };
-    if users == "-" {
-        return import_from::<Brand, _>(rt, &speaker, rules, STANDARD_INPUT, rt.reader());
-    }
-    match opened_users(rt, &speaker, users) {
-        Ok(reader) => import_from::<Brand, _>(rt, &speaker, rules, users, reader),
-        Err(status) => status,
-    }
+    import_at::<Brand>(rt, &speaker, rules, Import { users })
 }

@@ -1,9 +1,9 @@
 //! Sessions by rules: bounds on cost, texts that no password matches, upgrades. The scrypt texts are of Python's hashlib, the others of
 //! libxcrypt's crypt and of the program argon2; the password is `secret`.
 
-use crate::helpers::{EMPTY, NONE_FAILS, opened_by};
 ghost use Rattle.std.specs.Prelude.{◌≡◌};
 
+use crate::helpers::{EMPTY, NONE_FAILS, opened_by};
 use any_check::{Costs, NO_COSTS, SchemeCosts};
 use any_make::MakeCost;
 use line_io::{MemorySink, MemorySource};
