@@ -327,12 +327,12 @@ def workloads(is_long):
     """Names, files and runs."""
     two = b"set\tann\t*\nset\tbob\t!\n"
     hello = b"set\tann\t" + model.HELLO.encode() + b"\n"
-    salt = b"AAECAwQFBgcICQoLDA0ODw"
+    upgrade = b"upgrade\tann\tAAECAwQFBgcICQoLDA0ODw\t" + model.PASSWORD.encode() + b"\n"
     rows = [
         ("first start", {}, Run((b"set\tann\t*\n", b"set\tbob\t!\nset\tann\t!3\n"))),
         ("single changes", {TABLE: table_file(two)}, Run((b"set\tann\t!4\n", b"set\tcleo\t*\n", b"set\tbob\t!5\n"))),
         ("a group", {TABLE: table_file(two + sets(20, 41))}, Run((sets(14, 67),))),
-        ("an upgrade", {TABLE: table_file(hello)}, Run((b"upgrade\tann\t" + salt + b"\t" + model.PASSWORD.encode() + b"\n",))),
+        ("an upgrade, and one that keeps the text", {TABLE: table_file(hello)}, Run((upgrade, upgrade))),
         ("a compaction", {TABLE: table_file(two + sets(30, 53))}, Run((), ("compact",))),
         ("a group that a crash left", {TABLE: table_file(two, b"#et\tcleo\t!6\nset\tann\t!7\n#")}, Run((b"set\tdora\t*\n",))),
         ("zeros that a crash left", {TABLE: table_file(two, bytes(700))}, Run((b"set\tdora\t*\n",))),

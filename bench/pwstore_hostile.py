@@ -333,7 +333,7 @@ def refused_memory(folder):
         print("skipped: no gcc")
         return
     lines = [b"set\tann\t" + model.HELLO.encode(), b"set\tbob\t*", b"check\tann\t" + model.PASSWORD.encode(), b"check\tbob\tx",
-             b"upgrade\tann\tabcdabcdabc\t" + model.PASSWORD.encode(), b"set\tcleo\t" + b"x" * 1000]
+             b"upgrade\tann\tAAECAwQFBgcICQoLDA0ODw\t" + model.PASSWORD.encode(), b"set\tcleo\t" + b"x" * 1000]
     kept, replies, tables = model.Model(), [], [{}]
     for line in lines:
         replies.append(kept.reply(line))
@@ -344,7 +344,8 @@ def refused_memory(folder):
             if os.path.exists(file):
                 os.remove(file)
         env = {**os.environ, "LD_PRELOAD": library, "REFUSE_NTH": str(number), "REFUSE_MARK": mark}
-        done = subprocess.run([*PROGRAM, name], input=b"".join(line + b"\n" for line in lines), capture_output=True, check=False, env=env)
+        done = subprocess.run([*PROGRAM, *model.TO_SCRYPT, name], input=b"".join(line + b"\n" for line in lines), capture_output=True, check=False,
+                              env=env)
         words = done.stdout.decode().split("\n")[:-1]
         found = model.read(open(name, "rb").read()) if os.path.exists(name) else {}
         right = words == replies[:len(words)] and found in tables[len(words):len(words) + 2]

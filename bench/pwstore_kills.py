@@ -1,12 +1,12 @@
 #!/usr/bin/env python3
 """Kills `pwstore` at random moments of a load, and compares the table that it has then with the replies that were read before.
 
-Each run takes the file that the one before left, sends up to 400 commands (set, upgrade, remove, check) in pieces of random length, and
+Each run takes the file that the one before left, sends up to 400 commands (set, remove, check) in pieces of random length, and
 kills the program by SIGKILL after a random time. Then the file is read by a model of docs/FORMAT.md (bench/pwstore_model.py), and a
 new run of the program lists the table: both have to be the table after the first k of the commands, where k is at least the number
 of replies that were read and at most the number of commands that were sent; and every reply has to be the model's. Every fifth run is an
 import of users, each line of which is the `set` of its user. Every tenth run
-is a `compact`, which is killed too.
+is a `compact`, which is killed too; one of fifty sends a few upgrades, which take long, and is killed after up to three seconds.
 
 A kill takes no bytes of the page cache away: what a power cut may take is what the proofs and the device in memory are for.
 
@@ -27,15 +27,15 @@ import pwstore_model as model  # noqa: E402
 
 HERE = os.path.dirname(os.path.abspath(__file__))
 PROGRAM = shlex.split(os.environ.get("PWSTORE", "")) or [os.path.join(HERE, "..", "crates", "pwstore", "out", "pwstore")]
-COUNTS = {"killed": 0, "ended before": 0, "answered": 0, "found beyond the answers": 0, "imports": 0, "compactions": 0}
+PROGRAM += model.TO_SCRYPT
+COUNTS = {"killed": 0, "ended before": 0, "answered": 0, "found beyond the answers": 0, "imports": 0, "compactions": 0, "upgraded": 0, "kept": 0}
 
 
 def command(chance):
     user = b"u%d" % chance.randrange(40)
     kind = chance.random()
     if kind < 0.02:
-        salt = binascii.b2a_base64(chance.randbytes(16)).strip().rstrip(b"=")
-        return b"upgrade\t" + user + b"\t" + salt + b"\t" + model.PASSWORD.encode()
+        return b"upgrade\t" + user + b"\tabcdabcdabc\t" + model.PASSWORD.encode()
     if kind < 0.1:
         return b"remove\t" + user
     if kind < 0.25:
@@ -49,6 +49,19 @@ def line_of(command, chance):
     """The line of a shadow or htpasswd file that sets the text of this command for its user."""
     user, text = command.split(b"\t")[1:]
     return user + b":" + text + chance.choice([b"", b":", b":19000:0:99999:7:::"])
+
+
+def upgrades(chance):
+    """A user's text, upgrades of it with two salts, the second of which keeps it, and a check; the user is none of the other runs'."""
+    commands = []
+    for _ in range(chance.randrange(1, 4)):
+        user = b"w%d" % chance.randrange(3)
+        salts = [binascii.b2a_base64(chance.randbytes(16)).strip().rstrip(b"=") for _ in range(2)]
+        if chance.random() < 0.7:
+            commands.append(b"set\t" + user + b"\t" + chance.choice([model.HELLO.encode(), model.fresh(model.PASSWORD, salts[1], 14)]))
+        commands += [b"upgrade\t" + user + b"\t" + salt + b"\t" + model.PASSWORD.encode() for salt in salts]
+        commands.append(b"check\t" + user + b"\t" + chance.choice([model.PASSWORD.encode(), b"other"]))
+    return commands
 
 
 def feed(child, data, chance):
@@ -91,15 +104,14 @@ def states(before, commands):
     return tables, replies
 
 
-def check_run(name, before, chance, is_import):
-    """Makes one run, and gives the table that the file has then."""
-    commands = [command(chance) for _ in range(chance.randrange(1, 400))]
+def check_run(name, before, chance, commands, most, is_import=False):
+    """Makes one run of these commands, which is killed after at most so many seconds, and gives the table that the file has then."""
     if is_import:
         commands = [line for line in commands if line.startswith(b"set\t")]
-        out, was_killed = killed([name, "import"], b"".join(line_of(line, chance) + b"\n" for line in commands), chance, 0.06)
+        out, was_killed = killed([name, "import"], b"".join(line_of(line, chance) + b"\n" for line in commands), chance, most)
         COUNTS["imports"] += 1
     else:
-        out, was_killed = killed([name], b"".join(line + b"\n" for line in commands), chance, 0.06)
+        out, was_killed = killed([name], b"".join(line + b"\n" for line in commands), chance, most)
     answers = out.decode().split("\n")[:-1]
     tables, replies = states(before, commands)
     if answers != replies[:len(answers)]:
@@ -113,6 +125,8 @@ def check_run(name, before, chance, is_import):
         sys.exit(f"another listing, or status {listed.returncode}: {listed.stderr.decode()}")
     COUNTS["killed" if was_killed else "ended before"] += 1
     COUNTS["answered"] += len(answers)
+    for word in ("upgraded", "kept"):
+        COUNTS[word] += answers.count(word)
     COUNTS["found beyond the answers"] += tables[len(answers)] != found
     return found
 
@@ -134,8 +148,11 @@ def main():
     for number in range(runs):
         if number % 10 == 9:
             compact_run(name, table, chance)
+        elif number % 50 == 25:
+            table = check_run(name, table, chance, upgrades(chance), 3)
         else:
-            table = check_run(name, table, chance, number % 5 == 3)
+            commands = [command(chance) for _ in range(chance.randrange(1, 400))]
+            table = check_run(name, table, chance, commands, 0.06, number % 5 == 3)
     for file in os.listdir(folder):
         os.remove(os.path.join(folder, file))
     os.rmdir(folder)

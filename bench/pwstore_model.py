@@ -64,15 +64,29 @@ def listing(table):
     return b"".join(b"set\t" + user + b"\t" + text + b"\n" for user, text in table.items())
 
 
-def fresh(password, salt):
-    """The text of scrypt with N = 2^14, r = 8, p = 1."""
-    raw = binascii.a2b_base64(salt + "=" * (-len(salt) % 4))
-    key = hashlib.scrypt(password.encode(), salt=raw, n=2**14, r=8, p=1, maxmem=2**26, dklen=32)
-    return f"$scrypt$ln=14,r=8,p=1${salt}${binascii.b2a_base64(key).decode().strip().rstrip('=')}"
+# The words by which upgrades make texts of scrypt, which Python's hashlib makes too.
+TO_SCRYPT = ["--upgrade-to", "scrypt"]
+OLD, NEW = b"$scrypt$ln=14,r=8,p=1$", b"$scrypt$ln=17,r=8,p=1$"
+
+
+def salt_bytes(salt):
+    """The bytes of a salt: 16, in Base64 without padding."""
+    try:
+        raw = binascii.a2b_base64(salt + b"=" * (-len(salt) % 4))
+    except binascii.Error:
+        return None
+    return raw if len(raw) == 16 and binascii.b2a_base64(raw).strip().rstrip(b"=") == salt else None
+
+
+def fresh(password, salt, ln=17):
+    """The text of scrypt with N = 2^ln, r = 8, p = 1: 2^17 is what `pwtool make` recommends."""
+    key = hashlib.scrypt(password.encode(), salt=salt_bytes(salt), n=2**ln, r=8, p=1, maxmem=2**28, dklen=32)
+    return b"$scrypt$ln=%d,r=8,p=1$" % ln + salt + b"$" + binascii.b2a_base64(key).strip().rstrip(b"=")
 
 
 class Model:
-    """The replies to commands over the lines before them. A text is HELLO's, one of its upgrades, a locked one, or no text of a scheme."""
+    """The replies to commands over the lines before them, where upgrades are to scrypt. A text is HELLO's, one of its upgrades (of today's cost
+    or of an older one), a locked one, or no text of a scheme."""
 
     def __init__(self, table=None):
         self.table = dict(table or {})
@@ -84,7 +98,7 @@ class Model:
             return "no-user"
         if text[:1] in (b"*", b"!"):
             return "locked"
-        if text in self.known or text.startswith(b"$scrypt$ln=14,r=8,p=1$"):
+        if text in self.known or text.startswith((OLD, NEW)):
             return "match" if password == PASSWORD.encode() else "mismatch"
         return "invalid"
 
@@ -108,7 +122,11 @@ class Model:
         if words[0] == b"check":
             return self.judge(words[1], words[2])
         word = self.judge(words[1], words[3])
+        if word not in ("no-user", "locked") and salt_bytes(words[2]) is None:
+            return "bad-salt"
         if word != "match":
             return word
-        self.table[words[1]] = fresh(PASSWORD, words[2].decode()).encode()
+        if self.table[words[1]].startswith(NEW):
+            return "kept"
+        self.table[words[1]] = fresh(PASSWORD, words[2])
         return "upgraded"
