@@ -8,19 +8,21 @@ pub const HELP: &str = "\
 The commands, a line each, with one tab between their parts:
   set USER TEXT               the text is the user's from now on
   check USER PASSWORD         whether the user's text matches the password
-  upgrade USER SALT PASSWORD  as check; where it matches the text is a new one of scrypt
+  upgrade USER SALT PASSWORD  as check; where it matches the text is a new one, unless the old
+                              one asks for as much or more
   remove USER                 the user is taken away
   list                        each user with its text, as the command that sets it
 A user is a name of 1 to 64 bytes of UTF-8 without control characters and colons, a text one of
-a shadow or htpasswd file. The replies are ok, match, mismatch, upgraded, a listing, or a word
-for what is refused; pwstore(1) has them all.
+a shadow or htpasswd file. A salt is 16 bytes in Base64 without padding, 22 characters.
+The replies are ok, match, mismatch, upgraded, kept, a listing, or a word for what is refused;
+pwstore(1) has them all.
 
 With 'compact' after FILE no command is read: FILE is written anew, a line for each user.
 With 'export' each user is written with its text, USER:TEXT, as a shadow or htpasswd file has it.
 With 'import' the users of such a file are set: the reply to each line is that of a set.
 
 Statuses:
-   0  the whole input was read, and each reply is ok, match, upgraded or a listing
+   0  the whole input was read, and each reply is ok, match, upgraded, kept or a listing
    1  the whole input was read, and some reply is another
    3  a read of the input failed; the whole lines that were taken are answered
    4  a write to standard output failed
