@@ -579,6 +579,29 @@ def tables(tool):
         tool.faults.append(f"pwtool table FILE compact: {lines[:200]!r}")
     tool.case(["table", path], "check\tann\tsecret\n", "match\n", 0)
     tool.case(["table", path, "expand"], "", "", 64)
+    rules(tool)
+
+
+def base64_of(data):
+    """Base64 without padding."""
+    return base64.b64encode(data).decode().rstrip("=")
+
+
+def rules(tool):
+    """`table` by rules: texts that no password matches, upgrades, bounds on cost."""
+    path = os.path.join(tool.folder, "ruled")
+    salt = bytes(range(16))
+    text = f"$pbkdf2-sha256$i=600000,l=32${base64_of(salt)}${base64_of(hashlib.pbkdf2_hmac('sha256', b'secret', salt, 600000))}"
+    upgrade = f"upgrade\tann\t{base64_of(salt)}\tsecret\n"
+    tool.case(["table", "--strict", path], f"set\tann\tx\nset\tann\t*\nset\tann\t{MD5}\n", "invalid\nok\nok\n", 1)
+    tool.case(["table", path], "set\tbob\tx\ncheck\tbob\tsecret\n", "ok\ninvalid\n", 1)
+    tool.case(["table", "--strict", path], "list\n", f"set\tann\t{MD5}\nset\tbob\tx\n", 0)
+    tool.case(["table", "--upgrade-to", "pbkdf2-sha256", path], upgrade + upgrade + "check\tann\tsecret\nlist\n",
+              f"upgraded\nkept\nmatch\nset\tann\t{text}\nset\tbob\tx\n", 0)
+    tool.case(["table", path], "upgrade\tann\tabcdabcdabc\tsecret\n" + upgrade.replace("secret", "other"), "bad-salt\nmismatch\n", 1)
+    tool.case(["table", "--max-pbkdf2-rounds", "599999", path], "check\tann\tsecret\n" + upgrade, "too-costly\ntoo-costly\n", 1)
+    tool.case(["table", "--max-pbkdf2-rounds", "600000", path], "check\tann\tsecret\n", "match\n", 0)
+    tool.case(["table", "--upgrade-to", "md5-crypt", path], "", "", 64)
 
 
 # What `make` refuses, and the rule that its message names: those of pwtool(1).

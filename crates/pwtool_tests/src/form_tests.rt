@@ -2,7 +2,7 @@
 //! through a tally; and that each cause is said.
 
 use any_check::{Costs, NO_COSTS, SchemeCosts};
-use any_make::{MakeCost, MakeEnd, MakeFault, recommended, scheme_named};
+use any_make::{Argon2Cost, MakeCost, MakeEnd, MakeFault, recommended, scheme_named};
 use pwtool_cli::{command, table_form};
 use pwtool_forms::bounds::{bound_of, least_of};
 use pwtool_forms::fault::more_of;
@@ -12,6 +12,7 @@ use pwtool_forms::make::{cost_of, told};
 use pwtool_forms::pair::memory_at;
 use pwtool_forms::reports;
 use pwtool_forms::tally::{Counts, Tally};
+use rule_options::rules_of;
 use shadow_check::JoinEnd;
 use shadow_survey::LeastCosts;
 use std::cell::Cell;
@@ -21,6 +22,7 @@ use std::io::{ErrorKind, Write};
 use std::os::unix::fs::PermissionsExt;
 use std::test::Fail;
 use std::{fs, io};
+use yescrypt_plain::{ScryptParams, YescryptParams};
 
 const LINES: &[u8] = b"secret\t$1$abcdefgh$cHJi5PXp/ki/ktXzqlk6I1\n\
     secret\t$5$abcdefgh$gruCpC7VkOTspMQTTSAR8mtlO9Upms.fwqE5y16JVM.\n";
@@ -567,6 +569,71 @@ fn bounds_by_options(rt: HostRuntime) -> Result<(), Fail> {
         panic!(rt; "a form is named")
     };
     assert!(rt; bound_of(matches) == Some(limits));
+    Ok(())
+}
+
+// Words of `table`, whether it is strict, the cost of upgrades, and whether there is a bound.
+const RULES: [(&[&str], bool, MakeCost, bool); 3] = [
+    (
+        &["pwtool", "table", "users"],
+        false,
+        MakeCost::Argon2id(Argon2Cost {
+            memory: 65_536,
+            passes: 3,
+            lanes: 4,
+        }),
+        false,
+    ),
+    (
+        &[
+            "pwtool",
+            "table",
+            "--strict",
+            "--upgrade-to",
+            "scrypt",
+            "users",
+        ],
+        true,
+        MakeCost::Scrypt(ScryptParams { ln: 17, r: 8, p: 1 }),
+        false,
+    ),
+    (
+        &[
+            "pwtool",
+            "table",
+            "users",
+            "--upgrade-to=yescrypt",
+            "--max-bcrypt-cost=12",
+        ],
+        false,
+        MakeCost::Yescrypt(YescryptParams {
+            ln: 12,
+            r: 32,
+            t: 0,
+        }),
+        true,
+    ),
+];
+
+#[test]
+fn rules_of_a_table_by_options(rt: HostRuntime) -> Result<(), Fail> {
+    for (words, strict, upgrade_to, is_bounded) in RULES {
+        let Ok(matches) = command(rt.alloc(), "")?.try_get_matches_from(words) else {
+            panic!(rt; "the words are of a form")
+        };
+        let Some((_, matches)) = matches.subcommand() else {
+            panic!(rt; "a form is named")
+        };
+        let rules = rules_of(matches);
+        assert!(rt; rules.strict == strict && rules.upgrade_to == upgrade_to);
+        assert!(rt; rules.limits.is_some() == is_bounded && rules.limits == bound_of(matches));
+    }
+    let words = ["pwtool", "table", "--upgrade-to", "md5-crypt", "users"];
+    let command = command(rt.alloc(), "")?;
+    assert!(rt;
+        command.try_get_matches_from(&words).is_err(),
+        "a scheme of no upgrade"
+    );
     Ok(())
 }
 
