@@ -106,7 +106,7 @@ fn lines_that_do_not_fit(rt: HostRuntime) -> Result<(), Fail> {
         let mut source = MappedLines::new(texts, MemorySource::new(&lines, 5_000, &[]));
         let mut out = Vec::new(rt.alloc());
         assert!(rt; all_of(&mut source, &mut out)?);
-        let count = if fits { lines.len() + 3 } else { 1 };
+        let count = if fits { lines.len() + 2 } else { 1 };
         assert!(rt; out.len() == count, "{user}");
     }
     Ok(())

@@ -13,7 +13,6 @@ use Rattle.line_filter.specs.Mapped.{Rule, mapped_line, mapped_text}
 
 -- ---- a whole line, and the last one
 
-
 pub at_feed : (rule : Rule) (line text : List ℕ) → NoFeed line
     → mapped_text rule (line ++ 10 ∷ text) ≡ (mapped_line rule line ++ 10 ∷ []) ++ mapped_text rule text
 unfolding mapped_text
@@ -37,7 +36,7 @@ onto_some : (b : ℕ) (parts : List (List ℕ)) → (line : List ℕ) × (more :
 onto_some b [] = (b ∷ [], [], refl)
 onto_some b (line ∷ more) = (b ∷ line, more, refl)
 
-first_part : (text : List ℕ) → (line : List ℕ) × (more : List (List ℕ)) × (slice_split is_feed text ≡ line ∷ more)
+pub first_part : (text : List ℕ) → (line : List ℕ) × (more : List (List ℕ)) × (slice_split is_feed text ≡ line ∷ more)
 first_part [] = ([], [], refl)
 first_part (b ∷ text) =
     elim (is_feed b)
@@ -53,7 +52,7 @@ split_with (b ∷ line) text first more free is =
     slice_split-cons_no is_feed b (line ++ text) parts.0
     ∙ ap (onto_first b) (split_with line text first more parts.1 is)
 
-first_stays : (b : ℕ) (line : List ℕ) (more : List (List ℕ))
+pub first_stays : (b : ℕ) (line : List ℕ) (more : List (List ℕ))
     → without_empty_last ((b ∷ line) ∷ more) ≡ (b ∷ line) ∷ without_empty_last more
 first_stays b line [] = let some : (length (b ∷ line) == 0) ≡ false = grind arith in rw some refl
 first_stays b line (next ∷ more) = refl

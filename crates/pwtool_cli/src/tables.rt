@@ -4,7 +4,7 @@ use clap::{Arg, ArgMatches, Command};
 use pwtool_forms::fault::say;
 use pwtool_forms::status::BAD_WORDS;
 use std::alloc::{AllocError, Global};
-use store_run::{ACTIONS, HELP, table_action};
+use store_run::{ACTIONS, HELP, MAKERS, table_action};
 
 // The name that messages begin with.
 const PROGRAM: &str = "pwtool";
@@ -18,6 +18,13 @@ pub fn table<'a>(alloc: Global) -> Result<Command<'a>, AllocError> {
     let users = Arg::new(alloc, "USERS").help(
         "The file of users for 'import'; - or left out: standard input",
     );
+    let from = Arg::new(alloc, "from")
+        .long("from")
+        .value_name("MAKER")
+        .value_parser(MAKERS)
+        .help(
+            "'import': the texts of USERS are spelled as this maker spells them; ldif: it is a dump of a directory",
+        );
     Command::new(alloc, "table")
         .about(
             "Keep users and their stored texts in a file, each change on the disk before its reply",
@@ -25,19 +32,21 @@ pub fn table<'a>(alloc: Global) -> Result<Command<'a>, AllocError> {
         .after_help(HELP)
         .arg(file)?
         .arg(action)?
-        .arg(users)
+        .arg(users)?
+        .arg(from)
 }
 
 /// Does what the words ask for with the table of the file that is named, and gives the status.
 pub fn table_form(rt: &HostRuntime, matches: &ArgMatches<'_>) -> u8 {
     let file = matches.get_str("FILE").unwrap_or("");
     let action = matches.get_str("ACTION");
-    match table_action(rt, PROGRAM, file, action, matches.get_str("USERS")) {
+    let users = matches.get_str("USERS");
+    match table_action(rt, PROGRAM, file, action, users, matches.get_str("from")) {
         Some(status) => status,
         None => {
             say(
                 rt,
-                "after the file is nothing, 'compact', 'export', or 'import' with or without a file of users",
+                "after the file is nothing, 'compact', 'export', or 'import' with or without a file of users and --from",
             );
             BAD_WORDS
         }

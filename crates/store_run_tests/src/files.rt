@@ -1,6 +1,7 @@
 //! Files that are taken, refused, made, and made anew.
 
 use crate::helpers::{ANEW, EMPTY, NONE_FAILS, THREE, TWO, memory, opened};
+use foreign_text::Foreign;
 use line_log::OpenError;
 use std::hash::{BuildHasher, RandomState};
 use std::os::unix::fs::PermissionsExt;
@@ -157,15 +158,17 @@ fn users_of_a_file(rt: HostRuntime) {
     };
     let (name, users) = (name.as_str(), users.as_str());
     // Nothing is made where there is no file of users, or a folder has its name.
-    assert!(rt; import_file(&rt, "pwstore", name, users) == 66);
-    assert!(rt; import_file(&rt, "pwstore", name, folder.as_str()) == 66);
+    assert!(rt; import_file(&rt, "pwstore", name, users, None) == 66);
+    assert!(rt; import_file(&rt, "pwstore", name, folder.as_str(), None) == 66);
     assert!(rt; fs::read(&rt, name).is_err());
-    assert!(rt; write(&rt, users, USERS, 0o600) && import_file(&rt, "pwstore", name, users) == 1);
+    assert!(rt;
+        write(&rt, users, USERS, 0o600) && import_file(&rt, "pwstore", name, users, None) == 1
+    );
     assert!(rt; has(&rt, name, SET) && has(&rt, users, USERS));
     // The words of a command line.
     let import = Some("import");
     assert!(rt; write(&rt, users, b"bob:!", 0o600));
-    assert!(rt; table_action(&rt, "pwstore", name, import, Some(users)) == Some(0));
+    assert!(rt; table_action(&rt, "pwstore", name, import, Some(users), None) == Some(0));
     assert!(rt;
         has(
             &rt,
@@ -173,13 +176,53 @@ fn users_of_a_file(rt: HostRuntime) {
             b"#pwstore 1\nset\tann\t!\nset\tbob\t$5\nset\tbob\t!\n#"
         )
     );
-    assert!(rt; table_action(&rt, "pwstore", name, Some("compact"), None) == Some(0));
+    assert!(rt; table_action(&rt, "pwstore", name, Some("compact"), None, None) == Some(0));
     assert!(rt; has(&rt, name, b"#pwstore 1\nset\tann\t!\nset\tbob\t!\n#"));
-    assert!(rt; table_action(&rt, "pwstore", name, Some("export"), None) == Some(0));
-    assert!(rt; table_action(&rt, "pwstore", name, Some("compact"), Some(users)).is_none());
-    assert!(rt; table_action(&rt, "pwstore", name, Some("export"), Some(users)).is_none());
-    assert!(rt; table_action(&rt, "pwstore", name, Some("imports"), Some(users)).is_none());
-    assert!(rt; table_action(&rt, "pwstore", name, Some("list"), None).is_none());
-    assert!(rt; table_action(&rt, "pwstore", name, None, Some(users)).is_none());
+    assert!(rt; table_action(&rt, "pwstore", name, Some("export"), None, None) == Some(0));
+    assert!(rt; table_action(&rt, "pwstore", name, Some("compact"), Some(users), None).is_none());
+    assert!(rt; table_action(&rt, "pwstore", name, Some("export"), Some(users), None).is_none());
+    assert!(rt; table_action(&rt, "pwstore", name, Some("imports"), Some(users), None).is_none());
+    assert!(rt; table_action(&rt, "pwstore", name, Some("list"), None, None).is_none());
+    assert!(rt; table_action(&rt, "pwstore", name, None, Some(users), None).is_none());
+    assert!(rt; fs::remove_dir_all(&rt, folder.as_str()).is_ok());
+}
+
+// A dump of a directory, whose third text isn't converted; its lines end with a carriage return and a line feed.
+const DUMP: &[u8] = b"dn: uid=ann,dc=x\r\nuid: ann\r\nuserPassword: {CRYPT}$5$a$b\r\n\r\n\
+    dn: cn=x\r\nuid: bob\r\nuserPassword: {CRYPT}!$5$c\r\n\r\ndn: cn=y\r\nuid: eve\r\nuserPassword: secret\r\n";
+
+#[test]
+fn users_of_another_maker(rt: HostRuntime) {
+    let Ok(folder) = folder(&rt) else {
+        panic!(rt; "no folder is made")
+    };
+    let (Some(name), Some(users)) = (
+        named(&rt, folder.as_str(), "table"),
+        named(&rt, folder.as_str(), "dump"),
+    ) else {
+        panic!(rt; "out of memory")
+    };
+    let (name, users) = (name.as_str(), users.as_str());
+    let import = Some("import");
+    assert!(rt; write(&rt, users, DUMP, 0o600));
+    // No maker has this name, and no file is made.
+    assert!(rt; table_action(&rt, "pwstore", name, import, Some(users), Some("LDIF")).is_none());
+    assert!(rt; fs::read(&rt, name).is_err());
+    assert!(rt; table_action(&rt, "pwstore", name, import, Some(users), Some("ldif")) == Some(1));
+    assert!(rt; has(&rt, name, b"#pwstore 1\nset\tann\t$5$a$b\nset\tbob\t!\n#"));
+    assert!(rt;
+        write(&rt, users, b"carl:{CRYPT}$6$a$b:1:2\n", 0o600)
+            && import_file(&rt, "pwstore", name, users, Some(Foreign::Ldap)) == 0
+    );
+    assert!(rt;
+        has(
+            &rt,
+            name,
+            b"#pwstore 1\nset\tann\t$5$a$b\nset\tbob\t!\nset\tcarl\t$6$a$b\n#"
+        )
+    );
+    // Without 'import' a maker is for nothing.
+    assert!(rt; table_action(&rt, "pwstore", name, Some("export"), None, Some("ldap")).is_none());
+    assert!(rt; table_action(&rt, "pwstore", name, None, None, Some("ldap")).is_none());
     assert!(rt; fs::remove_dir_all(&rt, folder.as_str()).is_ok());
 }
