@@ -230,6 +230,18 @@ class Lab:
         return table
 
 
+def after_lines(table, lines):
+    """The table after lines of a file: each sets the text of a user, or has none and takes the user away."""
+    table = dict(table)
+    for line in lines:
+        _, user, *text = line.split(b"\t", 2)
+        if text:
+            table[user] = text[0]
+        else:
+            del table[user]
+    return table
+
+
 class Watch:
     """The tables that a power cut may leave: those after whole groups, with each change whose reply was written."""
 
@@ -241,8 +253,7 @@ class Watch:
         if call.kind == "write" and call.node == node and not call.failed:
             if call.data == b"s" and self.staged:
                 lines = (b"s" + self.staged).split(b"\n")[:-1]
-                rows = dict(line.split(b"\t", 2)[1:] for line in lines)
-                self.tables.append({**self.tables[-1], **rows})
+                self.tables.append(after_lines(self.tables[-1], lines))
                 self.changes.append(self.changes[-1] + len(lines))
                 self.staged = b""
             elif call.data != b"#":
@@ -333,6 +344,8 @@ def workloads(is_long):
         ("single changes", {TABLE: table_file(two)}, Run((b"set\tann\t!4\n", b"set\tcleo\t*\n", b"set\tbob\t!5\n"))),
         ("a group", {TABLE: table_file(two + sets(20, 41))}, Run((sets(14, 67),))),
         ("an upgrade, and one that keeps the text", {TABLE: table_file(hello)}, Run((upgrade, upgrade))),
+        ("users taken away", {TABLE: table_file(two + hello)}, Run((b"remove\tbob\n", b"set\tcleo\t*\nremove\tann\nremove\tcleo\n"))),
+        ("an import", {TABLE: table_file(two)}, Run((b"cleo:*:1::\nann:!4:2:\n", b"dora:!5\n"), ("import",))),
         ("a compaction", {TABLE: table_file(two + sets(30, 53))}, Run((), ("compact",))),
         ("a group that a crash left", {TABLE: table_file(two, b"#et\tcleo\t!6\nset\tann\t!7\n#")}, Run((b"set\tdora\t*\n",))),
         ("zeros that a crash left", {TABLE: table_file(two, bytes(700))}, Run((b"set\tdora\t*\n",))),
@@ -343,6 +356,8 @@ def workloads(is_long):
             ("a list", {}, Run((sets(300, 29), sets(40, 83)))),
             ("long lines", {TABLE: table_file(two)}, Run((b"".join(b"set\tu%d\t!%s\n" % (number, b"y" * 1000) for number in range(30)),))),
             ("groups and single changes", {TABLE: table_file(sets(200, 17))}, Run((sets(9, 97), b"set\tann\t*\n", sets(30, 31), b"set\tann\t!\n"))),
+            ("a long import", {TABLE: table_file(sets(9, 71))}, Run((b"".join(b"u%d:!%s:1::\n" % (number % 13, b"z" * (number * 37 % 900))
+                                                                             for number in range(60)),), ("import",))),
             ("a long compaction", {TABLE: table_file(sets(400, 71))}, Run((), ("compact",))),
             *((f"an end of {len(end)} bytes", {TABLE: table_file(two, end)}, Run((b"set\tdora\t*\n",)))
               for end in (b"\0", b"\n", b"#" * 16385, b"e" * 9000, bytes(16385), b"#\0\0\0s", b"\xff" * 513)),
@@ -391,7 +406,7 @@ def explored(lab, is_long):
         wrong += wrong_states(lab, record, most)
         if status != 0:
             wrong.append(f"{name}: status {status}")
-        if run.words and not any(call.label == "new file" for call in calls):
+        if run.words == ("compact",) and not any(call.label == "new file" for call in calls):
             wrong.append(f"{name}: no new file is made")
         for count in range(len(calls) + 1):
             second, more = following(lab, record, count, 3)

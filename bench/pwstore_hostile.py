@@ -249,6 +249,8 @@ def new_files(folder):
 
 
 def closed_streams(folder):
+    users = os.path.join(folder, "users")
+    write(users, b"bob:*\n")
     for streams in ("<&-", ">&-", "2>&-", ">&- 2>&-", "<&- 2>&-", "<&- >&- 2>&-"):
         for there in (False, True):
             name = os.path.join(folder, "closed")
@@ -257,11 +259,12 @@ def closed_streams(folder):
             if there:
                 run(name, b"set\tann\t*\n")
             before = open(name, "rb").read() if there else None
-            for words in ("", " compact"):
+            for words in ("", " compact", " export", " import", f" import {shlex.quote(users)}"):
                 command = " ".join(map(shlex.quote, PROGRAM)) + f" {shlex.quote(name)}{words} {streams}"
-                done = subprocess.run(["sh", "-c", command], input=b"set\tbob\t*\n", capture_output=True, check=False)
+                done = subprocess.run(["sh", "-c", command], input=b"bob:*\n" if "import" in words else b"set\tbob\t*\n", capture_output=True, check=False)
                 after = open(name, "rb").read() if os.path.exists(name) else None
-                holds(f"{streams}{words}, {'a' if there else 'no'} file: {done.returncode}", done.returncode == 66 and before == after)
+                holds(f"{streams}{words}, {'a' if there else 'no'} file: {done.returncode}",
+                      done.returncode == 66 and before == after and open(users, "rb").read() == b"bob:*\n")
 
 
 def first_starts(folder):

@@ -580,6 +580,7 @@ def tables(tool):
     tool.case(["table", path], "check\tann\tsecret\n", "match\n", 0)
     tool.case(["table", path, "expand"], "", "", 64)
     rules(tool)
+    imports(tool, os.path.join(tool.folder, "moved"))
 
 
 def base64_of(data):
@@ -602,6 +603,35 @@ def rules(tool):
     tool.case(["table", "--max-pbkdf2-rounds", "599999", path], "check\tann\tsecret\n" + upgrade, "too-costly\ntoo-costly\n", 1)
     tool.case(["table", "--max-pbkdf2-rounds", "600000", path], "check\tann\tsecret\n", "match\n", 0)
     tool.case(["table", "--upgrade-to", "md5-crypt", path], "", "", 64)
+
+
+def imports(tool, path):
+    """`table FILE import`: lines of a shadow file, of other makers, and of a dump of a directory; a closed standard stream."""
+    users = tool.file("users", f"ann:{MD5}:1:2:::\nbob:*\nno colon\n")
+    for streams in ("<&-", ">&-", "2>&-", "<&- >&-"):
+        tool.count += 1
+        command = f'exec "$0" table "$1" import "$2" {streams}'
+        done = subprocess.run(["sh", "-c", command, tool.program, path, users], cwd=tool.folder, capture_output=True, check=False)
+        if done.returncode != 66 or done.stdout or os.path.exists(path):
+            tool.faults.append(f"pwtool table FILE import USERS {streams}: status {done.returncode}")
+    tool.case(["table", path, "import", users], "", "ok\nok\nbad-command\n", 1)
+    tool.case(["table", path, "export"], "", f"ann:{MD5}\nbob:*\n", 0)
+    key = hashlib.pbkdf2_hmac("sha256", b"secret", b"saltsalt", 1000)
+    django = f"carl:pbkdf2_sha256$1000$saltsalt${base64.b64encode(key).decode()}\neve:sha1$a$b\nbob:!x\n"
+    tool.case(["table", path, "import", "--from", "django"], django, "ok\nbad-command\nok\n", 1)
+    werkzeug = f"dora:pbkdf2:sha256:1000$saltsalt${key.hex()}\n"
+    tool.case(["table", path, "import", "-", "--from", "werkzeug"], werkzeug, "ok\n", 0)
+    tool.case(["table", path], "check\tcarl\tsecret\ncheck\tdora\tsecret\ncheck\tdora\tx\ncheck\tbob\tx\ncheck\teve\tx\n",
+              "match\nmatch\nmismatch\nlocked\nno-user\n", 1)
+    text = f"$pbkdf2-sha256$i=1000${b64(b'saltsalt')}${b64(key)}"
+    tool.case(["table", path, "export"], "", f"ann:{MD5}\nbob:!x\ncarl:{text}\ndora:{text}\n", 0)
+    with open(os.path.join(TOP, "examples/dump.ldif"), "rb") as file:
+        dump = tool.file("dump", file.read())
+    tool.case(["table", path, "import", dump, "--from", "ldif"], "", "ok\nbad-command\nok\nok\nbad-command\nok\nbad-command\n", 1)
+    tool.case(["table", path], "check\tann\tcorrect horse\ncheck\tcarl\tx\ncheck\tdora\topen sesame\ncheck\tcn=replicator,dc=example,dc=com\tx\n",
+              "match\nlocked\nmatch\nno-user\n", 1)
+    for words in (["export", "--from", "ldap"], ["--from", "ldap"], ["export", users], ["import", users, "--from", "nobody"]):
+        tool.case(["table", path, *words], "", "", 64)
 
 
 # What `make` refuses, and the rule that its message names: those of pwtool(1).

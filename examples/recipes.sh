@@ -108,6 +108,17 @@ try:
 except Stopped as stopped:
     print(stopped, end=" ")
 print(first.ask("set", "ann", "a\nset\tbob\tx"))')"
+  same 'where the process is killed' 'ok -9 ok' "$(python3 2>/dev/null -c '
+from accounts import Accounts, Stopped
+accounts = Accounts("table")
+print(accounts.set("ann", "*"), end=" ")
+accounts.child.kill()
+accounts.child.wait()
+try:
+    print(accounts.set("ann", "!"))
+except Stopped as stopped:
+    print(stopped, end=" ")
+print(Accounts("table").set("ann", "*"))')"
   printf 'set\tnew\t*\n' | pwstore table > replies
   pwstore table export > texts.back
   same 'exported' "$(printf 'list\n' | pwstore table | sed 's/^set\t\([^\t]*\)\t/\1:/')" "$(cat texts.back)"

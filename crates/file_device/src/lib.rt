@@ -13,5 +13,6 @@ mod replacing;
 
 pub use device::FileDevice;
 pub use fault::DeviceFault;
+pub use locking::is_standard;
 pub use opening::{OpenFault, Opened, open};
 pub use record::Record;

@@ -57,6 +57,6 @@ pub(crate) fn is_named(rt: &HostRuntime, file: &File, name: &str) -> io::Result<
 
 /// Whether the file has taken the place of standard input, output or error, which was closed. What the program says would
 /// be written into it.
-pub(crate) fn is_standard(file: &File) -> bool {
+pub fn is_standard(file: &File) -> bool {
     file.as_raw_fd() < 3
 }

@@ -28,8 +28,8 @@ pub struct ForeignLines<R> {
     pub inner: R,
 }
 
-// A text behind a front and a mark, where the whole has at most 8,192 bytes.
-fn behind_mark(front: &[u8], mark: u8, text: &[u8]) -> Option<ShortBytes<LINE_MAX>>
+/// A text after a front and a mark, where the whole has at most 8,192 bytes.
+pub(crate) fn behind_mark(front: &[u8], mark: u8, text: &[u8]) -> Option<ShortBytes<LINE_MAX>>
     ensures line { MatchOption result (line_max < length (front.now ++ mark ∷ text.now))
         (λ line. line ≡ front.now ++ mark ∷ text.now) }
 {

@@ -31,8 +31,8 @@ pub(crate) struct LineParts<'a> {
     pub text: &'a str,
 }
 
-// The text that these bytes are.
-fn utf8_text(bytes: &[u8]) -> Option<&str>
+/// The text that these bytes are.
+pub(crate) fn utf8_text(bytes: &[u8]) -> Option<&str>
     ensures text { MatchOption result (is_utf8 bytes.now ≡ false)
         (λ text. (is_utf8 bytes.now ≡ true) × (text.now ≡ bytes.now)) }
 {
@@ -80,8 +80,8 @@ fn utf8_parts<'a>(user: &'a [u8], text: &'a [u8]) -> Option<LineParts<'a>>
     }
 }
 
-// Whether a text is of a locked account.
-fn is_locked_by(foreign: Foreign, text: &[u8]) -> bool
+/// Whether a text is of a locked account.
+pub(crate) fn is_locked_by(foreign: Foreign, text: &[u8]) -> bool
     ensures { result ≡ is_locked_by foreign text.now }
 {
     !foreign.has_clear_texts() && is_locked(text)
@@ -107,8 +107,8 @@ fn user_password_parts(line: &[u8]) -> Option<LineParts<'_>>
     }
 }
 
-// The stored text at the front of what comes after a user.
-fn text_in(foreign: Foreign, rest: &[u8]) -> &[u8]
+/// The stored text at the front of what comes after a user.
+pub(crate) fn text_in(foreign: Foreign, rest: &[u8]) -> &[u8]
     ensures { result.now ≡ text_in foreign rest.now }
 {
     if foreign.has_colons() {

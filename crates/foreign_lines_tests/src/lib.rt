@@ -4,4 +4,6 @@
 #![tactic(auto)]
 
 #[cfg(test)]
+mod converting;
+#[cfg(test)]
 mod tests;

@@ -9,15 +9,6 @@ use Rattle.ldif_lines.specs.Entries.{fitting, too_long}
 use Rattle.ldif_lines.specs.Limits.{rows_most}
 use Rattle.ldif_lines.specs.Rests.{Held, fresh, given_lines, held_rows, named, rest_lines, row_begin, rows_from, with_line}
 
-front : (n : ℕ) (xs ys : List ℕ) → length xs ≡ n → take n (xs ++ ys) ≡ xs
-front n xs ys long = rw (sym long) (take-append_seam xs ys)
-
-pub given_into : (given n : ℕ) (ready copied rest : List ℕ) → copied ≡ take n (drop given ready)
-    → n ≤ length (drop given ready) → take n (copied ++ rest) ++ drop (given + n) ready ≡ drop given ready
-given_into given n ready copied rest is fits =
-    let long : length copied ≡ n = ap length is ∙ length-take-le n (drop given ready) fits in
-    rw (front n copied rest long, ← drop-drop n given ready, is) (take-append-drop n (drop given ready))
-
 pub no_test : (a b : ℕ) → a ≢ b → (a == b) ≡ false
 no_test a b other = grind arith
 
@@ -99,7 +90,3 @@ fits_not rows long = rw (lt-ltb rows_most (length rows) long) refl
 pub nothing_held : held_rows fresh ≡ []
 unfolding fitting
 nothing_held = refl
-
-pub nothing_dropped : (xs : List ℕ) (n : ℕ) → n ≡ length xs → drop n xs ≡ []
-nothing_dropped [] n is = rw is refl
-nothing_dropped (x ∷ xs) n is = rw is (nothing_dropped xs (length xs) refl)

@@ -4,3 +4,5 @@ pub mod Steps
 pub mod Met
 pub mod Views
 pub mod Laws
+pub mod Mapped
+pub mod MappedSteps

@@ -4,4 +4,6 @@
 #![tactic(auto)]
 
 #[cfg(test)]
+mod mapped;
+#[cfg(test)]
 mod tests;

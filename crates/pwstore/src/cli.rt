@@ -3,7 +3,7 @@
 use clap::{Arg, Command};
 use rule_options::with_rules;
 use std::alloc::{AllocError, Global};
-use store_run::{ACTIONS, HELP, VERSION};
+use store_run::{ACTIONS, HELP, MAKERS, VERSION};
 
 /// The program's command line.
 pub fn command<'a>(alloc: Global) -> Result<Command<'a>, AllocError> {
@@ -14,6 +14,13 @@ pub fn command<'a>(alloc: Global) -> Result<Command<'a>, AllocError> {
     let users = Arg::new(alloc, "USERS").help(
         "The file of users for 'import'; - or left out: standard input",
     );
+    let from = Arg::new(alloc, "from")
+        .long("from")
+        .value_name("MAKER")
+        .value_parser(MAKERS)
+        .help(
+            "'import': the texts of USERS are spelled as this maker spells them; ldif: it is a dump of a directory",
+        );
     let command = Command::new(alloc, "pwstore")
         .bin_name("pwstore")?
         .version(VERSION)
@@ -23,6 +30,7 @@ pub fn command<'a>(alloc: Global) -> Result<Command<'a>, AllocError> {
         .after_help(HELP)
         .arg(file)?
         .arg(action)?
-        .arg(users);
+        .arg(users)?
+        .arg(from);
     with_rules(alloc, command)
 }

@@ -2,7 +2,8 @@
 //! file, each change of which is on the disk before it is answered. A file that isn't there is made.
 //! `pwstore FILE compact`: writes the file anew, a line for each user.
 //! `pwstore FILE export`: writes each user with its text, as a line of a shadow or htpasswd file.
-//! `pwstore FILE import`: sets the users of the lines of such a file, which is named or is standard input.
+//! `pwstore FILE import`: sets the users of the lines of such a file, which is named or is standard input. With `--from` their
+//! texts are those of another maker, as Django, LDAP or Werkzeug.
 //!
 //! Each reply goes to standard output with a line feed. Errors are one line on standard error. The status says how the run
 //! ended.
@@ -63,13 +64,14 @@ fn run_words(rt: &HostRuntime, matches: &ArgMatches<'_>) -> u8 {
         return BAD_WORDS;
     };
     let action = matches.get_str("ACTION");
-    let rules = rules_of(matches);
-    match table_action(rt, PROGRAM, name, rules, action, matches.get_str("USERS")) {
+    let users = matches.get_str("USERS");
+    let from = matches.get_str("from");
+    match table_action(rt, PROGRAM, name, rules_of(matches), action, users, from) {
         Some(status) => status,
         None => {
             say(
                 rt,
-                "after the file is nothing, 'compact', 'export', or 'import' with or without a file of users",
+                "after the file is nothing, 'compact', 'export', or 'import' with or without a file of users and --from",
             );
             BAD_WORDS
         }

@@ -3,30 +3,14 @@
 use clap::{Arg, ArgAction, Command};
 pub use rule_options::plus;
 use std::alloc::{AllocError, Global};
+use store_run::MAKERS;
 
-/// The makers of foreign texts by their names, of lines with passwords.
-const MAKERS: &[&str] = &[
+/// The makers of foreign texts by their names, of lines with passwords: all but the dump of a directory.
+const LINE_MAKERS: &[&str] = &[
     "django",
     "werkzeug",
     "passlib",
     "ldap",
-    "elasticsearch",
-    "dovecot",
-    "spring",
-    "aspnet",
-    "cisco",
-    "mosquitto",
-    "mediawiki",
-    "grub",
-];
-
-/// The same of files of users and their texts, one of which is a dump of a directory.
-const FILES: &[&str] = &[
-    "django",
-    "werkzeug",
-    "passlib",
-    "ldap",
-    "ldif",
     "elasticsearch",
     "dovecot",
     "spring",
@@ -86,7 +70,7 @@ pub fn with_maker<'a>(
     alloc: Global,
     command: Result<Command<'a>, AllocError>,
 ) -> Result<Command<'a>, AllocError> {
-    plus(command, from(alloc, FROM_MAKER).value_parser(MAKERS))
+    plus(command, from(alloc, FROM_MAKER).value_parser(LINE_MAKERS))
 }
 
 /// A form that reads files of users and their texts, with the same option, for which a file may be a dump of a directory.
@@ -94,7 +78,7 @@ pub fn with_file_of_maker<'a>(
     alloc: Global,
     command: Result<Command<'a>, AllocError>,
 ) -> Result<Command<'a>, AllocError> {
-    plus(command, from(alloc, FROM_FILE).value_parser(FILES))
+    plus(command, from(alloc, FROM_FILE).value_parser(MAKERS))
 }
 
 /// A form with the options that say what of a file is left out before it is cut into lines.

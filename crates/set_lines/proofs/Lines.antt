@@ -8,7 +8,8 @@ use Rattle.line_io.specs.Lines.{NoFeed, is_feed, lines, without_empty_last}
 use Rattle.line_io.proofs.LineLaws.{lines-first}
 use Rattle.pieces.specs.Characters.{is_tab}
 use Rattle.set_lines.specs.Sets.{name_byte, parts_of, set_of, set_text, sets_of}
-use Rattle.set_lines.proofs.Parts.{first_part, parts_with, user_with}
+use Rattle.line_filter.proofs.Placed.{first_part}
+use Rattle.set_lines.proofs.Parts.{parts_with, user_with}
 use Rattle.shadow_fields.specs.Fields.{first_field}
 
 -- ---- lines without line feeds

@@ -6,6 +6,7 @@ use Rattle.std.proofs.lemmas.Bool.{eqb-true}
 use Rattle.std.proofs.lemmas.List.Splits.{slice_split-cons_no}
 use Rattle.line_io.specs.Lines.{is_feed, without_empty_last}
 use Rattle.line_io.proofs.LineLaws.{lines-feed}
+use Rattle.line_filter.proofs.Placed.{first_part, first_stays}
 use Rattle.set_lines.specs.Rests.{given_first, line_rest, parts_rest, rest}
 use Rattle.set_lines.specs.Sets.{name_byte, parts_of, set_text, sets_of, text_part}
 use Rattle.set_lines.specs.declared.sets.Part.{Part}
@@ -14,20 +15,6 @@ use Rattle.shadow_fields.specs.Fields.{first_field, is_colon, rest_of, text_of_l
 
 unlike : (a b : ℕ) → a ≢ b → (a == b) ≡ false
 unlike a b other = grind arith
-
--- ---- the first part of a text
-
-onto_some : (b : ℕ) (parts : List (List ℕ)) → (line : List ℕ) × (more : List (List ℕ)) × (onto_first b parts ≡ line ∷ more)
-onto_some b [] = (b ∷ [], [], refl)
-onto_some b (line ∷ more) = (b ∷ line, more, refl)
-
-pub first_part : (text : List ℕ) → (line : List ℕ) × (more : List (List ℕ)) × (slice_split is_feed text ≡ line ∷ more)
-first_part [] = ([], [], refl)
-first_part (b ∷ text) =
-    elim (is_feed b)
-    as (λ v. (line : List ℕ) × (more : List (List ℕ))
-    × (cond v ([] ∷ slice_split is_feed text) (onto_first b (slice_split is_feed text)) ≡ line ∷ more))
-    [ true ↦ ([], slice_split is_feed text, refl) | false ↦ onto_some b (slice_split is_feed text) ]
 
 -- ---- a line feed, and the end
 
@@ -123,11 +110,6 @@ pub more_byte : (b : ℕ) (text : List ℕ) → b ≢ 10 → rest (Some More) (b
 more_byte b text no_feed = of_line More More b [] text no_feed (λ line. refl) (λ xs ys. refl)
 
 -- ---- the first byte of a line
-
-first_stays : (b : ℕ) (line : List ℕ) (more : List (List ℕ))
-    → without_empty_last ((b ∷ line) ∷ more) ≡ (b ∷ line) ∷ without_empty_last more
-first_stays b line [] = let some : (length (b ∷ line) == 0) ≡ false = grind arith in rw some refl
-first_stays b line (next ∷ more) = refl
 
 first_set : (line : List ℕ) (more : List (List ℕ))
     → sets_of (line ∷ more) ≡ 115 ∷ 101 ∷ 116 ∷ 9 ∷ (parts_of line ++ 10 ∷ sets_of more)

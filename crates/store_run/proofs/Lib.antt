@@ -1,2 +1,4 @@
 mod Exported
+mod Converted
+mod Refused
 mod Told

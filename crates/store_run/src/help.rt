@@ -19,7 +19,9 @@ pwstore(1) has them all.
 
 With 'compact' after FILE no command is read: FILE is written anew, a line for each user.
 With 'export' each user is written with its text, USER:TEXT, as a shadow or htpasswd file has it.
-With 'import' the users of such a file are set: the reply to each line is that of a set.
+With 'import' the users of such a file are set: the reply to each line is that of a set. With --from
+its texts are those of a maker, which are converted; the reply to a line is bad-command where its
+text isn't, and 'pwtool survey --from' tells why. With --from ldif it is a dump of a directory.
 
 Statuses:
    0  the whole input was read, and each reply is ok, match, upgraded, kept or a listing

@@ -4,6 +4,9 @@ use file_device::{DeviceFault, FileDevice, OpenFault};
 use line_log::OpenError;
 use std::io::{Error, ErrorKind};
 
+/// Why no file is opened where a standard stream is closed: the file would take its place.
+pub const STREAM_CLOSED: &str = "standard input, output or error is closed";
+
 /// The program that speaks, and the file that it speaks of, by their names.
 #[derive(Clone, Copy, Debug)]
 pub struct Speaker<'a> {
@@ -103,9 +106,7 @@ impl Speaker<'_> {
                     "{program}: {file}: it has more bytes than {program} can have written"
                 );
             }
-            OpenFault::NoStandardStream => {
-                self.say_at(rt, "standard input, output or error is closed");
-            }
+            OpenFault::NoStandardStream => self.say_at(rt, STREAM_CLOSED),
             OpenFault::Io(error) => {
                 let _ = eprintln!(rt; "{program}: {file}: {error}");
             }

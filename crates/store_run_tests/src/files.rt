@@ -1,8 +1,11 @@
 //! Files that are taken, refused, made, and made anew.
 
 use crate::helpers::{ANEW, EMPTY, NONE_FAILS, THREE, TWO, memory, opened};
-use line_log::OpenError;
+use foreign_text::Foreign;
+use line_log::{MemoryDevice, OpenError};
+use shadow_table::PLAIN_RULES;
 use std::hash::{BuildHasher, RandomState};
+use std::marker::Brand;
 use std::os::unix::fs::PermissionsExt;
 use std::{fs, io};
 use store_run::{
@@ -40,7 +43,7 @@ fn files_that_are_refused(rt: HostRuntime) {
         let Some((device, bytes)) = memory(rt.alloc(), file, NONE_FAILS) else {
             panic!(rt; "memory is wanting")
         };
-        match store_of(rt.alloc(), device, bytes, true) {
+        match store_of::<Brand, MemoryDevice>(rt.alloc(), PLAIN_RULES, device, bytes, true) {
             Err(Untaken { device, error }) => {
                 assert!(rt; error == *wanted && device.bytes() == *file, "of {i}");
             }
@@ -78,7 +81,7 @@ fn a_file_is_made(rt: HostRuntime) {
     let Some((device, bytes)) = memory(rt.alloc(), b"", NONE_FAILS) else {
         panic!(rt; "memory is wanting")
     };
-    match store_of(rt.alloc(), device, bytes, false) {
+    match store_of::<Brand, MemoryDevice>(rt.alloc(), PLAIN_RULES, device, bytes, false) {
         Ok(store) => assert!(rt; store.device().bytes() == EMPTY && store.len() == 0),
         Err(_) => panic!(rt; "it is made"),
     }
@@ -123,12 +126,15 @@ fn statuses_over_files_of_the_system(rt: HostRuntime) {
     let (name, new) = (name.as_str(), new.as_str());
     assert!(rt; compact_file(&rt, "pwstore", name) == 66);
     assert!(rt; export_file(&rt, "pwstore", name) == 66);
-    assert!(rt; serve_file(&rt, "pwstore", folder.as_str()) == 66);
+    assert!(rt; serve_file(&rt, "pwstore", folder.as_str(), PLAIN_RULES) == 66);
     // What no run has left is in the way of the first file.
-    assert!(rt; write(&rt, new, b"mine", 0o600) && serve_file(&rt, "pwstore", name) == 73);
+    assert!(rt;
+        write(&rt, new, b"mine", 0o600) && serve_file(&rt, "pwstore", name, PLAIN_RULES) == 73
+    );
     assert!(rt; has(&rt, new, b"mine") && fs::remove_file(&rt, new).is_ok());
     assert!(rt;
-        write(&rt, name, b"set\tann\t*\n", 0o600) && serve_file(&rt, "pwstore", name) == 65
+        write(&rt, name, b"set\tann\t*\n", 0o600)
+            && serve_file(&rt, "pwstore", name, PLAIN_RULES) == 65
     );
     assert!(rt; export_file(&rt, "pwstore", name) == 65);
     // With rights of others it isn't made anew, as an access control list may give them.
@@ -157,15 +163,20 @@ fn users_of_a_file(rt: HostRuntime) {
     };
     let (name, users) = (name.as_str(), users.as_str());
     // Nothing is made where there is no file of users, or a folder has its name.
-    assert!(rt; import_file(&rt, "pwstore", name, users) == 66);
-    assert!(rt; import_file(&rt, "pwstore", name, folder.as_str()) == 66);
+    assert!(rt; import_file(&rt, "pwstore", name, users, None, PLAIN_RULES) == 66);
+    assert!(rt; import_file(&rt, "pwstore", name, folder.as_str(), None, PLAIN_RULES) == 66);
     assert!(rt; fs::read(&rt, name).is_err());
-    assert!(rt; write(&rt, users, USERS, 0o600) && import_file(&rt, "pwstore", name, users) == 1);
+    assert!(rt;
+        write(&rt, users, USERS, 0o600)
+            && import_file(&rt, "pwstore", name, users, None, PLAIN_RULES) == 1
+    );
     assert!(rt; has(&rt, name, SET) && has(&rt, users, USERS));
     // The words of a command line.
     let import = Some("import");
     assert!(rt; write(&rt, users, b"bob:!", 0o600));
-    assert!(rt; table_action(&rt, "pwstore", name, import, Some(users)) == Some(0));
+    assert!(rt;
+        table_action(&rt, "pwstore", name, PLAIN_RULES, import, Some(users), None) == Some(0)
+    );
     assert!(rt;
         has(
             &rt,
@@ -173,13 +184,149 @@ fn users_of_a_file(rt: HostRuntime) {
             b"#pwstore 1\nset\tann\t!\nset\tbob\t$5\nset\tbob\t!\n#"
         )
     );
-    assert!(rt; table_action(&rt, "pwstore", name, Some("compact"), None) == Some(0));
+    assert!(rt;
+        table_action(
+            &rt,
+            "pwstore",
+            name,
+            PLAIN_RULES,
+            Some("compact"),
+            None,
+            None
+        ) == Some(0)
+    );
     assert!(rt; has(&rt, name, b"#pwstore 1\nset\tann\t!\nset\tbob\t!\n#"));
-    assert!(rt; table_action(&rt, "pwstore", name, Some("export"), None) == Some(0));
-    assert!(rt; table_action(&rt, "pwstore", name, Some("compact"), Some(users)).is_none());
-    assert!(rt; table_action(&rt, "pwstore", name, Some("export"), Some(users)).is_none());
-    assert!(rt; table_action(&rt, "pwstore", name, Some("imports"), Some(users)).is_none());
-    assert!(rt; table_action(&rt, "pwstore", name, Some("list"), None).is_none());
-    assert!(rt; table_action(&rt, "pwstore", name, None, Some(users)).is_none());
+    assert!(rt;
+        table_action(
+            &rt,
+            "pwstore",
+            name,
+            PLAIN_RULES,
+            Some("export"),
+            None,
+            None
+        ) == Some(0)
+    );
+    assert!(rt;
+        table_action(
+            &rt,
+            "pwstore",
+            name,
+            PLAIN_RULES,
+            Some("compact"),
+            Some(users),
+            None
+        )
+        .is_none()
+    );
+    assert!(rt;
+        table_action(
+            &rt,
+            "pwstore",
+            name,
+            PLAIN_RULES,
+            Some("export"),
+            Some(users),
+            None
+        )
+        .is_none()
+    );
+    assert!(rt;
+        table_action(
+            &rt,
+            "pwstore",
+            name,
+            PLAIN_RULES,
+            Some("imports"),
+            Some(users),
+            None
+        )
+        .is_none()
+    );
+    assert!(rt;
+        table_action(&rt, "pwstore", name, PLAIN_RULES, Some("list"), None, None).is_none()
+    );
+    assert!(rt; table_action(&rt, "pwstore", name, PLAIN_RULES, None, Some(users), None).is_none());
+    assert!(rt; fs::remove_dir_all(&rt, folder.as_str()).is_ok());
+}
+
+// A dump of a directory, whose third text isn't converted; its lines end with a carriage return and a line feed.
+const DUMP: &[u8] = b"dn: uid=ann,dc=x\r\nuid: ann\r\nuserPassword: {CRYPT}$5$a$b\r\n\r\n\
+    dn: cn=x\r\nuid: bob\r\nuserPassword: {CRYPT}!$5$c\r\n\r\ndn: cn=y\r\nuid: eve\r\nuserPassword: secret\r\n";
+
+#[test]
+fn users_of_another_maker(rt: HostRuntime) {
+    let Ok(folder) = folder(&rt) else {
+        panic!(rt; "no folder is made")
+    };
+    let (Some(name), Some(users)) = (
+        named(&rt, folder.as_str(), "table"),
+        named(&rt, folder.as_str(), "dump"),
+    ) else {
+        panic!(rt; "out of memory")
+    };
+    let (name, users) = (name.as_str(), users.as_str());
+    let import = Some("import");
+    assert!(rt; write(&rt, users, DUMP, 0o600));
+    // No maker has this name, and no file is made.
+    assert!(rt;
+        table_action(
+            &rt,
+            "pwstore",
+            name,
+            PLAIN_RULES,
+            import,
+            Some(users),
+            Some("LDIF")
+        )
+        .is_none()
+    );
+    assert!(rt; fs::read(&rt, name).is_err());
+    assert!(rt;
+        table_action(
+            &rt,
+            "pwstore",
+            name,
+            PLAIN_RULES,
+            import,
+            Some(users),
+            Some("ldif")
+        ) == Some(1)
+    );
+    assert!(rt; has(&rt, name, b"#pwstore 1\nset\tann\t$5$a$b\nset\tbob\t!\n#"));
+    assert!(rt;
+        write(&rt, users, b"carl:{CRYPT}$6$a$b:1:2\n", 0o600)
+            && import_file(
+                &rt,
+                "pwstore",
+                name,
+                users,
+                Some(Foreign::Ldap),
+                PLAIN_RULES
+            ) == 0
+    );
+    assert!(rt;
+        has(
+            &rt,
+            name,
+            b"#pwstore 1\nset\tann\t$5$a$b\nset\tbob\t!\nset\tcarl\t$6$a$b\n#"
+        )
+    );
+    // Without 'import' a maker is for nothing.
+    assert!(rt;
+        table_action(
+            &rt,
+            "pwstore",
+            name,
+            PLAIN_RULES,
+            Some("export"),
+            None,
+            Some("ldap")
+        )
+        .is_none()
+    );
+    assert!(rt;
+        table_action(&rt, "pwstore", name, PLAIN_RULES, None, None, Some("ldap")).is_none()
+    );
     assert!(rt; fs::remove_dir_all(&rt, folder.as_str()).is_ok());
 }

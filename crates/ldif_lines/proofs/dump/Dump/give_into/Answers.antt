@@ -1,7 +1,7 @@
 use Rattle.std.proofs.Common.{◌++◌, ◌+◌, arith, ap, drop, length, length-drop, take, sym, ◌∙◌, append_assoc, List, ℕ}
 use Rattle.ldif_lines.specs.Rests.{given_lines, rest_lines}
 use Rattle.ldif_lines.specs.Steps.{held, shown, waiting}
-use Rattle.ldif_lines.proofs.Given.{given_into}
+use Rattle.line_filter.proofs.Placed.{given_into}
 use Rattle.ldif_lines.proofs.dump.Dump.give_into.Goals as goal
 
 pub invariant_of-self : goal.invariant_of-self

@@ -1,7 +1,7 @@
 use Rattle.std.proofs.Common.{◌∙◌, ◌++◌, ap, drop, drop-drop, sym, List, ℕ}
 use Rattle.ldif_lines.specs.Steps.{pending, shown, shown_by}
 use Rattle.ldif_lines.proofs.Colons.{after_place}
-use Rattle.ldif_lines.proofs.Given.{nothing_dropped}
+use Rattle.line_filter.proofs.Placed.{nothing_dropped}
 use Rattle.ldif_lines.proofs.reader.Reader.refill.Goals as goal
 
 pub returns-clause-shown : goal.returns-clause-shown
