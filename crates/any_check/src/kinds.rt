@@ -10,6 +10,7 @@ ghost use Rattle.sha_crypt.specs.Records.{record_of};
 ghost use Rattle.yescrypt_plain.specs.Text.{scrypt_costs, yescrypt_costs};
 ghost use Rattle.any_check.specs.Kinds.{asks, bcrypt_kind, md5_fields_kind, md5_kind, phc_kind, record_costs, record_kind, row_kind, salted_kind, scrypt_kind, sha_kind, sha_text_kind, text_kind, yescrypt_kind};
 
+use crate::md5_text::is_plain;
 use crate::{Costs, NO_COSTS, TextCosts, scheme_of_text, sha_scheme};
 use bcrypt_digest::digest_cost;
 use bcrypt_plain::{BcryptFault, text_cost};
@@ -151,7 +152,8 @@ fn md5_fields_kind(fields: Fields<'_>) -> TextKind
     }
 }
 
-fn md5_kind(stored: &str) -> TextKind
+// A text of md5-crypt, read part by part.
+fn read_md5_kind(stored: &str) -> TextKind
     ensures { result ≡ md5_kind (mcf stored.now) }
 {
     match PasswordHashRef::new(stored) {
@@ -160,6 +162,16 @@ fn md5_kind(stored: &str) -> TextKind
             Some(_) => md5_fields_kind(text.fields()),
             None => TextKind::Invalid,
         },
+    }
+}
+
+fn md5_kind(stored: &str) -> TextKind
+    ensures { result ≡ md5_kind (mcf stored.now) }
+{
+    if is_plain(stored) {
+        asks(Scheme::Md5Crypt, NO_COSTS)
+    } else {
+        read_md5_kind(stored)
     }
 }
 
