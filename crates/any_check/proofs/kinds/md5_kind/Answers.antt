@@ -3,7 +3,7 @@ use Rattle.mcf.specs.Grammar.{fault, parts}
 use Rattle.md5_plain.specs.Verdict.{magic_of}
 use Rattle.any_check.specs.Kinds.{md5_fields_kind}
 use Rattle.any_check.proofs.Rows.{md5_bad_kind, md5_read_kind}
-use Rattle.any_check.proofs.kinds.read_md5_kind.Goals as goal
+use Rattle.any_check.proofs.kinds.md5_kind.Goals as goal
 
 pub returns-in-Err : goal.returns-in-Err
 returns-in-Err c =
