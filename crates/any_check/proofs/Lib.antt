@@ -6,3 +6,6 @@ pub mod Known
 mod Bound
 mod Valid
 mod RecordNames
+mod CryptLanes
+mod Md5Fields
+mod Md5Parts

@@ -1,6 +1,6 @@
 //! What a stored text is, and what it asks for.
 
-ghost use Rattle.std.specs.Prelude.{◌≡◌, is_ok, unwrap_or};
+ghost use Rattle.std.specs.Prelude.{◌≡◌, ℕ, Bool, List, IsTrue, is_ok, unwrap_or};
 ghost use Rattle.mcf.specs.Grammar.{mcf};
 ghost use Rattle.mcf.specs.Views.{fields_left};
 ghost use Rattle.phc.specs.Record.{phc_text};
@@ -8,8 +8,11 @@ ghost use Rattle.scheme_list.specs.Schemes.{row_of};
 ghost use Rattle.phc_kdf.specs.Numbers.{number};
 ghost use Rattle.sha_crypt.specs.Records.{record_of};
 ghost use Rattle.yescrypt_plain.specs.Text.{scrypt_costs, yescrypt_costs};
+ghost use Rattle.phc.specs.declared.password_hash.PasswordHash.{PasswordHash};
+ghost use Rattle.any_check.specs.Numbers.{no_costs};
 ghost use Rattle.any_check.specs.Kinds.{asks, bcrypt_kind, md5_fields_kind, md5_kind, phc_kind, record_costs, record_kind, row_kind, salted_kind, scrypt_kind, sha_kind, sha_text_kind, text_kind, yescrypt_kind};
 
+use crate::md5_text::is_plain;
 use crate::{Costs, NO_COSTS, TextCosts, scheme_of_text, sha_scheme};
 use bcrypt_digest::digest_cost;
 use bcrypt_plain::{BcryptFault, text_cost};
@@ -218,6 +221,18 @@ fn row_kind<K: PhcKdf>(kdf: &K, scheme: Scheme, stored: &str) -> TextKind
     }
 }
 
+// Whether a text of a scheme is seen to have no fault before it is read: of md5-crypt, whose texts ask for no number.
+#[inline(always)]
+fn is_seen(scheme: Scheme, stored: &str) -> bool
+    ensures valid { IsTrue result → (accepted : PasswordHash → List ℕ → ℕ → Bool)
+        → row_kind accepted scheme stored.now ≡ asks Scheme.Md5Crypt no_costs }
+{
+    match scheme {
+        Scheme::Md5Crypt => is_plain(stored),
+        _ => false,
+    }
+}
+
 /// What a stored text is, and what it asks for: a record by what `kdf` takes. Nothing is hashed, and no memory taken.
 #[tactic(auto, unfolding(crate::specs::Kinds::text_kind))]
 pub fn text_kind<K: PhcKdf>(kdf: &K, stored: &str) -> TextKind
@@ -225,6 +240,7 @@ pub fn text_kind<K: PhcKdf>(kdf: &K, stored: &str) -> TextKind
 {
     match scheme_of_text(stored) {
         None => TextKind::NoScheme,
+        Some(scheme) if is_seen(scheme, stored) => asks(Scheme::Md5Crypt, NO_COSTS),
         Some(scheme) => row_kind(kdf, scheme, stored),
     }
 }

@@ -35,9 +35,14 @@ pub enum Judgement {
 fn judged_weakness(text: &TextCosts, what: Option<Weakness>) -> Judgement
     ensures { result ≡ judged_weakness text.now what }
 {
+    // Field by field: what is between the fields isn't copied.
+    let text = TextCosts {
+        scheme: text.scheme,
+        costs: text.costs,
+    };
     match what {
-        None => Judgement::Strong(*text),
-        Some(what) => Judgement::Weak(*text, what),
+        None => Judgement::Strong(text),
+        Some(what) => Judgement::Weak(text, what),
     }
 }
 
