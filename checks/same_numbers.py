@@ -14,7 +14,7 @@ import sys
 from page_texts import TOP, end, page_texts
 
 CLI = "crates/pwtool_cli/src/cli.rt"
-BOUNDS = "crates/pwtool_forms/src/bounds.rt"
+BOUNDS = "crates/rule_options/src/bounds.rt"
 LEASTS = "crates/shadow_survey/src/least.rt"
 
 # Where each number of an option stands in a record of costs: the family, and its name there.
