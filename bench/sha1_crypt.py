@@ -6,7 +6,8 @@ libxcrypt's crypt and of passlib's own code. Then it compares the answers to the
 which characters are changed, left out or put in. By the definition a password matches exactly where libxcrypt gives the very text back, its
 rounds are 1 to 2^32 - 1, and its salt has at most 64 characters. passlib refuses each text with a fault but three kinds: those with
 an empty salt, those whose rounds have a sign or a blank that Python's int takes, and those whose hash ends in another byte than its first,
-which match no password. Texts that name more than MOST rounds are read and not hashed. libcrypt.so.1 is called through ctypes. The script installs nothing and runs no code of ours.
+which match no password. Texts that name more than MOST rounds are not hashed: how passlib reads them is compared. libcrypt.so.1 is called
+through ctypes. The script installs nothing and runs no code of ours.
 
 usage: /usr/bin/python3 bench/sha1_crypt.py [SEED [TEXTS]]      (1 and 1000 if left out; passlib is the system's Python's)
 """
@@ -238,6 +239,22 @@ def fault_of(text):
         return str(fault)
 
 
+def takes_more(fault, pieces):
+    """A text with such a fault may be one that passlib takes: with an empty salt, or with rounds that Python's int takes."""
+    return fault == "SaltLength" and pieces[3] == b"" or fault == "Rounds" and not pieces[2].isdigit()
+
+
+def compare_read(text):
+    """The first fault of a text that would take too long; passlib has to read the text or to refuse it as the definition does."""
+    fault = fault_of(text)
+    try:
+        read = of_passlib.from_string(text.decode()).checksum is not None
+    except ValueError:
+        read = False
+    need(read == (fault in (None, "FirstByte")) or read and takes_more(fault, text.split(b"$")), f"passlib disagrees: {fault} {text}")
+    return f"read alone: {fault}"
+
+
 def compare(call, password, text):
     """The answer by the definition, which the two others must have too."""
     ours, theirs, pieces = answer(password, text), by_passlib(password, text), text.split(b"$")
@@ -249,8 +266,7 @@ def compare(call, password, text):
     elif ours == "FirstByte":
         need(theirs is False, f"passlib disagrees: {ours} {password} {text}")
     else:
-        more = ours == "SaltLength" and pieces[3] == b"" or ours == "Rounds" and not pieces[2].isdigit()
-        need(theirs is None or more, f"passlib disagrees: {ours} {password} {text}")
+        need(theirs is None or takes_more(ours, pieces), f"passlib disagrees: {ours} {password} {text}")
     return "Outside" if outside else ours
 
 
@@ -269,10 +285,7 @@ def main():
         made += 1
         others = [text, text_of(rounds, salt, sha1_digest(password + b"x", salt, rounds)), other_form(rnd, text, password, call)]
         for other in others + [changed(rnd, text) for _ in range(DAMAGED)]:
-            if number_of(other) > MOST:
-                said = "read alone: " + str(fault_of(other))
-            else:
-                said = str(compare(call, password, other))
+            said = compare_read(other) if number_of(other) > MOST else str(compare(call, password, other))
             answers[said] = answers.get(said, 0) + 1
     print(f"{made} texts of the definition are libxcrypt's and passlib's")
     print(f"{sum(answers.values())} answers agree with theirs: " + ", ".join(f"{said} {times}" for said, times in sorted(answers.items())))

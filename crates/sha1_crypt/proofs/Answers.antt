@@ -10,19 +10,19 @@ use Rattle.sha1_crypt.specs.Laws.{MatchesExactly, OneText, VerdictWhereCost}
 use Rattle.sha1_crypt.specs.Text.{Parts, parts_cost, text_parts}
 use Rattle.sha1_crypt.specs.declared.error.Sha1Fault.{Sha1Fault}
 use Rattle.sha1_crypt.proofs.Rounds.{is_digest}
-use Rattle.sha1_crypt.proofs.Texts.{text_is, text_read}
+use Rattle.sha1_crypt.proofs.Texts.{is_text_of, text_read}
 
 pub one_text : OneText
-one_text text p h = (text_is text p h).is
+one_text text p h = (is_text_of text p h).is
 
 by_parts : (password : List ℕ) (r : Result Parts Sha1Fault)
     → is_ok (answer_by (pointwise nat_eq) password r) ≡ is_ok (parts_cost r)
 by_parts password (Err e) = refl
 by_parts password (Ok p) = refl
 
-pub verdict_where_cost : VerdictWhereCost
+pub verdict_where_rounds : VerdictWhereCost
 unfolding sha1_answer
-verdict_where_cost password text = by_parts password (text_parts text)
+verdict_where_rounds password text = by_parts password (text_parts text)
 
 abbrev found : Bool → Result Bool Sha1Fault
 found b = Ok b
@@ -34,7 +34,7 @@ passed_by : (password text : List ℕ) (r : Result Parts Sha1Fault) → text_par
     → answer_by (pointwise nat_eq) password r ≡ Ok true → IsHashText password text
 passed_by password text (Err e) read h = absurd (err_ok e true h)
 passed_by password text (Ok p) read h =
-    let t = text_is text p read in
+    let t = is_text_of text p read in
     let digest : List ℕ = sha1_digest password p.salt p.rounds in
     let same : digest ≡ p.hash = same_true digest p.hash (same_answer (pointwise nat_eq digest p.hash) h) in
     (p.rounds, p.salt, t.valid, sym t.is ∙ ap (text_of p.rounds p.salt) (sym same))
@@ -54,5 +54,5 @@ passes password text h =
     ∙ ap (answer_by (pointwise nat_eq) password) (text_read rounds salt digest h.2 is.long is.below)
     ∙ ap found (true_same digest)
 
-pub matches_exactly : MatchesExactly
-matches_exactly password text = (passed password text, passes password text)
+pub matches_own_texts : MatchesExactly
+matches_own_texts password text = (passed password text, passes password text)

@@ -138,17 +138,14 @@ answer_found text bytes (Some digest) h e = digest_found text bytes digest h (sy
 pub answer_none : (text : List ℕ) → field_bytes 21 text ≡ None → (digest : List ℕ) → IsSha1FieldOf text digest → ⊥
 answer_none text none digest is = no_bytes text digest none is
 
-encoding_len : (b : List ℕ) → EachBelow 256 b → length (encoding base64_sha_crypt b) ≡ (4 * length b + 2) / 3
-encoding_len b below =
-    length-decodable base64_sha_crypt (encoding base64_sha_crypt b) b refl (decoding-encoding base64_sha_crypt b refl below)
-
 -- a field has 28 characters
 pub field_long : (digest : List ℕ) → length digest ≡ 20 → EachBelow 256 digest → length (sha1_field digest) ≡ 28
 unfolding hash_field
 field_long digest len below =
     let w : List ℕ = with_first digest in
     let small : EachBelow 256 (in_order map_sha1 w) = of_hash.below_map map_sha1 w (with_first_below digest below) in
-    encoding_len (in_order map_sha1 w) small
+    length-decodable base64_sha_crypt (encoding base64_sha_crypt (in_order map_sha1 w)) (in_order map_sha1 w) refl
+    (decoding-encoding base64_sha_crypt (in_order map_sha1 w) refl small)
 
 pub field_length : (text digest : List ℕ) → IsSha1FieldOf text digest → length text ≡ 28
 field_length text digest is = ap length is.2 ∙ field_long digest is.0 is.1

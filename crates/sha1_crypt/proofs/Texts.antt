@@ -93,25 +93,25 @@ rounds_is text (Some m) n is e =
 
 -- ---- the salt and the hash
 
-abbrev pub parts : ℕ → List ℕ → List ℕ → Parts
-parts rounds salt hash = record { rounds = rounds; salt = salt; hash = hash }
+abbrev pub read_parts : ℕ → List ℕ → List ℕ → Parts
+read_parts rounds salt hash = record { rounds = rounds; salt = salt; hash = hash }
 
 of_digest : (rounds : ℕ) (salt hash bytes : List ℕ) (p : Parts) (r : Option (List ℕ)) → field_bytes 21 hash ≡ Some bytes
     → placed_digest bytes ≡ r → by_digest rounds salt r ≡ Ok p
-    → (digest : List ℕ) × (parts rounds salt digest ≡ p) × IsSha1FieldOf hash digest
+    → (digest : List ℕ) × (read_parts rounds salt digest ≡ p) × IsSha1FieldOf hash digest
 of_digest rounds salt hash bytes p None read placed e = absurd (err_ok FirstByte p e)
 of_digest rounds salt hash bytes p (Some digest) read placed e =
-    let is : parts rounds salt digest ≡ p = cc in
+    let is : read_parts rounds salt digest ≡ p = cc in
     (digest, is, digest_found hash bytes digest read placed)
 
 of_bytes : (rounds : ℕ) (salt hash : List ℕ) (p : Parts) (o : Option (List ℕ)) → field_bytes 21 hash ≡ o
-    → by_bytes rounds salt o ≡ Ok p → (digest : List ℕ) × (parts rounds salt digest ≡ p) × IsSha1FieldOf hash digest
+    → by_bytes rounds salt o ≡ Ok p → (digest : List ℕ) × (read_parts rounds salt digest ≡ p) × IsSha1FieldOf hash digest
 of_bytes rounds salt hash p None read e = absurd (err_ok HashCharacter p e)
 of_bytes rounds salt hash p (Some bytes) read e =
     of_digest rounds salt hash bytes p (placed_digest bytes) read refl e
 
 of_hash : (rounds : ℕ) (salt hash : List ℕ) (p : Parts) → by_hash rounds salt hash ≡ Ok p
-    → (digest : List ℕ) × (parts rounds salt digest ≡ p) × IsSha1FieldOf hash digest
+    → (digest : List ℕ) × (read_parts rounds salt digest ≡ p) × IsSha1FieldOf hash digest
 of_hash rounds salt hash p e =
     let both = where_so (length hash == 28) HashLength (by_bytes rounds salt (field_bytes 21 hash)) p e in
     of_bytes rounds salt hash p (field_bytes 21 hash) refl both.1
@@ -155,9 +155,9 @@ by_text : (text : List ℕ) (r : Result Fields Sha1Fault) (p : Parts) → text_f
 by_text text (Err e) p read h = absurd (err_ok e p h)
 by_text text (Ok f) p read h = of_rounds text f (rounds_of f.rounds) p read refl h
 
-pub text_is : (text : List ℕ) (p : Parts) → text_parts text ≡ Ok p → IsTextOf text p
+pub is_text_of : (text : List ℕ) (p : Parts) → text_parts text ≡ Ok p → IsTextOf text p
 unfolding text_parts
-text_is text p h = by_text text (text_fields text) p refl h
+is_text_of text p h = by_text text (text_fields text) p refl h
 
 -- ---- a text is read back
 
@@ -172,8 +172,8 @@ values_of [] below = refl
 values_of (v ∷ values) below =
     rw (passes_at is_crypt_character base64_sha_crypt.characters v refl (below 0)) (values_of values (λ i. below (suc i)))
 
-lacks_dollar : (text : List ℕ) → list_all is_crypt_character text ≡ true → LacksByte 36 text
-lacks_dollar text h = lacks is_crypt_character 36 refl text h
+without_dollar : (text : List ℕ) → list_all is_crypt_character text ≡ true → LacksByte 36 text
+without_dollar text h = lacks is_crypt_character 36 refl text h
 
 written_below : (digest : List ℕ) → EachBelow 256 digest → EachBelow 256 (in_order map_sha1 (with_first digest))
 written_below digest below = below_map map_sha1 (with_first digest) (with_first_below digest below)
@@ -182,7 +182,7 @@ sha1_field_lacks : (digest : List ℕ) → EachBelow 256 digest → LacksByte 36
 unfolding hash_field encoding
 sha1_field_lacks digest below =
     let bytes : List ℕ = in_order map_sha1 (with_first digest) in
-    lacks_dollar (sha1_field digest)
+    without_dollar (sha1_field digest)
     (all_append is_crypt_character (map (character base64_sha_crypt) (groups true bytes)) []
     (values_of (groups true bytes) (groups-below true bytes (written_below digest below))) refl)
 
@@ -195,7 +195,7 @@ bytes_read digest below =
     (decoding_is base64_sha_crypt (encoding base64_sha_crypt bytes) bytes refl (written_below digest below) refl)
 
 hash_read : (rounds : ℕ) (salt digest : List ℕ) → length digest ≡ 20 → EachBelow 256 digest
-    → by_hash rounds salt (sha1_field digest) ≡ Ok (parts rounds salt digest)
+    → by_hash rounds salt (sha1_field digest) ≡ Ok (read_parts rounds salt digest)
 hash_read rounds salt digest long below =
     let field : IsSha1FieldOf (sha1_field digest) digest = (long, below, refl) in
     let bytes = bytes_read digest below in
@@ -205,7 +205,7 @@ hash_read rounds salt digest long below =
     rw (test, bytes, found) refl
 
 salt_read : (rounds : ℕ) (salt digest : List ℕ) → AreValid rounds salt → length digest ≡ 20 → EachBelow 256 digest
-    → by_salt rounds salt (sha1_field digest) ≡ Ok (parts rounds salt digest)
+    → by_salt rounds salt (sha1_field digest) ≡ Ok (read_parts rounds salt digest)
 salt_read rounds salt digest valid long below =
     let some : nat_le 1 (length salt) ≡ true = grind (arith, nat_tests, valid.some) in
     let short : nat_le (length salt) 64 ≡ true = grind (arith, nat_tests, valid.short) in
@@ -219,15 +219,15 @@ fields_read : (rounds salt hash : List ℕ) → LacksByte 36 rounds → LacksByt
 unfolding text_fields
 fields_read rounds salt hash of_rounds of_salt of_hash =
     let cut = cut_joined 36 [] (codes "sha1" ∷ (rounds ∷ (salt ∷ (hash ∷ [])))) (lacks_none 36)
-    (lacks_dollar (codes "sha1") refl, (of_rounds, (of_salt, (of_hash, tt)))) in
+    (without_dollar (codes "sha1") refl, (of_rounds, (of_salt, (of_hash, tt)))) in
     rw cut refl
 
 pub text_read : (rounds : ℕ) (salt digest : List ℕ) → AreValid rounds salt → length digest ≡ 20 → EachBelow 256 digest
-    → text_parts (text_of rounds salt digest) ≡ Ok (parts rounds salt digest)
+    → text_parts (text_of rounds salt digest) ≡ Ok (read_parts rounds salt digest)
 unfolding text_parts
 text_read rounds salt digest valid long below =
     let cut = fields_read (decimal rounds) salt (sha1_field digest) (decimal_lacks rounds (omega (arith, valid.most)))
-    (lacks_dollar salt valid.characters) (sha1_field_lacks digest below) in
+    (without_dollar salt valid.characters) (sha1_field_lacks digest below) in
     ap parts_of cut
     ∙ ap (λ (o : Option ℕ). by_rounds o salt (sha1_field digest)) (rounds_read rounds valid.least valid.most)
     ∙ salt_read rounds salt digest valid long below

@@ -1,10 +1,11 @@
 -- The texts `$sha1$rounds$salt$hash` (crypt(5) of libxcrypt), cut at each `$`: the first fault, or the rounds, a salt and a
 -- digest. The order of the faults is ours.
 --
--- libxcrypt reads more as a setting: a number with zeros or one `+` in front, no number or a number below 2 ^ 64, a salt of any
--- length, and anything behind the salt. It writes the number plainly, so of its own texts only those of 0 rounds, of 2 ^ 32
--- rounds and more, and of a salt above 64 characters are none here. passlib reads 1 to 2 ^ 32 - 1 rounds, plainly written, and
--- up to 64 characters of a salt, as here. It reads an empty salt too, and any 28 characters as hash.
+-- libxcrypt takes more as a setting: the number that C's strtoul reads, which is 0 where there are no digits, a salt of any length, and
+-- anything after the salt. It writes the number plainly. So of its own texts those of 0 rounds, of 2 ^ 32 rounds and more, and of
+-- a salt above 64 characters are none here. passlib takes three kinds of texts more: those with an empty salt, those whose rounds
+-- have a sign, a blank or a `_` that Python's int takes, and those whose last group writes another byte than the first. The
+-- last kind matches no password there.
 use Rattle.std.specs.Prelude.{ℕ, ◌^◌, ◌==◌, ◌&&◌, Bool, List, [], ◌∷◌, length, nat_eq, nat_le, codes}
 use Rattle.std.specs.Prelude.{Option, Some, None, Result, Ok, Err, if◌then◌else◌}
 use Rattle.std.specs.Cmp.Lexicographic.{pointwise}
