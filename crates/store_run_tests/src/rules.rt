@@ -65,28 +65,28 @@ fn replies(
     lines: &[&str],
     status: u8,
 ) -> Result<String, AllocError> {
-    replies_by::<Brand>(alloc, *rules, lines, status)
-}
-
-// The same by rules that the type has.
-fn replies_by<T: TableRuled>(
-    alloc: Global,
-    rules: TableRules,
-    lines: &[&str],
-    status: u8,
-) -> Result<String, AllocError>
-    requires rules { rules ≡ T.rules }
-{
     let mut input = String::new(alloc);
     for line in lines {
         input.push_str(line)?;
         input.push_str("\n")?;
     }
+    replies_by::<Brand>(alloc, *rules, input.as_bytes(), status)
+}
+
+// The same of an input, by rules that the type has.
+fn replies_by<T: TableRuled>(
+    alloc: Global,
+    rules: TableRules,
+    input: &[u8],
+    status: u8,
+) -> Result<String, AllocError>
+    requires rules { rules ≡ T.rules }
+{
     let Some(mut store) = opened_by::<T>(alloc, rules, EMPTY, NONE_FAILS) else {
         return Err(AllocError);
     };
     let mut room = [0; 1_024];
-    let mut source = MemorySource::new(input.as_bytes(), 10_000, &[]);
+    let mut source = MemorySource::new(input, 10_000, &[]);
     let mut sink = MemorySink::new(&mut room, 1_024, &[]);
     if serve(&mut store, &mut source, &mut sink) != status {
         return String::from_str(alloc, "another status");
