@@ -523,6 +523,17 @@ fn rules_in_the_help_of_make(rt: HostRuntime) -> Result<(), Fail> {
     Ok(())
 }
 
+// The bound that the words of a form give.
+fn bound_by(rt: &HostRuntime, words: &[&str]) -> Result<Option<Option<SchemeCosts>>, Fail> {
+    let Ok(matches) = command(rt.alloc(), "")?.try_get_matches_from(words) else {
+        return Ok(None);
+    };
+    match matches.subcommand() {
+        Some((_, matches)) => Ok(Some(bound_of(matches))),
+        None => Ok(None),
+    }
+}
+
 #[test]
 fn bounds_by_options(rt: HostRuntime) -> Result<(), Fail> {
     let words = [
@@ -562,13 +573,29 @@ fn bounds_by_options(rt: HostRuntime) -> Result<(), Fail> {
         scrypt: Costs::of_ln_r_p(10, 11, 12),
         argon2: Costs::of_m_t_p(13, 14, 15),
     };
-    let Ok(matches) = command(rt.alloc(), "")?.try_get_matches_from(&words) else {
-        panic!(rt; "the words are of a form")
+    assert!(rt; bound_by(&rt, &words)? == Some(Some(limits)));
+    Ok(())
+}
+
+// An option leaves the other schemes their own greatest numbers, which are the ends of the ranges in the manual page.
+#[test]
+fn bounds_of_other_schemes(rt: HostRuntime) -> Result<(), Fail> {
+    let own = SchemeCosts {
+        sha_crypt: Costs::of_rounds(999_999_999),
+        bcrypt: Costs::of_cost(31),
+        yescrypt: Costs::of_ln_r_t(23, 524_287, 1_024),
+        pbkdf2_sha256: Costs::of_rounds(10_000_000),
+        pbkdf2_sha512: Costs::of_rounds(10_000_000),
+        scrypt: Costs::of_ln_r_p(24, 131_072, 1_024),
+        argon2: Costs::of_m_t_p(2_097_152, 2_097_152, 262_144),
     };
-    let Some((_, matches)) = matches.subcommand() else {
-        panic!(rt; "a form is named")
-    };
-    assert!(rt; bound_of(matches) == Some(limits));
+    let of_bcrypt = ["pwtool", "check", "--max-bcrypt-cost", "5"];
+    let of_sha = ["pwtool", "check", "--max-sha-rounds", "1001"];
+    let bcrypt = Costs::of_cost(5);
+    let sha_crypt = Costs::of_rounds(1_001);
+    assert!(rt; bound_by(&rt, &of_bcrypt)? == Some(Some(SchemeCosts { bcrypt, ..own })));
+    assert!(rt; bound_by(&rt, &of_sha)? == Some(Some(SchemeCosts { sha_crypt, ..own })));
+    assert!(rt; bound_by(&rt, &["pwtool", "check"])? == Some(None));
     Ok(())
 }
 
