@@ -3,4 +3,4 @@ mod Shown
 mod Noticing
 mod Sources
 mod Lines
-mod Placed
+pub mod Placed
