@@ -92,7 +92,7 @@ fn converted_lines(rt: HostRuntime) -> Result<(), Fail> {
 #[test]
 fn lines_that_do_not_fit(rt: HostRuntime) -> Result<(), Fail> {
     let text = b":{PBKDF2-SHA256}7$YWJjZGVmZ2g$oNzBqFb03A.goX/CUpviOBd1EZ5cZP30Ade7.vnhkhM\n";
-    for (user, fits) in [(8_116usize, true), (8_117, true), (8_118, false)] {
+    for (user, count) in [(8_116u64, 8_192), (8_117, 8_193), (8_118, 1)] {
         let mut lines = Vec::new(rt.alloc());
         for _ in 0..user {
             lines.push(b'a')?;
@@ -106,7 +106,6 @@ fn lines_that_do_not_fit(rt: HostRuntime) -> Result<(), Fail> {
         let mut source = MappedLines::new(texts, MemorySource::new(&lines, 5_000, &[]));
         let mut out = Vec::new(rt.alloc());
         assert!(rt; all_of(&mut source, &mut out)?);
-        let count = if fits { lines.len() + 2 } else { 1 };
         assert!(rt; out.len() == count, "{user}");
     }
     Ok(())

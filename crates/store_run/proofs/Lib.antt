@@ -1,4 +1,5 @@
 mod Exported
 mod Converted
 mod Refused
+mod Conversions
 mod Told

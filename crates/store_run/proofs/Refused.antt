@@ -5,6 +5,7 @@ use Rattle.std.specs.List.{list_any}
 use Rattle.std.specs.Str.{is_utf8}
 use Rattle.std.proofs.lemmas.Bool.{and_parts, false≢true}
 use Rattle.std.proofs.lemmas.Bool.Decides.{nat_tests}
+use Rattle.std.proofs.Math.Bool.{or-true}
 use Rattle.line_io.specs.Limits.{line_max}
 use Rattle.pieces.specs.Characters.{is_tab}
 use Rattle.pw_file.specs.Commands.{Command, command, cut_at_tab, on_user}
@@ -25,25 +26,23 @@ use Rattle.shadow_table.specs.Fields.{has_name_bytes, is_cut_byte, is_user_name}
 
 named_tabless : (name : List ℕ) → list_any is_tab (map name_byte name) ≡ false
 named_tabless [] = refl
-named_tabless (b ∷ name) = by_tab (is_tab b) refl
+named_tabless (b ∷ name) = by_tab (named_tabless name) (is_tab b) refl
   where
-    by_tab : (test : Bool) → is_tab b ≡ test → list_any is_tab (map name_byte (b ∷ name)) ≡ false
-    by_tab true is = rw is (named_tabless name)
-    by_tab false is = rw is (rw is (named_tabless name))
+    by_tab : list_any is_tab (map name_byte name) ≡ false → (test : Bool) → is_tab b ≡ test
+        → list_any is_tab (map name_byte (b ∷ name)) ≡ false
+    by_tab rest true is = rw is rest
+    by_tab rest false is = rw is (rw is rest)
 
 tab_cuts : (name : List ℕ) → list_any is_tab name ≡ true → list_any is_cut_byte (map name_byte name) ≡ true
 tab_cuts [] never = absurd (cc never)
-tab_cuts (b ∷ name) has = by_tab (is_tab b) refl
+tab_cuts (b ∷ name) has = by_tab (λ rest. tab_cuts name rest) (is_tab b) refl
   where
-    by_tab : (test : Bool) → is_tab b ≡ test → list_any is_cut_byte (map name_byte (b ∷ name)) ≡ true
-    by_tab true is = rw is refl
-    by_tab false is =
-        let more = tab_cuts name (rw is at has) in
-        rw is (rw more (any_true (is_cut_byte b)))
-
-    any_true : (t : Bool) → (if t then true else true) ≡ true
-    any_true true = refl
-    any_true false = refl
+    by_tab : (list_any is_tab name ≡ true → list_any is_cut_byte (map name_byte name) ≡ true) → (test : Bool) → is_tab b ≡ test
+        → list_any is_cut_byte (map name_byte (b ∷ name)) ≡ true
+    by_tab more true is = rw is refl
+    by_tab more false is =
+        let rest : list_any is_cut_byte (map name_byte name) ≡ true = more (rw is at has) in
+        rw is (rw rest (or-true (is_cut_byte b)))
 
 cut_no_name : (name : List ℕ) → list_any is_cut_byte name ≡ true → is_user_name name ≡ false
 cut_no_name name cut = by_name (is_user_name name) refl
@@ -87,7 +86,7 @@ no_command r line none = by_utf8 (is_utf8 (set_of line)) refl
 
 -- ---- what is no command changes nothing
 
-long_or_bad : Bool → Reply
+abbrev long_or_bad : Bool → Reply
 long_or_bad long = if long then Says TooLong else Says BadCommand
 
 -- by whether a write has failed, by whether the line is too long, and by the command

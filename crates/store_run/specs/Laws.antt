@@ -1,12 +1,17 @@
 -- Laws over lines that are imported.
-use Rattle.std.specs.Prelude.{◌≡◌, ◌⊎◌, ◌<◌, ℕ, List, false, length, None}
+use Rattle.std.specs.Prelude.{◌≡◌, ◌⊎◌, ◌<◌, ℕ, List, codes, false, length, true, Err, None, Ok, Some}
+use Rattle.foreign_lines.specs.Converting.{converted_line, stays}
+use Rattle.foreign_lines.specs.Parts.{text_in}
+use Rattle.foreign_text.specs.Converted.{converted}
+use Rattle.foreign_text.specs.declared.converted.Foreign.{Foreign}
+use Rattle.foreign_text.specs.declared.fault.ForeignFault.TheVariants.{Locked}
 use Rattle.line_io.specs.Limits.{line_max}
-use Rattle.pw_file.specs.Commands.{command}
+use Rattle.pw_file.specs.Commands.{Set, command}
 use Rattle.pw_file.specs.History.{Says}
 use Rattle.pw_file.specs.declared.reply.Word.TheVariants.{BadCommand, TooLong}
 use Rattle.pw_store.specs.Run.{State, store_after, store_reply}
 use Rattle.set_lines.specs.Sets.{set_of}
-use Rattle.shadow_fields.specs.Fields.{has_user}
+use Rattle.shadow_fields.specs.Fields.{first_field, has_user, rest_of, user_of}
 use Rattle.shadow_table.specs.AnyTexts.{any_texts}
 use Rattle.shadow_table.specs.declared.rules.TableRules.{TableRules}
 
@@ -20,3 +25,16 @@ NoUserNoChange = (r : TableRules) (s : State) (line : List ℕ) → has_user lin
     → ((store_after (any_texts r) s (set_of line)).rows ≡ s.rows)
     × ((store_reply (any_texts r) s (set_of line) ≡ Says BadCommand)
     ⊎ ((line_max < length (set_of line)) × (store_reply (any_texts r) s (set_of line) ≡ Says TooLong)))
+
+-- What is set for a text of another maker: the converted one; `!` where the account is locked in the maker's own way; or an empty
+-- text or a locked one as it is, up to a colon.
+abbrev pub IsImported : Foreign → List ℕ → List ℕ → Type 0
+IsImported foreign given text =
+    (converted foreign given ≡ Ok text)
+    ⊎ (((converted foreign given ≡ Err Locked) × (text ≡ codes "!")) ⊎ ((stays foreign given ≡ true) × (text ≡ first_field given)))
+
+-- A converted line that is a command sets such a text for its user.
+abbrev pub ImportsConverted : Type 0
+ImportsConverted = (r : TableRules) (foreign : Foreign) (line user text : List ℕ)
+    → command (any_texts r) (set_of (converted_line foreign line)) ≡ Some (Set user text)
+    → (has_user line ≡ true) × ((user ≡ user_of line) × IsImported foreign (text_in foreign (rest_of line)) text)
