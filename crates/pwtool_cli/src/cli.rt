@@ -167,7 +167,7 @@ fn survey<'a>(alloc: Global) -> Result<Command<'a>, AllocError> {
     let command = plus(command, flag(alloc, "csv", csv));
     let json = "Write an object of JSON a line, and no counts";
     let command = plus(command, flag(alloc, "json", json));
-    with_most(
+    with_costs(
         alloc,
         with_telling(
             alloc,

@@ -9,7 +9,8 @@ use sha1_crypt::{
 };
 
 // The passwords and the salts of the table are the fronts of these.
-const PASSWORD: &[u8] = b"abcdefghijklmnopqrstuvwxyzABCDEFGHIJKLMNOPQRSTUVWXYZ0123456789abcdefghijklmnopqrstuvwxyzABCDEFGHIJKLMNOPQRSTUVWXYZ0123456789\xc3\xa9\xff\x80\x01 \t~zyxwvutsrqponmlkjihgfedcbaZYXWVUTSRQPONMLKJIHGFEDCBA9876543210zyxwvutsrqponmlkjihgfedcbaZYXWVUTSRQPONMLKJIHGFEDCBA9876543210zyxwvutsrqponmlkjihgfedcbaZYXWVUTSRQPONMLKJI";
+const PASSWORD: &[u8] =
+    b"abcdefghijklmnopqrstuvwxyzABCDEFGHIJKLMNOPQRSTUVWXYZ0123456789abcdefghijklmnopqrstuvwxyzABCDEFGHIJKLMNOPQRSTUVWXYZ0123456789\xc3\xa9\xff\x80\x01 \t~zyxwvutsrqponmlkjihgfedcbaZYXWVUTSRQPONMLKJIHGFEDCBA9876543210zyxwvutsrqponmlkjihgfedcbaZYXWVUTSRQPONMLKJIHGFEDCBA9876543210zyxwvutsrqponmlkjihgfedcbaZYXWVUTSRQPONMLKJI";
 
 const SALT: &[u8] = b"./0123456789ABCDEFGHIJKLMNOPQRSTUVWXYZabcdefghijklmnopqrstuvwxyz";
 
@@ -55,7 +56,12 @@ fn is_field(password: &[u8], salt: &[u8], rounds: u32, text: &str) -> bool
 fn fields(rt: HostRuntime) {
     for (password, salt, rounds, text) in FIELDS {
         assert!(rt; 1 <= *rounds);
-        let is = is_field(front(PASSWORD, *password), front(SALT, *salt), *rounds, text);
+        let is = is_field(
+            front(PASSWORD, *password),
+            front(SALT, *salt),
+            *rounds,
+            text,
+        );
         assert!(rt; is, "{text}");
     }
 }
@@ -81,11 +87,7 @@ fn fields_refused(rt: HostRuntime) {
 const TEXTS: &[(&[u8], &str, u32)] = &[
     (b"", "$sha1$1$salt$G9jISTCOzdh3mPgaiRK7IqRFGpP5", 1),
     (b"pw", "$sha1$2$s$jaZMQW0pzd8y0JOtzRCcOpneWhN6", 2),
-    (
-        b"test",
-        "$sha1$1$Wq3GL2Vp$C8U25GvfHS8qGHimExLaiSFlGkAe",
-        1,
-    ),
+    (b"test", "$sha1$1$Wq3GL2Vp$C8U25GvfHS8qGHimExLaiSFlGkAe", 1),
     (
         b"p\xc3\xa4ss",
         "$sha1$19$./09AZaz$dNSibDkWcBFrQTloA.AqkBzstuKE",
@@ -101,26 +103,10 @@ const TEXTS: &[(&[u8], &str, u32)] = &[
         "$sha1$100$abcdefgh$wrraxyGq7l4PujQamUHspQm0PmYM",
         100,
     ),
-    (
-        b"abc",
-        "$sha1$1$abcdefgh$Vzgzu7k/CwB0p6OQd0U2h2fgynnm",
-        1,
-    ),
-    (
-        b"a\0b",
-        "$sha1$2$abcdefgh$9AUYjFOMvpOZ3M9m9g/p94lLGuBu",
-        2,
-    ),
-    (
-        b"a\0c",
-        "$sha1$2$abcdefgh$O7DO8VMFoYWN2gYiROdN/5Ufc73E",
-        2,
-    ),
-    (
-        b"a",
-        "$sha1$2$abcdefgh$5jWpivymmpGRtDRg2xw3CxlzK9Mr",
-        2,
-    ),
+    (b"abc", "$sha1$1$abcdefgh$Vzgzu7k/CwB0p6OQd0U2h2fgynnm", 1),
+    (b"a\0b", "$sha1$2$abcdefgh$9AUYjFOMvpOZ3M9m9g/p94lLGuBu", 2),
+    (b"a\0c", "$sha1$2$abcdefgh$O7DO8VMFoYWN2gYiROdN/5Ufc73E", 2),
+    (b"a", "$sha1$2$abcdefgh$5jWpivymmpGRtDRg2xw3CxlzK9Mr", 2),
 ];
 
 // Whether a password has this answer for a text by both calls, with the numbers of a verdict.
@@ -155,11 +141,23 @@ fn counts_added(rt: HostRuntime) {
 // Texts and their first fault. Each text but the first of a fault has a later fault too, or is near to one without a fault.
 const FAULTS: &[(&str, Sha1Fault)] = &[
     ("", Sha1Fault::WrongId),
-    ("sha1$1$salt$G9jISTCOzdh3mPgaiRK7IqRFGpP5", Sha1Fault::NoDollar),
+    (
+        "sha1$1$salt$G9jISTCOzdh3mPgaiRK7IqRFGpP5",
+        Sha1Fault::NoDollar,
+    ),
     ("x$sha2", Sha1Fault::NoDollar),
-    (" $sha1$1$salt$G9jISTCOzdh3mPgaiRK7IqRFGpP5", Sha1Fault::NoDollar),
-    ("$sha2$1$salt$G9jISTCOzdh3mPgaiRK7IqRFGpP5", Sha1Fault::WrongId),
-    ("$SHA1$1$salt$G9jISTCOzdh3mPgaiRK7IqRFGpP5", Sha1Fault::WrongId),
+    (
+        " $sha1$1$salt$G9jISTCOzdh3mPgaiRK7IqRFGpP5",
+        Sha1Fault::NoDollar,
+    ),
+    (
+        "$sha2$1$salt$G9jISTCOzdh3mPgaiRK7IqRFGpP5",
+        Sha1Fault::WrongId,
+    ),
+    (
+        "$SHA1$1$salt$G9jISTCOzdh3mPgaiRK7IqRFGpP5",
+        Sha1Fault::WrongId,
+    ),
     ("$sha1x", Sha1Fault::WrongId),
     ("$", Sha1Fault::WrongId),
     ("$sha1", Sha1Fault::NoRounds),
@@ -167,35 +165,95 @@ const FAULTS: &[(&str, Sha1Fault)] = &[
     ("$sha1$1", Sha1Fault::NoSalt),
     ("$sha1$x$", Sha1Fault::NoHash),
     ("$sha1$1$salt", Sha1Fault::NoHash),
-    ("$sha1$x$salt$G9jISTCOzdh3mPgaiRK7IqRFGpP5$", Sha1Fault::Trailing),
-    ("$sha1$1$salt$G9jISTCOzdh3mPgaiRK7IqRFGpP5$x$y", Sha1Fault::Trailing),
+    (
+        "$sha1$x$salt$G9jISTCOzdh3mPgaiRK7IqRFGpP5$",
+        Sha1Fault::Trailing,
+    ),
+    (
+        "$sha1$1$salt$G9jISTCOzdh3mPgaiRK7IqRFGpP5$x$y",
+        Sha1Fault::Trailing,
+    ),
     ("$sha1$$$", Sha1Fault::Rounds),
-    ("$sha1$0$salt$G9jISTCOzdh3mPgaiRK7IqRFGpP5", Sha1Fault::Rounds),
-    ("$sha1$01$salt$G9jISTCOzdh3mPgaiRK7IqRFGpP5", Sha1Fault::Rounds),
-    ("$sha1$00$salt$G9jISTCOzdh3mPgaiRK7IqRFGpP5", Sha1Fault::Rounds),
-    ("$sha1$+1$salt$G9jISTCOzdh3mPgaiRK7IqRFGpP5", Sha1Fault::Rounds),
-    ("$sha1$1 $salt$G9jISTCOzdh3mPgaiRK7IqRFGpP5", Sha1Fault::Rounds),
+    (
+        "$sha1$0$salt$G9jISTCOzdh3mPgaiRK7IqRFGpP5",
+        Sha1Fault::Rounds,
+    ),
+    (
+        "$sha1$01$salt$G9jISTCOzdh3mPgaiRK7IqRFGpP5",
+        Sha1Fault::Rounds,
+    ),
+    (
+        "$sha1$00$salt$G9jISTCOzdh3mPgaiRK7IqRFGpP5",
+        Sha1Fault::Rounds,
+    ),
+    (
+        "$sha1$+1$salt$G9jISTCOzdh3mPgaiRK7IqRFGpP5",
+        Sha1Fault::Rounds,
+    ),
+    (
+        "$sha1$1 $salt$G9jISTCOzdh3mPgaiRK7IqRFGpP5",
+        Sha1Fault::Rounds,
+    ),
     ("$sha1$1x$$", Sha1Fault::Rounds),
-    ("$sha1$4294967296$salt$G9jISTCOzdh3mPgaiRK7IqRFGpP5", Sha1Fault::Rounds),
-    ("$sha1$18446744073709551617$salt$G9jISTCOzdh3mPgaiRK7IqRFGpP5", Sha1Fault::Rounds),
-    ("$sha1$1$$G9jISTCOzdh3mPgaiRK7IqRFGpP5", Sha1Fault::SaltLength),
+    (
+        "$sha1$4294967296$salt$G9jISTCOzdh3mPgaiRK7IqRFGpP5",
+        Sha1Fault::Rounds,
+    ),
+    (
+        "$sha1$18446744073709551617$salt$G9jISTCOzdh3mPgaiRK7IqRFGpP5",
+        Sha1Fault::Rounds,
+    ),
+    (
+        "$sha1$1$$G9jISTCOzdh3mPgaiRK7IqRFGpP5",
+        Sha1Fault::SaltLength,
+    ),
     (
         "$sha1$1$-aaaaaaaaaaaaaaaaaaaaaaaaaaaaaaaaaaaaaaaaaaaaaaaaaaaaaaaaaaaaaaaa$x",
         Sha1Fault::SaltLength,
     ),
-    ("$sha1$1$sa-t$G9jISTCOzdh3mPgaiRK7IqRFGpP5", Sha1Fault::SaltCharacter),
+    (
+        "$sha1$1$sa-t$G9jISTCOzdh3mPgaiRK7IqRFGpP5",
+        Sha1Fault::SaltCharacter,
+    ),
     ("$sha1$1$\u{e9}$x", Sha1Fault::SaltCharacter),
     ("$sha1$1$salt=$", Sha1Fault::SaltCharacter),
     ("$sha1$1$salt$", Sha1Fault::HashLength),
-    ("$sha1$1$salt$G9jISTCOzdh3mPgaiRK7IqRFGp-", Sha1Fault::HashLength),
-    ("$sha1$1$salt$G9jISTCOzdh3mPgaiRK7IqRFGpP5.", Sha1Fault::HashLength),
-    ("$sha1$1$salt$G9jISTCOzdh3mPgaiRK7IqRFGpP-", Sha1Fault::HashCharacter),
-    ("$sha1$1$salt$=9jISTCOzdh3mPgaiRK7IqRFGpP5", Sha1Fault::HashCharacter),
-    ("$sha1$1$salt$G9jISTCOzdh3mP+aiRK7IqRFHpP5", Sha1Fault::HashCharacter),
-    ("$sha1$1$salt$G9jISTCOzdh3mPgaiRK7IqRFHpP5", Sha1Fault::FirstByte),
-    ("$sha1$1$salt$G9jISTCOzdh3mPgaiRK7IqRFGoP5", Sha1Fault::FirstByte),
-    ("$sha1$1$salt$G9jISTCOzdh3mPgaiRK7IqRFGrP5", Sha1Fault::FirstByte),
-    ("$sha1$1$salt$G9jHSTCOzdh3mPgaiRK7IqRFGpP5", Sha1Fault::FirstByte),
+    (
+        "$sha1$1$salt$G9jISTCOzdh3mPgaiRK7IqRFGp-",
+        Sha1Fault::HashLength,
+    ),
+    (
+        "$sha1$1$salt$G9jISTCOzdh3mPgaiRK7IqRFGpP5.",
+        Sha1Fault::HashLength,
+    ),
+    (
+        "$sha1$1$salt$G9jISTCOzdh3mPgaiRK7IqRFGpP-",
+        Sha1Fault::HashCharacter,
+    ),
+    (
+        "$sha1$1$salt$=9jISTCOzdh3mPgaiRK7IqRFGpP5",
+        Sha1Fault::HashCharacter,
+    ),
+    (
+        "$sha1$1$salt$G9jISTCOzdh3mP+aiRK7IqRFHpP5",
+        Sha1Fault::HashCharacter,
+    ),
+    (
+        "$sha1$1$salt$G9jISTCOzdh3mPgaiRK7IqRFHpP5",
+        Sha1Fault::FirstByte,
+    ),
+    (
+        "$sha1$1$salt$G9jISTCOzdh3mPgaiRK7IqRFGoP5",
+        Sha1Fault::FirstByte,
+    ),
+    (
+        "$sha1$1$salt$G9jISTCOzdh3mPgaiRK7IqRFGrP5",
+        Sha1Fault::FirstByte,
+    ),
+    (
+        "$sha1$1$salt$G9jHSTCOzdh3mPgaiRK7IqRFGpP5",
+        Sha1Fault::FirstByte,
+    ),
 ];
 
 // Whether a text has this fault by each call, with no more counted than a fault may.
@@ -218,9 +276,7 @@ fn faults(rt: HostRuntime) {
 // 2^32 - 1 rounds would take an hour, so nothing was hashed.
 #[test]
 fn rounds_without_a_hash(rt: HostRuntime) {
-    assert!(rt;
-        text_cost("$sha1$4294967295$s$jaZMQW0pzd8y0JOtzRCcOpneWhN6") == Ok(4_294_967_295)
-    );
+    assert!(rt; text_cost("$sha1$4294967295$s$jaZMQW0pzd8y0JOtzRCcOpneWhN6") == Ok(4_294_967_295));
     assert!(rt; text_cost("$sha1$480000$s$jaZMQW0pzd8y0JOtzRCcOpneWhN6") == Ok(480_000));
 }
 
