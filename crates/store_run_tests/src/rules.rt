@@ -62,18 +62,13 @@ fn to_scrypt() -> TableRules {
 fn replies(
     alloc: Global,
     rules: &TableRules,
-    lines: &[&str],
+    lines: &str,
     status: u8,
 ) -> Result<String, AllocError> {
-    let mut input = String::new(alloc);
-    for line in lines {
-        input.push_str(line)?;
-        input.push_str("\n")?;
-    }
-    replies_by::<Brand>(alloc, *rules, input.as_bytes(), status)
+    replies_by::<Brand>(alloc, *rules, lines.as_bytes(), status)
 }
 
-// The same of an input, by rules that the type has.
+// The same by rules that the type has.
 fn replies_by<T: TableRuled>(
     alloc: Global,
     rules: TableRules,
@@ -97,18 +92,15 @@ fn replies_by<T: TableRuled>(
     }
 }
 
-// The commands that give `ann` a text, upgrade it, and check the password after that; with the listing.
-fn session(alloc: Global, text: &str) -> Result<[String; 2], AllocError> {
-    let mut set = String::from_str(alloc, "set\tann\t")?;
-    set.push_str(text)?;
-    Ok([
-        set,
-        String::from_str(
-            alloc,
-            "upgrade\tann\tc2FsdHNhbHRzYWx0c2FsdA\tsecret\ncheck\tann\tsecret\nlist",
-        )?,
-    ])
+// Three parts of an input, one after the other.
+fn joined(alloc: Global, first: &str, second: &str, third: &str) -> Result<String, AllocError> {
+    let mut text = String::from_str(alloc, first)?;
+    text.push_str(second)?;
+    text.push_str(third)?;
+    Ok(text)
 }
+
+const SET_ANN: &str = "set\tann\t";
 
 // Texts, the reply to an upgrade, and the text after it.
 const UPGRADES: [(&str, &str, &str); 8] = [
@@ -122,19 +114,17 @@ const UPGRADES: [(&str, &str, &str); 8] = [
     (YESCRYPT_1024, "kept", YESCRYPT_1024),
 ];
 
+const UPGRADE: &str =
+    "\nupgrade\tann\tc2FsdHNhbHRzYWx0c2FsdA\tsecret\ncheck\tann\tsecret\nlist\n";
+
 #[test]
 fn upgrades_never_weaken(rt: HostRuntime) {
     let rules = to_scrypt();
     for (text, word, after) in UPGRADES {
-        let Ok(lines) = session(rt.alloc(), text) else {
+        let Ok(lines) = joined(rt.alloc(), SET_ANN, text, UPGRADE) else {
             panic!(rt; "memory is wanting")
         };
-        let Ok(found) = replies(
-            rt.alloc(),
-            &rules,
-            &[lines[0].as_str(), lines[1].as_str()],
-            0,
-        ) else {
+        let Ok(found) = replies(rt.alloc(), &rules, lines.as_str(), 0) else {
             panic!(rt; "memory is wanting")
         };
         let mut parts = found.as_str().lines();
@@ -148,7 +138,13 @@ fn upgrades_never_weaken(rt: HostRuntime) {
     }
 }
 
-// Commands over the user `ann`, whose text is of 16 KiB, and `bob`, whose text is locked; and their replies.
+// Users with a text of 16 KiB, with a locked text, and with a text that is none.
+const USERS: &str = "set\tann\t$scrypt$ln=4,r=8,p=1$c2FsdHNhbHRzYWx0$09/untC+3Bg44eiJQ8bqhTXgE2ali+ykLaojkJZlF9U
+set\tbob\t*
+set\tdan\tx
+";
+
+// Commands over these users, and their replies.
 const OTHERS: [(&str, &str); 9] = [
     ("upgrade\tann\tc2FsdHNhbHRzYWx0c2FsdA\tsecres", "mismatch"),
     // Salts of 8 bytes, of 17 bytes, and none.
@@ -166,18 +162,11 @@ const OTHERS: [(&str, &str); 9] = [
 fn upgrades_that_change_nothing(rt: HostRuntime) {
     let rules = to_scrypt();
     for (line, word) in OTHERS {
-        let Ok(lines) = session(rt.alloc(), SCRYPT_16) else {
+        let Ok(lines) = joined(rt.alloc(), USERS, line, "\ncheck\tann\tsecret\n") else {
             panic!(rt; "memory is wanting")
         };
-        let asked = [
-            lines[0].as_str(),
-            "set\tbob\t*",
-            "set\tdan\tx",
-            line,
-            "check\tann\tsecret",
-        ];
         let status = if word == "match" { 0 } else { 1 };
-        let Ok(found) = replies(rt.alloc(), &rules, &asked, status) else {
+        let Ok(found) = replies(rt.alloc(), &rules, lines.as_str(), status) else {
             panic!(rt; "memory is wanting")
         };
         let mut parts = found.as_str().lines();
@@ -192,12 +181,12 @@ fn a_password_of_which_no_text_is_made(rt: HostRuntime) {
         upgrade_to: MakeCost::Yescrypt(YescryptParams { ln: 9, r: 8, t: 0 }),
         ..PLAIN_RULES
     };
-    let Ok(lines) = session(rt.alloc(), SCRYPT_ZERO) else {
+    let after =
+        "\nupgrade\tann\tc2FsdHNhbHRzYWx0c2FsdA\tse\u{0}cret\ncheck\tann\tse\u{0}cret\n";
+    let Ok(lines) = joined(rt.alloc(), SET_ANN, SCRYPT_ZERO, after) else {
         panic!(rt; "memory is wanting")
     };
-    let upgrade = "upgrade\tann\tc2FsdHNhbHRzYWx0c2FsdA\tse\u{0}cret";
-    let asked = [lines[0].as_str(), upgrade, "check\tann\tse\u{0}cret"];
-    match replies(rt.alloc(), &rules, &asked, 0) {
+    match replies(rt.alloc(), &rules, lines.as_str(), 0) {
         Ok(found) => assert!(rt; found.as_str() == "ok\nkept\nmatch\n"),
         Err(AllocError) => panic!(rt; "memory is wanting"),
     }
@@ -233,21 +222,21 @@ fn bounded(ln: u64) -> TableRules {
     }
 }
 
+const BELOW_A_BOUND: &str = "
+set\tbob\t$1$abcdefgh$cHJi5PXp/ki/ktXzqlk6I1
+check\tann\tsecret
+check\tann\tsecres
+upgrade\tann\tc2FsdHNhbHRzYWx0c2FsdA\tsecret
+upgrade\tann\tabcdabcdabc\tsecret
+check\tbob\tsecret
+check\tcleo\tx
+";
+
 #[test]
 fn texts_above_the_bound(rt: HostRuntime) {
-    let asked = [
-        "check\tann\tsecret",
-        "check\tann\tsecres",
-        "upgrade\tann\tc2FsdHNhbHRzYWx0c2FsdA\tsecret",
-        "upgrade\tann\tabcdabcdabc\tsecret",
-        "check\tbob\tsecret",
-        "check\tcleo\tx",
-    ];
-    let Ok(lines) = session(rt.alloc(), SCRYPT_16) else {
+    let Ok(lines) = joined(rt.alloc(), SET_ANN, SCRYPT_16, BELOW_A_BOUND) else {
         panic!(rt; "memory is wanting")
     };
-    let ann = lines[0].as_str();
-    let bob = "set\tbob\t$1$abcdefgh$cHJi5PXp/ki/ktXzqlk6I1";
     for (ln, wanted) in [
         (
             3,
@@ -263,27 +252,25 @@ fn texts_above_the_bound(rt: HostRuntime) {
             "ok\nok\nmatch\nmismatch\nupgraded\nbad-salt\nmatch\nno-user\n",
         ),
     ] {
-        let all = [
-            ann, bob, asked[0], asked[1], asked[2], asked[3], asked[4], asked[5],
-        ];
-        match replies(rt.alloc(), &bounded(ln), &all, 1) {
+        match replies(rt.alloc(), &bounded(ln), lines.as_str(), 1) {
             Ok(found) => assert!(rt; found.as_str() == wanted, "at {ln}"),
             Err(AllocError) => panic!(rt; "memory is wanting"),
         }
     }
 }
 
+const TEXTS: &str = "\
+set\tann\tx
+set\tann\t
+set\tann\t$6$abcdefgh$x
+set\tann\t*x
+set\tann\t!
+set\tann\tx:y
+set\tann\t$1$abcdefgh$cHJi5PXp/ki/ktXzqlk6I1
+";
+
 #[test]
 fn texts_that_no_password_matches(rt: HostRuntime) {
-    let asked = [
-        "set\tann\tx",
-        "set\tann\t",
-        "set\tann\t$6$abcdefgh$x",
-        "set\tann\t*x",
-        "set\tann\t!",
-        "set\tann\tx:y",
-        "set\tann\t$1$abcdefgh$cHJi5PXp/ki/ktXzqlk6I1",
-    ];
     for (strict, wanted) in [
         (true, "invalid\ninvalid\ninvalid\nok\nok\nbad-text\nok\n"),
         (false, "ok\nok\nok\nok\nok\nbad-text\nok\n"),
@@ -292,7 +279,7 @@ fn texts_that_no_password_matches(rt: HostRuntime) {
             strict,
             ..PLAIN_RULES
         };
-        match replies(rt.alloc(), &rules, &asked, 1) {
+        match replies(rt.alloc(), &rules, TEXTS, 1) {
             Ok(found) => assert!(rt; found.as_str() == wanted, "strict: {strict}"),
             Err(AllocError) => panic!(rt; "memory is wanting"),
         }
