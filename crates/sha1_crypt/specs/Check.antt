@@ -18,7 +18,7 @@ answer_by same password (Ok p) = Ok (same (sha1_digest password p.salt p.rounds)
 unfoldable pub sha1_answer : List ℕ → List ℕ → Result Bool Sha1Fault
 sha1_answer password text = answer_by (pointwise nat_eq) password (text_parts text)
 
--- the text of rounds, a salt and a digest: its pieces, each behind a `$`
+-- the text of rounds, a salt and a digest: its pieces, each after a `$`
 abbrev pub text_of : ℕ → List ℕ → List ℕ → List ℕ
 text_of rounds salt digest = join_with_byte dollar ([] ∷ codes "sha1" ∷ decimal rounds ∷ salt ∷ sha1_field digest ∷ [])
 

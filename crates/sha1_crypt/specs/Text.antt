@@ -29,7 +29,7 @@ pub record Fields : Type 0 where
   pub salt : List ℕ
   pub hash : List ℕ
 
--- behind the identifier: exactly these three
+-- after the identifier: exactly these three
 abbrev pub split_fields : List (List ℕ) → Result Fields Sha1Fault
 split_fields [] = Err NoRounds
 split_fields (rounds ∷ []) = Err NoSalt
@@ -37,7 +37,7 @@ split_fields (rounds ∷ (salt ∷ [])) = Err NoHash
 split_fields (rounds ∷ (salt ∷ (hash ∷ more))) =
     if is_empty more then Ok (record { rounds = rounds; salt = salt; hash = hash }) else Err Trailing
 
--- by the pieces behind the first `$`
+-- by the pieces after the first `$`
 abbrev pub from_identifier : List (List ℕ) → Result Fields Sha1Fault
 from_identifier [] = Err WrongId
 from_identifier (id ∷ pieces) = if pointwise nat_eq id (codes "sha1") then split_fields pieces else Err WrongId

@@ -53,7 +53,7 @@ fn split_fields(pieces: Option<&str>) -> Result<Sha1Fields<'_>, Sha1Fault>
     Ok(Sha1Fields { rounds, salt, hash })
 }
 
-// The fields behind the identifier.
+// The fields after the identifier.
 #[tactic(auto, unfolding(crate::specs::Text::text_fields))]
 fn text_fields(text: &str) -> Result<Sha1Fields<'_>, Sha1Fault>
     ensures { as_fields result ≡ text_fields text.now }
