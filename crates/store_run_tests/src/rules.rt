@@ -114,8 +114,7 @@ const UPGRADES: [(&str, &str, &str); 8] = [
     (YESCRYPT_1024, "kept", YESCRYPT_1024),
 ];
 
-const UPGRADE: &str =
-    "\nupgrade\tann\tc2FsdHNhbHRzYWx0c2FsdA\tsecret\ncheck\tann\tsecret\nlist\n";
+const UPGRADE: &str = "\nupgrade\tann\tc2FsdHNhbHRzYWx0c2FsdA\tsecret\ncheck\tann\tsecret\nlist\n";
 
 #[test]
 fn upgrades_never_weaken(rt: HostRuntime) {
@@ -139,7 +138,8 @@ fn upgrades_never_weaken(rt: HostRuntime) {
 }
 
 // Users with a text of 16 KiB, with a locked text, and with a text that is none.
-const USERS: &str = "set\tann\t$scrypt$ln=4,r=8,p=1$c2FsdHNhbHRzYWx0$09/untC+3Bg44eiJQ8bqhTXgE2ali+ykLaojkJZlF9U
+const USERS: &str =
+    "set\tann\t$scrypt$ln=4,r=8,p=1$c2FsdHNhbHRzYWx0$09/untC+3Bg44eiJQ8bqhTXgE2ali+ykLaojkJZlF9U
 set\tbob\t*
 set\tdan\tx
 ";
@@ -181,8 +181,7 @@ fn a_password_of_which_no_text_is_made(rt: HostRuntime) {
         upgrade_to: MakeCost::Yescrypt(YescryptParams { ln: 9, r: 8, t: 0 }),
         ..PLAIN_RULES
     };
-    let after =
-        "\nupgrade\tann\tc2FsdHNhbHRzYWx0c2FsdA\tse\u{0}cret\ncheck\tann\tse\u{0}cret\n";
+    let after = "\nupgrade\tann\tc2FsdHNhbHRzYWx0c2FsdA\tse\u{0}cret\ncheck\tann\tse\u{0}cret\n";
     let Ok(lines) = joined(rt.alloc(), SET_ANN, SCRYPT_ZERO, after) else {
         panic!(rt; "memory is wanting")
     };
