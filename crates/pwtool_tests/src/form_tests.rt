@@ -600,7 +600,7 @@ fn bounds_of_other_schemes(rt: HostRuntime) -> Result<(), Fail> {
 }
 
 // Words of `table`, whether it is strict, the cost of upgrades, and whether there is a bound.
-const RULES: [(&[&str], bool, MakeCost, bool); 3] = [
+const TABLE_RULES: [(&[&str], bool, MakeCost, bool); 3] = [
     (
         &["pwtool", "table", "users"],
         false,
@@ -644,7 +644,7 @@ const RULES: [(&[&str], bool, MakeCost, bool); 3] = [
 
 #[test]
 fn rules_of_a_table_by_options(rt: HostRuntime) -> Result<(), Fail> {
-    for (words, strict, upgrade_to, is_bounded) in RULES {
+    for (words, strict, upgrade_to, is_bounded) in TABLE_RULES {
         let Ok(matches) = command(rt.alloc(), "")?.try_get_matches_from(words) else {
             panic!(rt; "the words are of a form")
         };
