@@ -604,7 +604,7 @@ def rules(tool):
     tool.case(["table", "--max-pbkdf2-rounds", "600000", path], "check\tann\tsecret\n", "match\n", 0)
     tool.case(["table", "--upgrade-to", "md5-crypt", path], "", "", 64)
     for scheme, size, front in (("argon2id", 16, "$argon2id$v=19$m=65536,t=3,p=4$"), ("yescrypt", 16, "$y$j9T$"), ("scrypt", 16, "$scrypt$ln=17,r=8,p=1$"),
-                                ("bcrypt", 16, "$2b$12$"), ("pbkdf2-sha512", 16, "$pbkdf2-sha512$i=210000,l=64$"),
+                                ("bcrypt", 16, "$2b$12$"), ("pbkdf2-sha512", 16, "$pbkdf2-sha512$i=210000,l=32$"),
                                 ("sha256-crypt", 12, "$5$rounds=535000$"), ("sha512-crypt", 12, "$6$rounds=656000$")):
         table = os.path.join(tool.folder, f"to-{scheme}")
         asked = f"set\tann\t{MD5}\nupgrade\tann\t{base64_of(bytes(range(size)))}\tsecret\ncheck\tann\tsecret\nlist\n"
