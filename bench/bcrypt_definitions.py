@@ -14,7 +14,7 @@ import random
 import sys
 
 from building import need
-from libxcrypt import crypt_r
+from libxcrypt import crypt_r, edited
 
 CHARACTERS = "./ABCDEFGHIJKLMNOPQRSTUVWXYZabcdefghijklmnopqrstuvwxyz0123456789"
 LENGTHS = [0, 1, 2, 3, 4, 5, 7, 8, 15, 16, 17, 30, 35, 36, 55, 56, 57, 70, 71, 72, 73, 74, 80, 100, 254, 255, 256, 300]
@@ -235,18 +235,12 @@ def stormer():
 
 def changed(rnd, text):
     """A text with one to three characters changed; where it stays one of bcrypt's, its cost is 4 or 5."""
-    text = bytearray(text)
-    for _ in range(rnd.choice([1, 1, 1, 2, 3])):
-        place = rnd.choice([0, 1, 2, 3, 4, 5, 6, 7, 27, 28, 28, 28, 29, 58, 59, 59, 59, 60, rnd.randrange(60)])
-        letter = ord(rnd.choice(CHARACTERS + "$$$+,-=:; axyb"))
-        kind = rnd.randrange(4)
-        if kind == 0:
-            text.insert(min(place, len(text)), letter)
-        elif place < len(text):
-            text[place:place + 1] = b"" if kind == 1 else bytes([letter])
-    parts = text_parts(bytes(text))
+    def place(text):
+        return rnd.choice([0, 1, 2, 3, 4, 5, 6, 7, 27, 28, 28, 28, 29, 58, 59, 59, 59, 60, rnd.randrange(60)])
+    made = edited(rnd, text, place, CHARACTERS + "$$$+,-=:; axyb")
+    parts = text_parts(made)
     dear = not isinstance(parts, str) and parts[0] > 5
-    return changed(rnd, text) if dear else bytes(text)
+    return changed(rnd, text) if dear else made
 
 
 def is_measured_by_sign(password):

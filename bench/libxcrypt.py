@@ -14,6 +14,18 @@ def crypt_r():
     return lambda phrase, setting: call(phrase, setting, data)
 
 
+def edited(rnd, text, place, letters):
+    """A text with one to three characters changed, put in or left out, each at the `place` of the text as it then is."""
+    text = bytearray(text)
+    for _ in range(rnd.choice([1, 1, 1, 2, 3])):
+        at, letter, kind = place(text), ord(rnd.choice(letters)), rnd.randrange(4)
+        if kind == 0:
+            text.insert(min(at, len(text)), letter)
+        elif at < len(text):
+            text[at:at + 1] = b"" if kind == 1 else bytes([letter])
+    return bytes(text)
+
+
 def crypt_field(data):
     """Bytes as crypt(3) writes them: three as four characters, the lowest bits first."""
     text = ""

@@ -18,7 +18,7 @@ import sys
 from passlib.hash import sha1_crypt as of_passlib
 
 from building import need
-from libxcrypt import CHARACTERS, crypt_r
+from libxcrypt import CHARACTERS, crypt_r, edited
 
 LENGTHS = [0, 1, 2, 7, 8, 16, 19, 20, 21, 55, 56, 63, 64, 65, 80, 119, 128, 255, 300]
 SALTS = [1, 2, 3, 8, 8, 16, 21, 22, 63, 64]
@@ -180,17 +180,10 @@ def number_of(text):
 
 def changed(rnd, text):
     """A text with one to three characters changed, put in or left out; the front of the text and its ends more often."""
-    text = bytearray(text)
-    for _ in range(rnd.choice([1, 1, 1, 2, 3])):
-        place = rnd.choice([0, 1, 5, 6, 7, 8, 9, len(text) - 28, len(text) - 29, len(text) - 4, len(text) - 3, len(text) - 2,
-                            len(text) - 1, len(text), rnd.randrange(len(text) + 1)])
-        letter = ord(rnd.choice(CHARACTERS + "0001$$$$+,-=:; "))
-        kind = rnd.randrange(4)
-        if kind == 0:
-            text.insert(min(place, len(text)), letter)
-        elif place < len(text):
-            text[place:place + 1] = b"" if kind == 1 else bytes([letter])
-    return bytes(text)
+    def place(text):
+        return rnd.choice([0, 1, 5, 6, 7, 8, 9, len(text) - 28, len(text) - 29, len(text) - 4, len(text) - 3, len(text) - 2,
+                           len(text) - 1, len(text), rnd.randrange(len(text) + 1)])
+    return edited(rnd, text, place, CHARACTERS + "0001$$$$+,-=:; ")
 
 
 def other_form(rnd, text, password, call):
