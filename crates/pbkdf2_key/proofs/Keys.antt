@@ -36,9 +36,5 @@ module _ (hash : Pbkdf2Hash) (parsed : PasswordHash) (n : ℕ) (accepted : pbkdf
   rounds_least c is = let h =
       (and_parts (nat_le 1 c) (nat_le c 10000000) (in_range c is)).0 in grind (arith, nat_tests, h)
 
-  pub rounds_most : (c : ℕ) → rounds_of parsed ≡ Some c → c ≤ 10000000
-  rounds_most c is = let h =
-      (and_parts (nat_le 1 c) (nat_le c 10000000) (in_range c is)).1 in grind (arith, nat_tests, h)
-
   pub no_rounds : rounds_of parsed ≡ None → ⊥
   no_rounds none = cc (sym (ap are_rounds none) ∙ rounds)

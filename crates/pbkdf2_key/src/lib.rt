@@ -2,7 +2,7 @@
 //! [`Pbkdf2Plain`], which derives the keys of PHC records by it.
 #![tactic(auto)]
 
-ghost use Rattle.std.specs.Prelude.{◌≡◌, ◌^◌, ◌<◌, ◌≤◌, length};
+ghost use Rattle.std.specs.Prelude.{◌≡◌, ◌≤◌, length};
 ghost use Rattle.pbkdf2_key.specs.Pbkdf2.{pbkdf2_sha256, pbkdf2_sha512};
 
 mod derive;
@@ -16,13 +16,10 @@ pub use profile::{Pbkdf2Hash, Pbkdf2Plain};
 /// Writes the key of `out.len()` bytes (1 to 64) for a password and a salt, after so many rounds, into `out`.
 ///
 /// PBKDF2 of RFC 8018, section 5.2, with HMAC-SHA-256. A round costs two compressions of SHA-256 for each 32 bytes of
-/// the key. Passwords and salts below 2^30 bytes keep each message that is hashed below 2^61 bytes.
+/// the key. Password and salt may have any length. SHA-256 is defined for messages below 2^61 bytes, and no memory holds a longer one.
 #[inline(never)]
 pub fn pbkdf2_sha256(password: &[u8], salt: &[u8], rounds: u32, out: &mut [u8])
     requires rounds_least { 1 ≤ rounds }
-    requires rounds_most { rounds ≤ 10000000 }
-    requires password_length { length password.now < 2 ^ 30 }
-    requires salt_length { length salt.now < 2 ^ 30 }
     requires key_length_least { 1 ≤ length out.old }
     requires key_length_most { length out.old ≤ 64 }
     ensures key { out.new ≡ pbkdf2_sha256 password.now salt.now rounds (length out.old) }
@@ -34,9 +31,6 @@ pub fn pbkdf2_sha256(password: &[u8], salt: &[u8], rounds: u32, out: &mut [u8])
 #[inline(never)]
 pub fn pbkdf2_sha512(password: &[u8], salt: &[u8], rounds: u32, out: &mut [u8])
     requires rounds_least { 1 ≤ rounds }
-    requires rounds_most { rounds ≤ 10000000 }
-    requires password_length { length password.now < 2 ^ 30 }
-    requires salt_length { length salt.now < 2 ^ 30 }
     requires key_length_least { 1 ≤ length out.old }
     requires key_length_most { length out.old ≤ 64 }
     ensures key { out.new ≡ pbkdf2_sha512 password.now salt.now rounds (length out.old) }

@@ -1,6 +1,6 @@
 //! PBKDF2 for PHC records.
 
-ghost use Rattle.std.specs.Prelude.{◌≡◌, ◌==◌, ◌<◌, ◌≤◌, ◌^◌, codes, false, length};
+ghost use Rattle.std.specs.Prelude.{◌≡◌, ◌==◌, ◌≤◌, codes, false, length};
 ghost use Rattle.phc_kdf.specs.Numbers.{number};
 ghost use Rattle.pbkdf2_key.specs.Lengths.{length-pbkdf2_key};
 ghost use Rattle.pbkdf2_key.specs.Profile.{are_params, are_rounds, identifier, is_number, pbkdf2_accepts, pbkdf2_key, pbkdf2_with, rounds_of};
@@ -102,9 +102,6 @@ fn are_params(parsed: &PasswordHash, length: usize) -> bool
 // The key with this hash function.
 fn derive_with(hash: Pbkdf2Hash, password: &[u8], salt: &[u8], rounds: u32, out: &mut [u8])
     requires rounds_least { 1 ≤ rounds }
-    requires rounds_most { rounds ≤ 10000000 }
-    requires password_length { length password.now < 2 ^ 30 }
-    requires salt_length { length salt.now < 2 ^ 30 }
     requires key_length_least { 1 ≤ length out.old }
     requires key_length_most { length out.old ≤ 64 }
     ensures key { out.new ≡ pbkdf2_with hash password.now salt.now rounds (length out.old) }
