@@ -1,0 +1,5 @@
+pub mod Digest
+pub mod Text
+pub mod Check
+pub mod Views
+pub mod Laws
