@@ -2,6 +2,7 @@ pub mod Forms
 pub mod Rests
 pub mod Steps
 pub mod Met
+pub mod Passed
 pub mod Views
 pub mod Laws
 pub mod Mapped

@@ -1,6 +1,7 @@
 -- What is known of a source in front of another.
 use Rattle.std.specs.Prelude.{ℕ, List, Option}
 use Rattle.line_filter.specs.Met.{met_with}
+use Rattle.line_filter.specs.Passed.{passed_with}
 use Rattle.line_filter.specs.Steps.{left_behind}
 use Rattle.line_filter.specs.declared.filtered.Filtered.{Filtered}
 use Rattle.line_filter.specs.declared.met.Met.{Met}
@@ -29,3 +30,7 @@ noticed_source n = n.source
 -- what is met in all, where this text follows what was read
 abbrev pub met_after : {S : Type 0} → Noticed S → List ℕ → Met
 met_after n text = met_with n.noticing text
+
+-- how many lines that are empty or comments there are in all, where this text follows what was read
+abbrev pub passed_after : {S : Type 0} → Noticed S → List ℕ → ℕ
+passed_after n text = passed_with n.passing text

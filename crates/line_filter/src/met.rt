@@ -2,6 +2,7 @@
 
 ghost use Rattle.std.specs.Prelude.{◌≡◌, ◌≤◌, ◌++◌, length};
 ghost use Rattle.line_filter.specs.Met.{message, returns_words};
+ghost use Rattle.line_filter.specs.Passed.{passed_message};
 
 use pieces::short_bytes::ShortBytes;
 
@@ -47,4 +48,18 @@ impl Met {
         }
         words
     }
+}
+
+/// How many lines are empty or begin with `#`, in a few words of ASCII; none where there is no such line.
+pub fn passed_message(count: u64) -> ShortBytes<MESSAGE_MAX>
+    ensures words { result ≡ passed_message count }
+{
+    let mut words = ShortBytes::new();
+    if count == 1 {
+        words.push_all(b"1 line is empty or begins with #");
+    } else if count != 0 {
+        words.push_decimal(count);
+        words.push_all(b" lines are empty or begin with #");
+    }
+    words
 }

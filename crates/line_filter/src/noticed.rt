@@ -1,13 +1,15 @@
 //! A source whose bytes are looked at.
 
-ghost use Rattle.std.specs.Prelude.{◌≡◌, ◌≤◌, ◌<◌, ◌^◌, ◌++◌, ◌∷◌, ◌==◌, ◌&&◌, ◌||◌, [], ℕ, List, false, true, IfOk, OnErr, if◌then◌else◌, length, slice_index, take};
+ghost use Rattle.std.specs.Prelude.{◌≡◌, ◌≤◌, ◌<◌, ◌-◌, ◌^◌, ◌++◌, ◌∷◌, ◌==◌, ◌&&◌, ◌||◌, [], ℕ, List, false, true, IfOk, OnErr, if◌then◌else◌, length, min, slice_index, take};
 ghost use Rattle.std.specs.Io.{ReadsAtMost};
 ghost use Rattle.std.specs.Io.KnownBytes.{ReadConsumes};
 ghost use Rattle.pieces.specs.FaultCounts.{HasRisen, one_more};
 ghost use Rattle.pieces.specs.Places.{LacksBelow};
 ghost use Rattle.line_filter.specs.Met.{has_mark_after, mark_with, met_in, met_with, returns_with};
+ghost use Rattle.line_filter.specs.Passed.{count_passed_over};
 
 use crate::met::Met;
+use crate::passing::Passing;
 use crate::sieve::Mark;
 use line_io::{Failed, Source};
 use memchr::memchr;
@@ -176,19 +178,22 @@ impl Noticing {
 pub struct Noticed<S: Source + Drop> {
     source: S,
     noticing: Noticing,
+    passing: Passing,
 }
 
 impl<S: Source + Drop> Noticed<S> {
-    ghost use Rattle.line_filter.specs.Views.{met_after, noticed_source};
+    ghost use Rattle.line_filter.specs.Views.{met_after, noticed_source, passed_after};
 
     /// A source of what the other one has left.
     pub fn new(source: S) -> Noticed<S>
         ensures source { noticed_source result ≡ source }
         ensures met { (text : List ℕ) → met_after result text ≡ met_in text }
+        ensures passed { (text : List ℕ) → passed_after result text ≡ min (count_passed_over text) (2 ^ 64 - 1) }
     {
         Noticed {
             source,
             noticing: Noticing::new(),
+            passing: Passing::new(),
         }
     }
 
@@ -198,10 +203,17 @@ impl<S: Source + Drop> Noticed<S> {
     {
         self.noticing.met()
     }
+
+    /// The lines so far that are empty or begin with `#`; the count stays at the greatest number of its type.
+    pub fn passed_over(&self) -> u64
+        ensures count { result ≡ passed_after self.now [] }
+    {
+        self.passing.total()
+    }
 }
 
 impl<S: Source + Drop> Source for Noticed<S> {
-    ghost use Rattle.line_filter.specs.Views.{met_after, noticed_source};
+    ghost use Rattle.line_filter.specs.Views.{met_after, noticed_source, passed_after};
 
     ghost left = { λ n. S.left (noticed_source n) };
 
@@ -216,9 +228,12 @@ impl<S: Source + Drop> Source for Noticed<S> {
         // The bytes that are given are those that count.
         ensures met { IfOk result (λ n. (text : List ℕ) → met_after self.new text ≡ met_after self.old (take n buf.new ++ text)) }
         ensures same { OnErr result ((text : List ℕ) → met_after self.new text ≡ met_after self.old text) }
+        ensures passed { IfOk result (λ n. (text : List ℕ) → passed_after self.new text ≡ passed_after self.old (take n buf.new ++ text)) }
+        ensures passed_same { OnErr result ((text : List ℕ) → passed_after self.new text ≡ passed_after self.old text) }
     {
         let count = self.source.read(buf)?;
         self.noticing.notice(&buf[..count]);
+        self.passing.notice(&buf[..count]);
         Ok(count)
     }
 }

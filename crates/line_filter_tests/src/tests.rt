@@ -1,6 +1,6 @@
 //! What is given of a text, in pieces of every size, and what is met in it.
 
-use line_filter::{Filtered, LineForms, Met, Noticed};
+use line_filter::{Filtered, LineForms, Met, Noticed, passed_message};
 use line_io::{Failed, MemorySource, Source};
 use std::test::Fail;
 
@@ -142,6 +142,57 @@ fn what_is_met(rt: HostRuntime) -> Result<(), Fail> {
             assert!(rt; met == Met { returns, has_mark }, "{text:?}: {met:?}");
             assert!(rt; met.message().as_slice() == words, "{text:?}");
         }
+    }
+    Ok(())
+}
+
+// A text, the lines of it that are empty or begin with `#`, and what is said.
+const PASSED: &[(&[u8], u64, &[u8])] = &[
+    (b"", 0, b""),
+    (b"ann:x\nbob:#y\n", 0, b""),
+    (b"\n", 1, b"1 line is empty or begins with #"),
+    (b"#", 1, b"1 line is empty or begins with #"),
+    (
+        b"# a\n\nann:x\n\n\n##\nb#\n",
+        5,
+        b"5 lines are empty or begin with #",
+    ),
+    (b"\r\n #\n\t\n", 0, b""),
+    (
+        b"ann:0123456789abcdef0123456789abcdef\n#bob:0123456789abcdef\ncarl:x",
+        1,
+        b"1 line is empty or begins with #",
+    ),
+    (
+        b"ann:0123456789abcdef0123456789abcdef\n\n",
+        1,
+        b"1 line is empty or begins with #",
+    ),
+    (
+        b"0123456789abcde\n\n123456789abcde\n#0123456789abcdef\n\n",
+        3,
+        b"3 lines are empty or begin with #",
+    ),
+    (
+        b"0123456789abcde\n0123456789abcde\n#",
+        1,
+        b"1 line is empty or begins with #",
+    ),
+];
+
+// In reads of these many bytes at most.
+const STEPS: &[usize] = &[1, 2, 16, 17, 100];
+
+#[test]
+fn lines_that_are_passed_over(rt: HostRuntime) -> Result<(), Fail> {
+    for (text, count, words) in PASSED {
+        for step in STEPS {
+            let mut source = Noticed::new(MemorySource::new(text, *step, &[]));
+            let mut out = Vec::new(rt.alloc());
+            assert!(rt; all_of(&mut source, 100, &mut out)?, "{text:?}");
+            assert!(rt; source.passed_over() == *count, "{text:?}");
+        }
+        assert!(rt; passed_message(*count).as_slice() == *words, "{text:?}");
     }
     Ok(())
 }
