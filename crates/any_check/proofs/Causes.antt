@@ -15,6 +15,10 @@ use Rattle.mcf.specs.Grammar.{Parts, mcf}
 use Rattle.mcf.specs.declared.error.Error as mcf_error
 use Rattle.bcrypt_plain.specs.Check.{bcrypt_answer}
 use Rattle.bcrypt_digest.specs.Check.{digest_answer}
+use Rattle.sha1_crypt.specs.Check.{sha1_answer}
+use Rattle.sha1_crypt.specs.declared.error.Sha1Fault.{Sha1Fault}
+use Rattle.scram_plain.specs.Check.{scram_answer}
+use Rattle.scram_plain.specs.declared.error.ScramFault.{ScramFault}
 use Rattle.bcrypt_plain.specs.declared.error.BcryptError.{BcryptError}
 use Rattle.bcrypt_plain.specs.declared.error.BcryptError.TheVariants as of_bcrypt
 use Rattle.yescrypt_plain.specs.Check.{scrypt_answer, scrypt_matches, scrypt_verdict, yescrypt_answer, yescrypt_matches}
@@ -24,14 +28,14 @@ use Rattle.yescrypt_plain.specs.declared.error.CheckError.{CheckError}
 use Rattle.yescrypt_plain.specs.declared.error.CheckError.TheVariants as of_crypt
 use Rattle.yescrypt_plain.specs.declared.error.TextFault.{TextFault}
 use Rattle.any_check.specs.Cost.{is_costly, verdict_within}
-use Rattle.any_check.specs.Table.{any_verdict, md5_answer, md5_by, of_bcrypt_check, of_md5, of_scrypt_check, of_stored, of_yescrypt_check, row, scheme_answer, text_scheme}
+use Rattle.any_check.specs.Table.{any_verdict, md5_answer, md5_by, of_bcrypt_check, of_md5, of_scram, of_sha1, of_scrypt_check, of_stored, of_yescrypt_check, row, scheme_answer, text_scheme}
 use Rattle.any_check.specs.declared.numbers.SchemeCosts.{SchemeCosts}
 use Rattle.any_check.specs.declared.error.AnyError.{AnyError}
 use Rattle.any_check.specs.declared.error.AnyError.TheVariants.{NoScheme, Stored}
 use Rattle.scheme_list.specs.declared.schemes.Scheme.{Scheme}
 use Rattle.scheme_list.specs.declared.schemes.Scheme.TheVariants.{Argon2d, Argon2i, Argon2id, Bcrypt, BcryptDigest, Md5Crypt}
 use Rattle.scheme_list.specs.declared.schemes.Scheme.TheVariants.{Pbkdf2Sha256, Pbkdf2Sha512, Scrypt, ScryptCrypt, Sha256Crypt, Sha512Crypt}
-use Rattle.scheme_list.specs.declared.schemes.Scheme.TheVariants.{Yescrypt}
+use Rattle.scheme_list.specs.declared.schemes.Scheme.TheVariants.{Scram, Sha1Crypt, Yescrypt}
 
 abbrev Other : Result Bool AnyError → Type 0
 Other r = r ≢ Err (Stored OutOfMemory)
@@ -51,6 +55,14 @@ by_magic password (Some magic) p = of_fields (md5_verdict magic password p.field
 of_md5_text : (password : List ℕ) (r : Result Parts mcf_error.Error) → Other (md5_answer password r)
 of_md5_text password (Err e) = λ h. cc
 of_md5_text password (Ok p) = by_magic password (magic_of p.id) p
+
+of_sha1_text : (r : Result Bool Sha1Fault) → Other (of_sha1 r)
+of_sha1_text (Ok b) = λ h. cc
+of_sha1_text (Err e) = λ h. cc
+
+of_scram_text : (r : Result Bool ScramFault) → Other (of_scram r)
+of_scram_text (Ok b) = λ h. cc
+of_scram_text (Err e) = λ h. cc
 
 of_check : (r : Result (Unit {0}) BcryptError) → Other (of_bcrypt_check r)
 of_check (Ok done) = λ h. cc
@@ -117,6 +129,8 @@ module _ (accepted : PasswordHash → List ℕ → ℕ → Bool) (tag : List ℕ
   by_row Yescrypt = of_yescrypt (yescrypt_answer password stored) (yescrypt_told password stored)
   by_row ScryptCrypt = of_scrypt (scrypt_answer password stored) (scrypt_told password stored)
   by_row BcryptDigest = of_check (digest_answer password stored)
+  by_row Sha1Crypt = of_sha1_text (sha1_answer password stored)
+  by_row Scram = of_scram_text (scram_answer password stored)
   by_row Scrypt = by_stored
   by_row Pbkdf2Sha256 = by_stored
   by_row Pbkdf2Sha512 = by_stored

@@ -1,7 +1,9 @@
 -- A text has a verdict exactly where it has no fault.
 use Rattle.std.proofs.Common.{◌≡◌, ℕ, ◌≤◌, Bool, true, false, List, [], length, refl, sym, ap, subst, ◌∙◌, arith, Option, Some, None}
 use Rattle.std.proofs.Common.{Result, Ok, Err}
-use Rattle.std.specs.Prelude.{is_ok, if◌then◌else◌}
+use Rattle.std.specs.Prelude.{is_ok, not, if◌then◌else◌}
+use Rattle.std.specs.Char.{is_ascii}
+use Rattle.std.specs.List.{list_all}
 use Rattle.std.specs.Option.{option_map}
 use Rattle.mcf.specs.Grammar as mcf_parts
 use Rattle.mcf.specs.Grammar.{fault, mcf, parts}
@@ -27,6 +29,14 @@ use Rattle.bcrypt_plain.specs.Check.{bcrypt_answer, has_zero, hash_matches, is_v
 use Rattle.bcrypt_plain.specs.Text.{Parts, parts_cost, text_parts}
 use Rattle.bcrypt_digest.specs.Check.{digest_answer, digest_cost}
 use Rattle.bcrypt_digest.proofs.Answers.{verdict_where_cost}
+use Rattle.sha1_crypt.specs.Check.{sha1_answer}
+use Rattle.sha1_crypt.specs.Text as sha1_text
+use Rattle.sha1_crypt.specs.declared.error.Sha1Fault.{Sha1Fault}
+use Rattle.sha1_crypt.proofs.Answers.{verdict_where_rounds}
+use Rattle.scram_plain.specs.Check.{scram_answer}
+use Rattle.scram_plain.specs.Text as scram_text
+use Rattle.scram_plain.specs.declared.error.ScramFault.{ScramFault}
+use Rattle.scram_plain.proofs.Answers as scram_laws
 use Rattle.bcrypt_plain.specs.declared.error.BcryptError.{BcryptError}
 use Rattle.bcrypt_plain.specs.declared.error.BcryptError.TheVariants.{HashMismatch, InvalidFormat, ZeroByte}
 use Rattle.bcrypt_plain.specs.declared.error.BcryptFault.{BcryptFault}
@@ -38,10 +48,10 @@ use Rattle.yescrypt_plain.specs.declared.error.CheckError.TheVariants as of_cryp
 use Rattle.yescrypt_plain.specs.declared.error.TextFault.{TextFault}
 use Rattle.any_check.specs.Cost.{is_costly, kind_costs}
 use Rattle.any_check.specs.Kinds.{asks, bcrypt_kind, is_valid, kind_by, md5_by_magic, md5_kind, phc_kind, record_costs, salted_kind}
-use Rattle.any_check.specs.Kinds.{scrypt_kind, sha_kind, text_kind, yescrypt_kind}
+use Rattle.any_check.specs.Kinds.{scram_kind, scrypt_kind, sha1_kind, sha_kind, text_kind, yescrypt_kind}
 use Rattle.any_check.specs.Numbers.{no_costs}
-use Rattle.any_check.specs.Laws.{CostlyIsValid, ValidIsVerdict, ValidIsVerdictOnSome}
-use Rattle.any_check.specs.Table.{any_verdict, identifier, is_record, md5_answer, md5_by, of_bcrypt_check, of_md5, of_scrypt_check}
+use Rattle.any_check.specs.Laws.{CostlyIsValid, ValidIsVerdict, ValidIsVerdictOnSome, hashes}
+use Rattle.any_check.specs.Table.{any_verdict, identifier, is_record, md5_answer, md5_by, of_bcrypt_check, of_md5, of_scram, of_sha1, of_scrypt_check}
 use Rattle.any_check.specs.Table.{of_stored, of_yescrypt_check, scheme_answer, sha_scheme, text_scheme}
 use Rattle.any_check.specs.declared.error.AnyError.{AnyError}
 use Rattle.any_check.specs.declared.kinds.TextKind.{TextKind}
@@ -51,7 +61,7 @@ use Rattle.scheme_list.specs.Schemes.{row_of, scheme_named}
 use Rattle.scheme_list.specs.declared.schemes.Scheme.{Scheme as StoredScheme}
 use Rattle.scheme_list.specs.declared.schemes.Scheme.TheVariants.{Argon2d, Argon2i, Argon2id, Bcrypt, BcryptDigest, Md5Crypt}
 use Rattle.scheme_list.specs.declared.schemes.Scheme.TheVariants.{Pbkdf2Sha256, Pbkdf2Sha512, Scrypt, ScryptCrypt, Sha256Crypt, Sha512Crypt}
-use Rattle.scheme_list.specs.declared.schemes.Scheme.TheVariants.{Yescrypt}
+use Rattle.scheme_list.specs.declared.schemes.Scheme.TheVariants.{Scram, Sha1Crypt, Yescrypt}
 use Rattle.sha_crypt.specs.declared.errors.Family.TheVariants.{Sha256, Sha512}
 use Rattle.any_check.proofs.Bound.{mcf_of_fault, mcf_of_valid}
 use Rattle.any_check.proofs.Families.{family_if_sha, no_family, sha_same}
@@ -125,6 +135,46 @@ digest_agree : (password stored : List ℕ)
     → Agree (of_bcrypt_check (digest_answer password stored)) (bcrypt_kind BcryptDigest (digest_cost stored))
 digest_agree password stored =
     compared (digest_answer password stored) ∙ verdict_where_cost password stored ∙ costed (digest_cost stored)
+
+-- ---- sha1-crypt
+
+sha1_compared : (r : Result Bool Sha1Fault) → is_ok (of_sha1 r) ≡ is_ok r
+sha1_compared (Err e) = refl
+sha1_compared (Ok b) = refl
+
+sha1_costed : (r : Result ℕ Sha1Fault) → is_ok r ≡ is_valid (sha1_kind r)
+sha1_costed (Err e) = refl
+sha1_costed (Ok rounds) = refl
+
+sha1_agree : (password stored : List ℕ) → Agree (of_sha1 (sha1_answer password stored)) (sha1_kind (sha1_text.text_cost stored))
+sha1_agree password stored =
+    sha1_compared (sha1_answer password stored) ∙ verdict_where_rounds password stored ∙ sha1_costed (sha1_text.text_cost stored)
+
+turned : (b : Bool) → not b ≡ true → b ≡ false
+turned true h = absurd (cc)
+turned false h = refl
+
+-- ---- SCRAM, whose texts of prepared passwords have a verdict on ASCII alone
+
+scram_compared : (r : Result Bool ScramFault) → is_ok (of_scram r) ≡ is_ok r
+scram_compared (Err e) = refl
+scram_compared (Ok b) = refl
+
+scram_costed : (r : Result ℕ ScramFault) → is_ok r ≡ is_valid (scram_kind r)
+scram_costed (Err e) = refl
+scram_costed (Ok rounds) = refl
+
+scram_valid : (password stored : List ℕ) → is_ok (of_scram (scram_answer password stored)) ≡ true
+    → is_valid (scram_kind (scram_text.text_cost stored)) ≡ true
+scram_valid password stored h =
+    sym (scram_costed (scram_text.text_cost stored))
+    ∙ scram_laws.rounds_where_verdict password stored (sym (scram_compared (scram_answer password stored)) ∙ h)
+
+scram_agree : (password stored : List ℕ) → list_all is_ascii password ≡ true
+    → Agree (of_scram (scram_answer password stored)) (scram_kind (scram_text.text_cost stored))
+scram_agree password stored ascii =
+    scram_compared (scram_answer password stored) ∙ scram_laws.verdict_on_ascii password stored ascii
+    ∙ scram_costed (scram_text.text_cost stored)
 
 -- ---- yescrypt and scrypt in crypt's own form
 
@@ -233,32 +283,37 @@ module _ (accepted : PasswordHash → List ℕ → ℕ → Bool) (tag : List ℕ
         stored_agree (verdict accepted tag password stored) _
         (record_by_fault (fault stored) refl s (no_family (identifier stored) (record_named s of is)))
 
-    -- ---- the rows: each kind of what has a verdict is valid, and the other way round on a password without a zero byte
+    -- ---- the rows: each kind of what has a verdict is valid, and the other way round on a password that the scheme hashes
 
-    abbrev Told : Bool → Bool → Type 0
-    Told verdict valid = (verdict ≡ true → valid ≡ true) × (has_zero password ≡ false → verdict ≡ valid)
+    abbrev Told : Option StoredScheme → Bool → Bool → Type 0
+    Told o verdict valid = (verdict ≡ true → valid ≡ true) × (hashes o password ≡ true → verdict ≡ valid)
 
-    both : (a b : Bool) → a ≡ b → Told a b
-    both a b same = (λ h. sym same ∙ h, λ zero. same)
+    no_zero : not (has_zero password) ≡ true → has_zero password ≡ false
+    no_zero = turned (has_zero password)
+
+    both : (o : Option StoredScheme) (a b : Bool) → a ≡ b → Told o a b
+    both o a b same = (λ h. sym same ∙ h, λ hashed. same)
 
     by_row : (o : Option StoredScheme) → text_scheme stored ≡ o
-        → Told (is_ok (scheme_answer accepted tag o password stored)) (is_valid (kind_by accepted o stored))
+        → Told o (is_ok (scheme_answer accepted tag o password stored)) (is_valid (kind_by accepted o stored))
     unfolding bcrypt_answer yescrypt_answer scrypt_answer
-    by_row None is = both _ _ refl
-    by_row (Some Md5Crypt) is = both _ _ (md5_agree password (mcf stored))
-    by_row (Some Sha256Crypt) is = both _ _ (sha_row Sha256 is)
-    by_row (Some Sha512Crypt) is = both _ _ (sha_row Sha512 is)
+    by_row None is = both None _ _ refl
+    by_row (Some Md5Crypt) is = both (Some Md5Crypt) _ _ (md5_agree password (mcf stored))
+    by_row (Some Sha256Crypt) is = both (Some Sha256Crypt) _ _ (sha_row Sha256 is)
+    by_row (Some Sha512Crypt) is = both (Some Sha512Crypt) _ _ (sha_row Sha512 is)
     by_row (Some Bcrypt) is =
-        (bcrypt_valid password (text_parts stored), λ zero. bcrypt_agree password zero (text_parts stored))
-    by_row (Some Yescrypt) is = both _ _ (yescrypt_agree password short (yescrypt_text stored))
-    by_row (Some ScryptCrypt) is = both _ _ (scrypt_agree password short (scrypt_text stored))
-    by_row (Some BcryptDigest) is = both _ _ (digest_agree password stored)
-    by_row (Some Scrypt) is = both _ _ (record_row Scrypt refl is)
-    by_row (Some Pbkdf2Sha256) is = both _ _ (record_row Pbkdf2Sha256 refl is)
-    by_row (Some Pbkdf2Sha512) is = both _ _ (record_row Pbkdf2Sha512 refl is)
-    by_row (Some Argon2d) is = both _ _ (record_row Argon2d refl is)
-    by_row (Some Argon2i) is = both _ _ (record_row Argon2i refl is)
-    by_row (Some Argon2id) is = both _ _ (record_row Argon2id refl is)
+        (bcrypt_valid password (text_parts stored), λ hashed. bcrypt_agree password (no_zero hashed) (text_parts stored))
+    by_row (Some Yescrypt) is = both (Some Yescrypt) _ _ (yescrypt_agree password short (yescrypt_text stored))
+    by_row (Some ScryptCrypt) is = both (Some ScryptCrypt) _ _ (scrypt_agree password short (scrypt_text stored))
+    by_row (Some BcryptDigest) is = both (Some BcryptDigest) _ _ (digest_agree password stored)
+    by_row (Some Sha1Crypt) is = both (Some Sha1Crypt) _ _ (sha1_agree password stored)
+    by_row (Some Scram) is = (scram_valid password stored, λ hashed. scram_agree password stored hashed)
+    by_row (Some Scrypt) is = both (Some Scrypt) _ _ (record_row Scrypt refl is)
+    by_row (Some Pbkdf2Sha256) is = both (Some Pbkdf2Sha256) _ _ (record_row Pbkdf2Sha256 refl is)
+    by_row (Some Pbkdf2Sha512) is = both (Some Pbkdf2Sha512) _ _ (record_row Pbkdf2Sha512 refl is)
+    by_row (Some Argon2d) is = both (Some Argon2d) _ _ (record_row Argon2d refl is)
+    by_row (Some Argon2i) is = both (Some Argon2i) _ _ (record_row Argon2i refl is)
+    by_row (Some Argon2id) is = both (Some Argon2id) _ _ (record_row Argon2id refl is)
 
     verdict_is : any_verdict accepted tag password stored ≡ scheme_answer accepted tag (text_scheme stored) password stored
     unfolding any_verdict
@@ -268,16 +323,16 @@ module _ (accepted : PasswordHash → List ℕ → ℕ → Bool) (tag : List ℕ
     unfolding text_kind
     kind_is = refl
 
-    by_scheme : Told (is_ok (any_verdict accepted tag password stored)) (is_valid (text_kind accepted stored))
+    by_scheme : Told (text_scheme stored) (is_ok (any_verdict accepted tag password stored)) (is_valid (text_kind accepted stored))
     by_scheme =
-        subst (λ (r : Result Bool AnyError). Told (is_ok r) (is_valid (text_kind accepted stored))) (sym verdict_is)
-        (subst (λ (k : TextKind). Told (is_ok (scheme_answer accepted tag (text_scheme stored) password stored)) (is_valid k))
+        subst (λ (r : Result Bool AnyError). Told (text_scheme stored) (is_ok r) (is_valid (text_kind accepted stored))) (sym verdict_is)
+        (subst (λ (k : TextKind). Told (text_scheme stored) (is_ok (scheme_answer accepted tag (text_scheme stored) password stored)) (is_valid k))
         (sym kind_is) (by_row (text_scheme stored) refl))
 
 -- ---- the laws
 
 pub valid_is_verdict : ValidIsVerdict
-valid_is_verdict accepted tag password stored short zero = (by_scheme accepted tag password stored short).1 zero
+valid_is_verdict accepted tag password stored short hashed = (by_scheme accepted tag password stored short).1 hashed
 
 -- no bytes, as a password
 abbrev nothing : List ℕ
@@ -286,9 +341,20 @@ nothing = []
 nothing_short : length nothing ≤ 4096
 nothing_short = omega arith
 
+hashes_nothing : (o : Option StoredScheme) → hashes o nothing ≡ true
+hashes_nothing None = refl
+hashes_nothing (Some Md5Crypt) = refl
+hashes_nothing (Some Bcrypt) = refl
+hashes_nothing (Some Scram) = refl
+hashes_nothing other = refl
+
 pub valid_on_some : ValidIsVerdictOnSome
 valid_on_some accepted tag stored = (
-  λ valid. (nothing, nothing_short, valid_is_verdict accepted tag nothing stored nothing_short refl ∙ valid),
+  λ valid. (
+    nothing,
+    nothing_short,
+    valid_is_verdict accepted tag nothing stored nothing_short (hashes_nothing (text_scheme stored)) ∙ valid,
+  ),
   λ on. (by_scheme accepted tag on.0 stored on.1).0 on.2,
 )
 
@@ -304,5 +370,5 @@ unfolding is_costly
 costly_valid accepted limits stored h = costly_kind limits (text_kind accepted stored) h
 
 pub costly_is_valid : CostlyIsValid
-costly_is_valid accepted tag limits password stored short zero costly =
-    valid_is_verdict accepted tag password stored short zero ∙ costly_valid accepted limits stored costly
+costly_is_valid accepted tag limits password stored short hashed costly =
+    valid_is_verdict accepted tag password stored short hashed ∙ costly_valid accepted limits stored costly

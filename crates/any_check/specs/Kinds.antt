@@ -13,7 +13,7 @@ use Rattle.scheme_list.specs.declared.schemes.CostFamily.TheVariants as of
 use Rattle.scheme_list.specs.declared.schemes.Scheme.{Scheme}
 use Rattle.scheme_list.specs.declared.schemes.Scheme.TheVariants.{Argon2d, Argon2i, Argon2id, Bcrypt, BcryptDigest, Md5Crypt}
 use Rattle.scheme_list.specs.declared.schemes.Scheme.TheVariants.{Pbkdf2Sha256, Pbkdf2Sha512, Scrypt, ScryptCrypt, Sha256Crypt, Sha512Crypt}
-use Rattle.scheme_list.specs.declared.schemes.Scheme.TheVariants.{Yescrypt}
+use Rattle.scheme_list.specs.declared.schemes.Scheme.TheVariants.{Scram, Sha1Crypt, Yescrypt}
 use Rattle.phc_kdf.specs.Numbers.{number}
 use Rattle.sha_crypt.specs.Fields.{ShaFields}
 use Rattle.sha_crypt.specs.Records.{record_of}
@@ -23,6 +23,10 @@ use Rattle.sha_crypt.specs.declared.errors.Family.TheVariants.{Sha256, Sha512}
 use Rattle.bcrypt_plain.specs.Text.{text_cost}
 use Rattle.bcrypt_plain.specs.declared.error.BcryptFault.{BcryptFault}
 use Rattle.bcrypt_digest.specs.Check.{digest_cost}
+use Rattle.sha1_crypt.specs.Text as of_sha1
+use Rattle.sha1_crypt.specs.declared.error.Sha1Fault.{Sha1Fault}
+use Rattle.scram_plain.specs.Text as of_scram
+use Rattle.scram_plain.specs.declared.error.ScramFault.{ScramFault}
 use Rattle.yescrypt_plain.specs.Text.{scrypt_costs, yescrypt_costs}
 use Rattle.yescrypt_plain.specs.declared.error.TextFault.{TextFault}
 use Rattle.yescrypt_plain.specs.declared.params.ScryptParams.{ScryptParams}
@@ -72,6 +76,16 @@ sha_text_kind family stored = if is_ok (mcf stored) then sha_kind family (record
 abbrev pub bcrypt_kind : Scheme → Result ℕ BcryptFault → TextKind
 bcrypt_kind scheme (Err e) = Invalid
 bcrypt_kind scheme (Ok cost) = asks scheme (of_cost cost)
+
+-- sha1-crypt: the rounds
+abbrev pub sha1_kind : Result ℕ Sha1Fault → TextKind
+sha1_kind (Err e) = Invalid
+sha1_kind (Ok rounds) = asks Sha1Crypt (of_rounds rounds)
+
+-- SCRAM: the rounds
+abbrev pub scram_kind : Result ℕ ScramFault → TextKind
+scram_kind (Err e) = Invalid
+scram_kind (Ok rounds) = asks Scram (of_rounds rounds)
 
 -- yescrypt: the binary logarithm of N, r and t
 abbrev pub yescrypt_kind : Result YescryptParams TextFault → TextKind
@@ -126,6 +140,8 @@ module _ (accepted : PasswordHash → List ℕ → ℕ → Bool) where
   row_kind Yescrypt stored = yescrypt_kind (yescrypt_costs stored)
   row_kind ScryptCrypt stored = scrypt_kind (scrypt_costs stored)
   row_kind BcryptDigest stored = bcrypt_kind BcryptDigest (digest_cost stored)
+  row_kind Sha1Crypt stored = sha1_kind (of_sha1.text_cost stored)
+  row_kind Scram stored = scram_kind (of_scram.text_cost stored)
   row_kind Scrypt stored = record_kind Scrypt stored
   row_kind Pbkdf2Sha256 stored = record_kind Pbkdf2Sha256 stored
   row_kind Pbkdf2Sha512 stored = record_kind Pbkdf2Sha512 stored

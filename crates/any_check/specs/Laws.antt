@@ -1,7 +1,11 @@
 -- Laws over the definitions.
-use Rattle.std.specs.Prelude.{◌≡◌, ◌≢◌, ◌↔◌, ◌<◌, ◌≤◌, ℕ, Bool, false, true, List, length, None, Ok, Err, is_ok}
+use Rattle.std.specs.Prelude.{◌≡◌, ◌≢◌, ◌↔◌, ◌<◌, ◌≤◌, ℕ, Bool, false, true, not, List, length, Option, Some, None, Ok, Err, is_ok}
 use Rattle.phc.specs.declared.password_hash.PasswordHash.{PasswordHash}
+use Rattle.std.specs.Char.{is_ascii}
+use Rattle.std.specs.List.{list_all}
 use Rattle.scheme_list.specs.Schemes.{scheme_named}
+use Rattle.scheme_list.specs.declared.schemes.Scheme.{Scheme}
+use Rattle.scheme_list.specs.declared.schemes.Scheme.TheVariants.{Bcrypt, Scram}
 use Rattle.phc_kdf.specs.Either.{Accepted, Tag}
 use Rattle.phc_kdf.specs.Limits.{password_max}
 use Rattle.stored_check.specs.Verdict.{verdict}
@@ -50,20 +54,27 @@ WithinNoBound =
     → is_costly accepted limits stored ≡ false
     → verdict_within accepted tag limits password stored ≡ any_verdict accepted tag password stored
 
--- a text that costs too much has a verdict on each password without a zero byte: no fault of the text hides behind
+-- The passwords that texts of a scheme have a verdict on: bcrypt's on those without a zero byte, SCRAM's on those of ASCII characters
+-- (and on others too, where the text says that passwords aren't prepared), all others on each.
+abbrev pub hashes : Option Scheme → List ℕ → Bool
+hashes (Some Bcrypt) password = not (has_zero password)
+hashes (Some Scram) password = list_all is_ascii password
+hashes other password = true
+
+-- a text that costs too much has a verdict on each password that its scheme hashes: no fault of the text hides behind
 -- `too-costly`
 abbrev pub CostlyIsValid : Type 0
 CostlyIsValid =
     (accepted : Accepted) (tag : Tag) (limits : SchemeCosts) (password stored : List ℕ)
-    → length password ≤ password_max → has_zero password ≡ false → is_costly accepted limits stored ≡ true
+    → length password ≤ password_max → hashes (text_scheme stored) password ≡ true → is_costly accepted limits stored ≡ true
     → is_ok (any_verdict accepted tag password stored) ≡ true
 
--- the kind of a text tells whether it has a verdict: on each password of at most 4,096 bytes and without a zero byte, exactly
--- where the text has no fault
+-- the kind of a text tells whether it has a verdict: on each password of at most 4,096 bytes that its scheme hashes, exactly where the
+-- text has no fault
 abbrev pub ValidIsVerdict : Type 0
 ValidIsVerdict =
     (accepted : Accepted) (tag : Tag) (password stored : List ℕ) → length password ≤ password_max
-    → has_zero password ≡ false
+    → hashes (text_scheme stored) password ≡ true
     → is_ok (any_verdict accepted tag password stored) ≡ is_valid (text_kind accepted stored)
 
 -- so the text has no fault exactly where it has a verdict on some password of at most 4,096 bytes

@@ -8,7 +8,7 @@ use Rattle.scheme_list.specs.Schemes.{row_of, scheme_named}
 use Rattle.scheme_list.specs.declared.schemes.Scheme.{Scheme}
 use Rattle.scheme_list.specs.declared.schemes.Scheme.TheVariants.{Argon2d, Argon2i, Argon2id, Bcrypt, BcryptDigest, Md5Crypt}
 use Rattle.scheme_list.specs.declared.schemes.Scheme.TheVariants.{Pbkdf2Sha256, Pbkdf2Sha512, Scrypt, ScryptCrypt, Sha256Crypt, Sha512Crypt}
-use Rattle.scheme_list.specs.declared.schemes.Scheme.TheVariants.{Yescrypt}
+use Rattle.scheme_list.specs.declared.schemes.Scheme.TheVariants.{Scram, Sha1Crypt, Yescrypt}
 use Rattle.sha_crypt.specs.declared.errors.Family.{Family}
 use Rattle.sha_crypt.specs.declared.errors.Family.TheVariants.{Sha256, Sha512}
 use Rattle.phc_kdf.specs.Limits.{password_max}
@@ -25,6 +25,12 @@ use Rattle.bcrypt_plain.specs.declared.error.BcryptError.TheVariants as of_bcryp
 use Rattle.bcrypt_plain.specs.declared.error.BcryptFault.{BcryptFault}
 use Rattle.bcrypt_plain.specs.declared.error.BcryptFault.TheVariants as of_fault
 use Rattle.bcrypt_digest.specs.Check.{digest_answer}
+use Rattle.sha1_crypt.specs.Check.{sha1_answer}
+use Rattle.sha1_crypt.specs.declared.error.Sha1Fault.{Sha1Fault}
+use Rattle.sha1_crypt.specs.declared.error.Sha1Fault.TheVariants as of_sha1_fault
+use Rattle.scram_plain.specs.Check.{scram_answer}
+use Rattle.scram_plain.specs.declared.error.ScramFault.{ScramFault}
+use Rattle.scram_plain.specs.declared.error.ScramFault.TheVariants as of_scram_fault
 use Rattle.yescrypt_plain.specs.Check.{is_verdict, scrypt_answer, yescrypt_answer}
 use Rattle.yescrypt_plain.specs.declared.error.CheckError.{CheckError}
 use Rattle.yescrypt_plain.specs.declared.error.CheckError.TheVariants as of_crypt
@@ -64,6 +70,16 @@ of_stored (Err e) = Err (cause.Stored e)
 abbrev pub of_md5 : Result Bool Md5Fault → Result Bool AnyError
 of_md5 (Ok b) = Ok b
 of_md5 (Err e) = Err (cause.Md5 e)
+
+-- of `sha1_check`
+abbrev pub of_sha1 : Result Bool Sha1Fault → Result Bool AnyError
+of_sha1 (Ok b) = Ok b
+of_sha1 (Err e) = Err (cause.Sha1 e)
+
+-- of `scram_check`
+abbrev pub of_scram : Result Bool ScramFault → Result Bool AnyError
+of_scram (Ok b) = Ok b
+of_scram (Err e) = Err (cause.Scram e)
 
 -- of `bcrypt_check` and `digest_check`, for which another password is a fault
 abbrev pub of_bcrypt_check : Result (Unit {0}) BcryptError → Result Bool AnyError
@@ -117,6 +133,8 @@ module _ (accepted : PasswordHash → List ℕ → ℕ → Bool) (tag : List ℕ
   row Yescrypt password stored = of_yescrypt_check (yescrypt_answer password stored)
   row ScryptCrypt password stored = of_scrypt_check (scrypt_answer password stored)
   row BcryptDigest password stored = of_bcrypt_check (digest_answer password stored)
+  row Sha1Crypt password stored = of_sha1 (sha1_answer password stored)
+  row Scram password stored = of_scram (scram_answer password stored)
   row Scrypt password stored = stored_row password stored
   row Pbkdf2Sha256 password stored = stored_row password stored
   row Pbkdf2Sha512 password stored = stored_row password stored
@@ -150,6 +168,8 @@ module _ (accepted : PasswordHash → List ℕ → ℕ → Bool) (needs_memory :
   row_may_lack (Some Yescrypt) password stored = is_verdict (yescrypt_answer password stored)
   row_may_lack (Some ScryptCrypt) password stored = is_verdict (scrypt_answer password stored)
   row_may_lack (Some BcryptDigest) password stored = false
+  row_may_lack (Some Sha1Crypt) password stored = false
+  row_may_lack (Some Scram) password stored = false
   row_may_lack (Some Scrypt) password stored = may_lack_memory accepted needs_memory tag password stored
   row_may_lack (Some Pbkdf2Sha256) password stored = may_lack_memory accepted needs_memory tag password stored
   row_may_lack (Some Pbkdf2Sha512) password stored = may_lack_memory accepted needs_memory tag password stored
@@ -194,6 +214,22 @@ scrypt_word of_text.Memory = codes "scrypt-cost"
 scrypt_word of_text.Cost = codes "scrypt-cost"
 scrypt_word fault = codes "scrypt-format"
 
+-- the word of a fault of a text of sha1-crypt; the last line is for the faults of its form
+abbrev pub sha1_word : Sha1Fault → List ℕ
+sha1_word of_sha1_fault.Rounds = codes "sha1-cost"
+sha1_word of_sha1_fault.HashCharacter = codes "sha1-b64"
+sha1_word of_sha1_fault.FirstByte = codes "sha1-b64"
+sha1_word fault = codes "sha1-format"
+
+-- the word of a fault of a text of SCRAM, or of its password; the last line is for the faults of the text's form
+abbrev pub scram_word : ScramFault → List ℕ
+scram_word of_scram_fault.Rounds = codes "scram-cost"
+scram_word of_scram_fault.SaltEncoding = codes "scram-b64"
+scram_word of_scram_fault.StoredKeyEncoding = codes "scram-b64"
+scram_word of_scram_fault.ServerKeyEncoding = codes "scram-b64"
+scram_word of_scram_fault.NotAscii = codes "not-ascii"
+scram_word fault = codes "scram-format"
+
 -- those of `check_stored`, and a few for each further scheme; nothing is out of memory there
 abbrev pub any_word : Result Bool AnyError → List ℕ
 any_word (Ok b) = word (Ok b)
@@ -203,5 +239,7 @@ any_word (Err (cause.Md5 fault)) = codes "md5-format"
 any_word (Err (cause.Bcrypt fault)) = bcrypt_word fault
 any_word (Err (cause.Yescrypt fault)) = yescrypt_word fault
 any_word (Err (cause.Scrypt fault)) = scrypt_word fault
+any_word (Err (cause.Sha1 fault)) = sha1_word fault
+any_word (Err (cause.Scram fault)) = scram_word fault
 any_word (Err cause.ZeroByte) = codes "zero-byte"
 any_word (Err cause.TooCostly) = codes "too-costly"

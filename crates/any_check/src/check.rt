@@ -3,7 +3,7 @@
 ghost use Rattle.std.specs.Prelude.{◌≡◌, ◌≤◌, Some, length};
 ghost use Rattle.mcf.specs.Grammar.{mcf};
 ghost use Rattle.phc_kdf.specs.Limits.{password_max};
-ghost use Rattle.any_check.specs.Table.{IsAnyVerdict, any_may_lack, any_verdict, md5_answer, of_bcrypt_check, of_md5, of_scrypt_check, of_stored, of_yescrypt_check, row, row_may_lack, text_scheme};
+ghost use Rattle.any_check.specs.Table.{IsAnyVerdict, any_may_lack, any_verdict, md5_answer, of_bcrypt_check, of_md5, of_scram, of_scrypt_check, of_sha1, of_stored, of_yescrypt_check, row, row_may_lack, text_scheme};
 ghost use Rattle.any_check.specs.Cost.{verdict_within, within_may_lack};
 
 use crate::cost::is_costly;
@@ -13,6 +13,8 @@ use bcrypt_digest::digest_check;
 use bcrypt_plain::{BcryptError, bcrypt_check};
 use mcf::PasswordHashRef;
 use md5_plain::{Md5Fault, magic_of, md5_verdict};
+use scram_plain::{ScramFault, scram_check};
+use sha1_crypt::{Sha1Fault, sha1_check};
 use std::alloc::Global;
 use stored_check::{PASSWORD_MAX, PhcKdf, StoredError, check_stored, mcf_name};
 use yescrypt_plain::{CheckError, CryptKept, scrypt_check_kept, yescrypt_check_kept};
@@ -48,6 +50,26 @@ fn md5_checked(password: &str, stored: &str) -> Result<bool, AnyError>
             Some(magic) => of_md5(md5_verdict(magic, password.as_bytes(), text.fields())),
             None => Err(AnyError::NoScheme),
         },
+    }
+}
+
+// An answer of `scram_check`.
+fn of_scram(answer: Result<bool, ScramFault>) -> Result<bool, AnyError>
+    ensures { result ≡ of_scram answer }
+{
+    match answer {
+        Ok(matches) => Ok(matches),
+        Err(e) => Err(AnyError::Scram(e)),
+    }
+}
+
+// An answer of `sha1_check`.
+fn of_sha1(answer: Result<bool, Sha1Fault>) -> Result<bool, AnyError>
+    ensures { result ≡ of_sha1 answer }
+{
+    match answer {
+        Ok(matches) => Ok(matches),
+        Err(e) => Err(AnyError::Sha1(e)),
     }
 }
 
@@ -117,6 +139,8 @@ fn checked<K: PhcKdf>(
             of_scrypt_check(scrypt_check_kept(alloc, kept, password, stored, &mut counts))
         }
         Scheme::BcryptDigest => of_bcrypt_check(digest_check(password, stored)),
+        Scheme::Sha1Crypt => of_sha1(sha1_check(password.as_bytes(), stored)),
+        Scheme::Scram => of_scram(scram_check(password.as_bytes(), stored)),
         Scheme::Sha256Crypt | Scheme::Sha512Crypt => of_stored(check_stored(
             alloc, kdf, password, stored,
         )),
@@ -132,7 +156,7 @@ fn checked<K: PhcKdf>(
 /// Checks a password against a stored text of any scheme, and answers whether it matches.
 ///
 /// What stands between the first two `$` of the text names the scheme ([`Scheme`]), and the answer is
-/// that of the scheme's own check: `md5_verdict` for md5-crypt, `bcrypt_check` for bcrypt, `digest_check` for bcrypt of a digest, `yescrypt_check` and
+/// that of the scheme's own check: `md5_verdict` for md5-crypt, `bcrypt_check` for bcrypt, `digest_check` for bcrypt of a digest, `sha1_check` for sha1-crypt, `scram_check` for SCRAM, `yescrypt_check` and
 /// `scrypt_check` for `y` and `7`, in the tables that `kept` keeps, `check_stored` for SHA-crypt and for records, whose keys
 /// `kdf` derives. Only a record's key and these tables take memory.
 ///

@@ -2,10 +2,12 @@
 
 ghost use Rattle.std.specs.Prelude.{◌≡◌, ◌≢◌, ◌≤◌, Err, length};
 ghost use Rattle.stored_check.specs.declared.error.StoredError.TheVariants.{OutOfMemory};
-ghost use Rattle.any_check.specs.Table.{any_word, bcrypt_word, scrypt_word, yescrypt_word};
+ghost use Rattle.any_check.specs.Table.{any_word, bcrypt_word, scram_word, scrypt_word, sha1_word, yescrypt_word};
 
 use bcrypt_plain::BcryptFault;
 use md5_plain::Md5Fault;
+use scram_plain::ScramFault;
+use sha1_crypt::Sha1Fault;
 use stored_check::StoredError;
 use yescrypt_plain::TextFault;
 
@@ -25,6 +27,11 @@ pub enum AnyError {
     Yescrypt(TextFault),
     /// The text is no text `$7$` that is taken, though its identifier is `7`.
     Scrypt(TextFault),
+    /// The text is no text `$sha1$` that is taken, though its identifier is `sha1`.
+    Sha1(Sha1Fault),
+    /// The text is no text of SCRAM that is taken, though it has an identifier of it; or the password isn't ASCII, and the text is of
+    /// prepared passwords.
+    Scram(ScramFault),
     /// The text is valid, and the password has a zero byte, which its scheme doesn't tell from the end.
     ZeroByte,
     /// The text is valid, and its cost is above the bound.
@@ -71,10 +78,36 @@ fn scrypt_word(fault: TextFault) -> &'static str
     }
 }
 
+// The word of a fault of a text of SCRAM, or of its password.
+fn scram_word(fault: ScramFault) -> &'static str
+    ensures word { result.now ≡ scram_word fault }
+    ensures short { length result.now ≤ 17 }
+{
+    match fault {
+        ScramFault::Rounds => "scram-cost",
+        ScramFault::SaltEncoding | ScramFault::StoredKeyEncoding | ScramFault::ServerKeyEncoding =>
+            "scram-b64",
+        ScramFault::NotAscii => "not-ascii",
+        _ => "scram-format",
+    }
+}
+
+// The word of a fault of a text of sha1-crypt.
+fn sha1_word(fault: Sha1Fault) -> &'static str
+    ensures word { result.now ≡ sha1_word fault }
+    ensures short { length result.now ≤ 17 }
+{
+    match fault {
+        Sha1Fault::Rounds => "sha1-cost",
+        Sha1Fault::HashCharacter | Sha1Fault::FirstByte => "sha1-b64",
+        _ => "sha1-format",
+    }
+}
+
 /// The word of an answer of [`check_any`](crate::check_any): `pwcheck`'s words; `no-scheme`; `md5-format` for each fault of a
 /// text of md5-crypt; `bcrypt-obsolete`, `bcrypt-cost`, `bcrypt-b64` and, for each other fault of a text of bcrypt, be a digest in front or not,
 /// `bcrypt-format`; `yescrypt-flavor`, `yescrypt-cost` and `yescrypt-format`; `scrypt-cost` and `scrypt-format` for faults
-/// of a text `$7$`; `zero-byte`; and `too-costly`. Want of memory has none.
+/// of a text `$7$`; `sha1-cost`, `sha1-b64` and `sha1-format`; `scram-cost`, `scram-b64`, `scram-format` and `not-ascii`; `zero-byte`; and `too-costly`. Want of memory has none.
 pub fn any_word(answer: &Result<bool, AnyError>) -> &'static str
     requires known { answer.now ≢ Err (AnyError.Stored OutOfMemory) }
     ensures word { result.now ≡ any_word answer.now }
@@ -88,6 +121,8 @@ pub fn any_word(answer: &Result<bool, AnyError>) -> &'static str
         Err(AnyError::Bcrypt(fault)) => bcrypt_word(fault),
         Err(AnyError::Yescrypt(fault)) => yescrypt_word(fault),
         Err(AnyError::Scrypt(fault)) => scrypt_word(fault),
+        Err(AnyError::Sha1(fault)) => sha1_word(fault),
+        Err(AnyError::Scram(fault)) => scram_word(fault),
         Err(AnyError::ZeroByte) => "zero-byte",
         Err(AnyError::TooCostly) => "too-costly",
     }

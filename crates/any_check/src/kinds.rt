@@ -10,7 +10,7 @@ ghost use Rattle.sha_crypt.specs.Records.{record_of};
 ghost use Rattle.yescrypt_plain.specs.Text.{scrypt_costs, yescrypt_costs};
 ghost use Rattle.phc.specs.declared.password_hash.PasswordHash.{PasswordHash};
 ghost use Rattle.any_check.specs.Numbers.{no_costs};
-ghost use Rattle.any_check.specs.Kinds.{asks, bcrypt_kind, md5_fields_kind, md5_kind, phc_kind, record_costs, record_kind, row_kind, salted_kind, scrypt_kind, sha_kind, sha_text_kind, text_kind, yescrypt_kind};
+ghost use Rattle.any_check.specs.Kinds.{asks, bcrypt_kind, md5_fields_kind, md5_kind, phc_kind, record_costs, record_kind, row_kind, salted_kind, scram_kind, scrypt_kind, sha_kind, sha1_kind, sha_text_kind, text_kind, yescrypt_kind};
 
 use crate::md5_text::is_plain;
 use crate::{Costs, NO_COSTS, TextCosts, scheme_of_text, sha_scheme};
@@ -20,7 +20,9 @@ use mcf::{Fields, PasswordHashRef};
 use md5_plain::{are_md5_fields, magic_of};
 use phc::PasswordHash;
 use scheme_list::{CostFamily, Scheme};
+use scram_plain::ScramFault;
 use sha_crypt::{Family, ShaRecord};
+use sha1_crypt::Sha1Fault;
 use stored_check::PhcKdf;
 use yescrypt_plain::{scrypt_costs, yescrypt_costs};
 
@@ -176,6 +178,26 @@ fn bcrypt_kind(scheme: Scheme, cost: Result<u32, BcryptFault>) -> TextKind
     }
 }
 
+// A text of sha1-crypt, by its rounds.
+fn sha1_kind(rounds: Result<u32, Sha1Fault>) -> TextKind
+    ensures { result ≡ sha1_kind rounds }
+{
+    match rounds {
+        Ok(rounds) => asks(Scheme::Sha1Crypt, Costs::of_rounds(rounds as u64)),
+        Err(_) => TextKind::Invalid,
+    }
+}
+
+// A text of SCRAM, by its rounds.
+fn scram_kind(rounds: Result<u32, ScramFault>) -> TextKind
+    ensures { result ≡ scram_kind rounds }
+{
+    match rounds {
+        Ok(rounds) => asks(Scheme::Scram, Costs::of_rounds(rounds as u64)),
+        Err(_) => TextKind::Invalid,
+    }
+}
+
 fn yescrypt_kind(stored: &str) -> TextKind
     ensures { result ≡ yescrypt_kind (yescrypt_costs stored.now) }
 {
@@ -212,6 +234,8 @@ fn row_kind<K: PhcKdf>(kdf: &K, scheme: Scheme, stored: &str) -> TextKind
         Scheme::Yescrypt => yescrypt_kind(stored),
         Scheme::ScryptCrypt => scrypt_kind(stored),
         Scheme::BcryptDigest => bcrypt_kind(Scheme::BcryptDigest, digest_cost(stored)),
+        Scheme::Sha1Crypt => sha1_kind(sha1_crypt::text_cost(stored)),
+        Scheme::Scram => scram_kind(scram_plain::text_cost(stored)),
         Scheme::Scrypt
         | Scheme::Pbkdf2Sha256
         | Scheme::Pbkdf2Sha512

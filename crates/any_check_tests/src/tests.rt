@@ -6,6 +6,8 @@ use any_check::{
 };
 use bcrypt_plain::BcryptFault;
 use md5_plain::Md5Fault;
+use scram_plain::ScramFault;
+use sha1_crypt::Sha1Fault;
 use stored_check::StoredError;
 use yescrypt_plain::{CryptKept, TextFault};
 
@@ -18,7 +20,7 @@ fn word_of(answer: &Result<bool, AnyError>) -> &'static str {
 }
 
 // Texts of the password `secret`.
-pub const TEXTS: [&str; 20] = [
+pub const TEXTS: [&str; 23] = [
     "$1$abcdefgh$cHJi5PXp/ki/ktXzqlk6I1",
     "$apr1$abcdefgh$h9FWgUz3n9YxylKLlR5SQ/",
     "$5$abcdefgh$gruCpC7VkOTspMQTTSAR8mtlO9Upms.fwqE5y16JVM.",
@@ -39,10 +41,13 @@ pub const TEXTS: [&str; 20] = [
     "$bcrypt-sha256$2b,4$abcdefghijklmnopqrstuu$N9tMz1lMx9RK4tmPpgRXWaagQQdZIOO",
     "$bcrypt-sha256-hex$2b$04$abcdefghijklmnopqrstuuraR8y8jUb0UMmCc9fwl/YxKZSpSs52u",
     "$wp$2y$04$abcdefghijklmnopqrstuuEeHkRZpI6C0z7R9xxYj6cAAQJttpxEy",
+    "$sha1$19$abcdefgh$nl4bYNUkvp1kTppWm6kb5cqPQqNG",
+    "$scram-sha-256$19$c2FsdHNhbHRzYWx0$yKryWWaEJIQZh+JLbGHI0L6CiAe9Z/A045jMaYLvY5Q=$m68IZJjNEbv8HGR356PYAHysNh90ZvhvCDdy6qKIKYw=",
+    "$scram-sha-256-raw$20$c2FsdHNhbHRzYWx0$RdX4ARLvYgtG49yrH5Ad+1cSP6sX3ne7wcvyE05dWd8=$nqZeGYnz3lpZ+Z9cF+fW31+zlAed1+TSM+lgpSCnf7Q=",
 ];
 
 // Texts without a verdict, and their words.
-pub const FAULTS: [(&str, &str); 36] = [
+pub const FAULTS: [(&str, &str); 45] = [
     ("$1$abcdefgh", "md5-format"),
     ("$1$abcdefghi$cHJi5PXp/ki/ktXzqlk6I1", "md5-format"),
     ("$apr1$", "mcf-delimiter"),
@@ -122,6 +127,33 @@ pub const FAULTS: [(&str, &str); 36] = [
         "bcrypt-b64",
     ),
     ("$wp$2y$04$abcdefghijklmnopqrstuu", "bcrypt-format"),
+    ("$sha1$19$abcdefgh", "sha1-format"),
+    (
+        "$sha1$019$abcdefgh$nl4bYNUkvp1kTppWm6kb5cqPQqNG",
+        "sha1-cost",
+    ),
+    ("$sha1$19$abcdefgh$nl4bYNUkvp1kTppWm6kb5cqPQqN-", "sha1-b64"),
+    ("$sha1$19$abcdefgh$nl4bYNUkvp1kTppWm6kb5cqPZqNG", "sha1-b64"),
+    (
+        "$scram-sha-256$19$c2FsdHNhbHRzYWx0$yKryWWaEJIQZh+JLbGHI0L6CiAe9Z/A045jMaYLvY5Q=",
+        "scram-format",
+    ),
+    (
+        "$scram-sha-256$019$c2FsdHNhbHRzYWx0$yKryWWaEJIQZh+JLbGHI0L6CiAe9Z/A045jMaYLvY5Q=$m68IZJjNEbv8HGR356PYAHysNh90ZvhvCDdy6qKIKYw=",
+        "scram-cost",
+    ),
+    (
+        "$scram-sha-256$19$c2FsdHNhbHRzYWx-$yKryWWaEJIQZh+JLbGHI0L6CiAe9Z/A045jMaYLvY5Q=$m68IZJjNEbv8HGR356PYAHysNh90ZvhvCDdy6qKIKYw=",
+        "scram-b64",
+    ),
+    (
+        "$scram-sha-256-raw$20$c2FsdHNhbHRzYWx0$RdX-ARLvYgtG49yrH5Ad+1cSP6sX3ne7wcvyE05dWd8=$nqZeGYnz3lpZ+Z9cF+fW31+zlAed1+TSM+lgpSCnf7Q=",
+        "scram-b64",
+    ),
+    (
+        "$scram-sha-256$19$c2FsdHNhbHRzYWx0$yKryWWaEJIQZh+JLbGHI0L6CiAe9Z/A045jMaYLvY5Q=$m68IZJjNEbv8HGR356PYAHysNh90ZvhvCDdy6qKIKYx=",
+        "scram-b64",
+    ),
     ("abJnggxhB/yWI", "no-scheme"),
     ("{SHA}5en6G6MezRroT3XKqkdPOmY/BfQ=", "no-scheme"),
     (
@@ -354,16 +386,36 @@ fn long_passwords(rt: HostRuntime) {
 }
 
 // Passwords and texts without a verdict, and the first cause.
-const CAUSES: [(&str, &str, AnyError); 4] = [
+const CAUSES: [(&str, &str, AnyError); 8] = [
     ("secret", "$1$abcdefgh", AnyError::Md5(Md5Fault::NoHash)),
     ("secret", "$2a$04", AnyError::Bcrypt(BcryptFault::NoHash)),
     ("secret", "$wp$2y$04", AnyError::Bcrypt(BcryptFault::Length)),
+    ("secret", "$sha1$19", AnyError::Sha1(Sha1Fault::NoSalt)),
+    (
+        "secret",
+        "$scram-sha-256$19$x",
+        AnyError::Scram(ScramFault::NoStoredKey),
+    ),
+    (
+        "péché",
+        "$scram-sha-256$19$x",
+        AnyError::Scram(ScramFault::NoStoredKey),
+    ),
+    (
+        "péché",
+        "$scram-sha-256$19$c2FsdHNhbHRzYWx0$yKryWWaEJIQZh+JLbGHI0L6CiAe9Z/A045jMaYLvY5Q=$m68IZJjNEbv8HGR356PYAHysNh90ZvhvCDdy6qKIKYw=",
+        AnyError::Scram(ScramFault::NotAscii),
+    ),
     (
         "sec\0ret",
         "$2b$04$abcdefghijklmnopqrstuu2r9OfJnfCsdneAXAGHnS4UpFFP8WIrW",
         AnyError::ZeroByte,
     ),
 ];
+
+// A text of the password `péché`, which isn't prepared.
+const NOT_PREPARED: &str =
+    "$scram-sha-256-raw$18$MDEyMzQ1Njc4OWFiY2RlZg==$Kzs9hMQq005K9mauOQ1p7DS8xWB4w0JzRo+ecXj0CQQ=$CnGv9hKZrHe46JMhL6yKiORo+KML/55pU1wx9mdOicE=";
 
 #[test]
 fn first_causes(rt: HostRuntime) {
@@ -377,6 +429,10 @@ fn first_causes(rt: HostRuntime) {
     assert!(rt; got == "zero-byte", "{got}");
     let got = word_of(&check_any(rt.alloc(), &kdf, &kept, "sec\0ret", TEXTS[17]));
     assert!(rt; got == "mismatch", "{got}");
+    let got = word_of(&check_any(rt.alloc(), &kdf, &kept, "péché", TEXTS[21]));
+    assert!(rt; got == "not-ascii", "{got}");
+    let got = word_of(&check_any(rt.alloc(), &kdf, &kept, "péché", NOT_PREPARED));
+    assert!(rt; got == "match", "{got}");
 }
 
 #[test]
@@ -393,6 +449,9 @@ fn schemes(rt: HostRuntime) {
         ("$bcrypt-sha256$x", Scheme::BcryptDigest),
         ("$bcrypt-sha256-hex$2b", Scheme::BcryptDigest),
         ("$wp", Scheme::BcryptDigest),
+        ("$sha1$x", Scheme::Sha1Crypt),
+        ("$scram-sha-256$x", Scheme::Scram),
+        ("$scram-sha-256-raw", Scheme::Scram),
         ("$scrypt$x", Scheme::Scrypt),
         ("$argon2i", Scheme::Argon2i),
         ("$pbkdf2-sha512$x", Scheme::Pbkdf2Sha512),
@@ -420,7 +479,7 @@ fn no_scheme(rt: HostRuntime) {
 
 // Valid texts of which each digest takes a tenth of a second and more: of each variant and type, and where its texts have several
 // lengths, another one of more than 140 bytes or the shortest.
-pub const DEAR: [&str; 27] = [
+pub const DEAR: [&str; 31] = [
     "$5$rounds=999999999$abcdefgh$gruCpC7VkOTspMQTTSAR8mtlO9Upms.fwqE5y16JVM.",
     "$5$rounds=999999999$a$gruCpC7VkOTspMQTTSAR8mtlO9Upms.fwqE5y16JVM.",
     "$6$rounds=999999999$abcdefgh$ltjgWl6579NluT/Vi1nwEvcil.G5Nbc4NiXZaNGStk8PSwGfQv72N2CKPPrVACtLtip/cZ/1GM/O6IND4WQhG.",
@@ -432,6 +491,10 @@ pub const DEAR: [&str; 27] = [
     "$bcrypt-sha256$2a,31$abcdefghijklmnopqrstuu$N9tMz1lMx9RK4tmPpgRXWaagQQdZIOO",
     "$bcrypt-sha256-hex$2a$31$abcdefghijklmnopqrstuuraR8y8jUb0UMmCc9fwl/YxKZSpSs52u",
     "$wp$2y$31$abcdefghijklmnopqrstuuEeHkRZpI6C0z7R9xxYj6cAAQJttpxEy",
+    "$sha1$4294967295$abcdefgh$nl4bYNUkvp1kTppWm6kb5cqPQqNG",
+    "$sha1$4294967295$a$nl4bYNUkvp1kTppWm6kb5cqPQqNG",
+    "$scram-sha-256$4294967295$c2FsdHNhbHRzYWx0$yKryWWaEJIQZh+JLbGHI0L6CiAe9Z/A045jMaYLvY5Q=$m68IZJjNEbv8HGR356PYAHysNh90ZvhvCDdy6qKIKYw=",
+    "$scram-sha-256-raw$4294967295$YQ==$RdX4ARLvYgtG49yrH5Ad+1cSP6sX3ne7wcvyE05dWd8=$nqZeGYnz3lpZ+Z9cF+fW31+zlAed1+TSM+lgpSCnf7Q=",
     "$y$jFT$0123456789ab$kb1fsIrDP1wOa4Q3gNpxZkfwQ3ce8kmPbnemuN65IT2",
     "$y$jFT$0123456789ab0123456789ab0123456789ab0123456789ab0123456789ab0123456789ab0123456789ab01$kb1fsIrDP1wOa4Q3gNpxZkfwQ3ce8kmPbnemuN65IT2",
     "$7$EU..../....SodiumChloride$V4S.p0ArbLXh9bvI9g1ReO/qmFMyvEX4e98XynaDdN9",

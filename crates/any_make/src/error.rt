@@ -22,7 +22,7 @@ pub enum MakeFault {
 /// Why a name stands for no scheme of which texts are made.
 #[derive(Clone, Copy, Debug, PartialEq, Eq)]
 pub enum NameFault {
-    /// Texts of the scheme are weak whatever they ask for: those of `md5-crypt`, with its 1,000 rounds of MD5.
+    /// Texts of the scheme are weak whatever they ask for.
     Weak,
     /// No scheme has the name, or none of its texts are made.
     Unknown,

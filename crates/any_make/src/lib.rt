@@ -1,8 +1,8 @@
 //! Texts of every scheme that new passwords may be kept by: [`make_text`] writes the text of a password, a cost and a salt that
 //! is handed in, and `any_check` answers it with a match for this password.
 //!
-//! The definition is a table from cost to text (`specs/Made.antt`), each row the scheme's own definition. md5-crypt has no row:
-//! its texts are read for migration alone. Of which schemes texts are made, `scheme_list` says. [`run_make`] writes the text of the first line of a source. Only the keys of scrypt, Argon2id and yescrypt take memory, a table for each call.
+//! The definition is a table from cost to text (`specs/Made.antt`), each row the scheme's own definition. Of which schemes
+//! texts are made, `scheme_list` says; the others' texts are read for migration alone. [`run_make`] writes the text of the first line of a source. Only the keys of scrypt, Argon2id and yescrypt take memory, a table for each call.
 #![tactic(auto)]
 
 mod error;

@@ -22,7 +22,7 @@ fn made_scheme(scheme: Option<Scheme>) -> Result<Scheme, NameFault>
 ///
 /// # Errors
 ///
-/// `Weak` for `md5-crypt`, whose texts are weak whatever they ask for; else `Unknown`.
+/// `Weak` for a scheme whose texts are weak whatever they ask for ([`Scheme::is_weak`]); else `Unknown`.
 pub fn scheme_named(name: &str) -> Result<Scheme, NameFault>
     ensures scheme { result ≡ scheme_named name.now }
 {

@@ -2,36 +2,40 @@
 //! and each of these N runs has to end by want of memory, and the next one as usual. So no text is made twice, and no request is
 //! tried again or made for nothing.
 
-use crate::tests::{ROWS, Row};
-use any_make::{MakeCost, MakeFault, made_text};
+use crate::tests::{Row, is_made, rows};
+use any_make::MakeCost;
 use std::alloc::Global;
 use std::process::Abort;
 
-// Makes the text of a row, and compares it with that of the other program.
-fn is_made<R: Abort>(rt: &R, alloc: Global, row: Row) {
-    match made_text(alloc, row.cost, row.password.as_bytes(), row.salt) {
-        Ok(text) => assert!(rt; text.as_slice() == row.text.as_bytes(), "{}", row.text),
-        Err(MakeFault::OutOfMemory) => panic!(rt; "want of memory: {}", row.text),
-        Err(fault) => panic!(rt; "{}: {fault:?}", row.text),
+// The first row whose text begins so.
+fn first_row(front: &str) -> Option<&'static Row> {
+    for row in rows() {
+        if row.text.starts_with(front) {
+            return Some(row);
+        }
     }
+    None
 }
 
-// Makes the text of the first row whose text begins so.
-fn is_first_made<R: Abort>(rt: &R, alloc: Global, front: &str) {
-    match ROWS.iter().find(|row| row.text.starts_with(front)) {
-        Some(row) => is_made(rt, alloc, *row),
+// Makes the text of this row.
+fn is_first_made(rt: &impl Abort, alloc: Global, front: &str) {
+    match first_row(front) {
+        Some(row) => is_made(rt, alloc, row),
         None => panic!(rt; "no row begins with {front}"),
     }
 }
 
+fn has_table(cost: MakeCost) -> bool {
+    matches!(
+        cost,
+        MakeCost::Scrypt(_) | MakeCost::Yescrypt(_) | MakeCost::Argon2id(_)
+    )
+}
+
 #[test]
 fn takes_0_requests_without_a_table(rt: HostRuntime) {
-    for row in ROWS {
-        let has_table = matches!(
-            row.cost,
-            MakeCost::Scrypt(_) | MakeCost::Yescrypt(_) | MakeCost::Argon2id(_)
-        );
-        if !has_table {
+    for row in rows() {
+        if !has_table(row.cost) {
             is_made(&rt, rt.alloc(), row);
         }
     }

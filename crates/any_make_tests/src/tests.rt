@@ -1,7 +1,7 @@
 //! Texts that outside programs made of the same passwords, costs and salts: libxcrypt's crypt_gensalt(3) and crypt(3) for
 //! SHA-crypt, bcrypt and yescrypt, passlib for scrypt, the program argon2, and Python's hashlib for the keys of PBKDF2.
 
-use any_check::{check_any, record_kdf};
+use any_check::{RecordKdf, check_any, record_kdf};
 use any_make::{
     Argon2Cost, MakeCost, MakeEnd, MakeFault, NameFault, Pbkdf2Hash, Scheme, TEXT_MAX, made_text,
     make_text, recommended, run_make, scheme_named,
@@ -13,7 +13,6 @@ use std::alloc::Global;
 use std::process::Abort;
 use yescrypt_plain::{CryptKept, ScryptParams, YescryptParams};
 
-#[derive(Clone, Copy)]
 pub(crate) struct Row {
     pub cost: MakeCost,
     pub password: &'static str,
@@ -21,7 +20,7 @@ pub(crate) struct Row {
     pub text: &'static str,
 }
 
-pub(crate) const ROWS: [Row; 28] = [
+const ROWS: &[Row] = &[
     Row {
         cost: MakeCost::ShaCrypt(Family::Sha256, 5_000),
         password: "secret",
@@ -208,43 +207,26 @@ pub(crate) const ROWS: [Row; 28] = [
     },
 ];
 
+// All rows. A constant is written out in each function that names it, so only this one does.
+pub(crate) fn rows() -> &'static [Row] {
+    ROWS
+}
+
 // The bytes that stand in a buffer before a call.
 const OLD: u8 = 0xa5;
 
-#[test]
-fn made_by_others(rt: HostRuntime) {
-    for row in ROWS {
-        let mut out = [OLD; TEXT_MAX];
-        let password = row.password.as_bytes();
-        match make_text(rt.alloc(), row.cost, password, row.salt, &mut out) {
-            Ok(count) => {
-                assert!(rt; &out[..count] == row.text.as_bytes(), "{}", row.text);
-                assert!(rt; out[count..].iter().all(|b| *b == OLD), "{}", row.text);
-            }
-            Err(fault) => panic!(rt; "{}: {fault:?}", row.text),
-        }
-    }
-}
-
-#[test]
-fn made_by_others_in_a_text(rt: HostRuntime) {
-    for row in ROWS {
-        match made_text(rt.alloc(), row.cost, row.password.as_bytes(), row.salt) {
-            Ok(text) => assert!(rt; text.as_slice() == row.text.as_bytes(), "{}", row.text),
-            Err(fault) => panic!(rt; "{}: {fault:?}", row.text),
-        }
-    }
-}
-
-#[test]
-fn matched(rt: HostRuntime) {
-    let kdf = record_kdf(rt.alloc());
-    let kept = CryptKept::new(rt.alloc());
-    for row in ROWS {
-        let answer = check_any(rt.alloc(), &kdf, &kept, row.password, row.text);
-        assert!(rt; answer == Ok(true), "{}", row.text);
-        let answer = check_any(rt.alloc(), &kdf, &kept, "another", row.text);
-        assert!(rt; answer == Ok(false), "{}", row.text);
+// The length of the text that is made in a buffer. Want of memory ends a test.
+fn made_in(
+    rt: &impl Abort,
+    alloc: Global,
+    cost: MakeCost,
+    password: &[u8],
+    salt: &[u8],
+    out: &mut [u8],
+) -> Result<usize, MakeFault> {
+    match make_text(alloc, cost, password, salt, out) {
+        Err(MakeFault::OutOfMemory) => panic!(rt; "want of memory"),
+        made => made,
     }
 }
 
@@ -260,39 +242,113 @@ fn read_front(bytes: &[u8], count: usize) -> &[u8] {
     &bytes[..count]
 }
 
+// Whether the bytes after these are as they were.
+fn is_old_after(bytes: &[u8], count: usize) -> bool {
+    let count = count.min(bytes.len());
+    bytes[count..].iter().all(|b| *b == OLD)
+}
+
+// The text of a row in so much room.
+fn made_row(
+    rt: &impl Abort,
+    alloc: Global,
+    row: &Row,
+    room: &mut [u8],
+) -> Result<usize, MakeFault> {
+    made_in(rt, alloc, row.cost, row.password.as_bytes(), row.salt, room)
+}
+
+fn is_written(rt: &impl Abort, alloc: Global, row: &Row) {
+    let count = row.text.len();
+    let mut out = [OLD; TEXT_MAX];
+    let made = made_row(rt, alloc, row, &mut out);
+    assert!(rt; made == Ok(count), "{}", row.text);
+    assert!(rt; out.starts_with(row.text.as_bytes()), "{}", row.text);
+    assert!(rt; is_old_after(&out, count), "{}", row.text);
+}
+
+#[test]
+fn made_by_others(rt: HostRuntime) {
+    for row in rows() {
+        is_written(&rt, rt.alloc(), row);
+    }
+}
+
+// Makes the text of a row, and compares it with that of the other program.
+pub(crate) fn is_made(rt: &impl Abort, alloc: Global, row: &Row) {
+    match made_text(alloc, row.cost, row.password.as_bytes(), row.salt) {
+        Ok(text) => assert!(rt; text.as_slice() == row.text.as_bytes(), "{}", row.text),
+        Err(MakeFault::OutOfMemory) => panic!(rt; "want of memory: {}", row.text),
+        Err(_) => panic!(rt; "no text: {}", row.text),
+    }
+}
+
+#[test]
+fn made_by_others_in_a_text(rt: HostRuntime) {
+    for row in rows() {
+        is_made(&rt, rt.alloc(), row);
+    }
+}
+
+// Whether a password matches a text, with what its check needs.
+fn is_matched(
+    rt: &impl Abort,
+    alloc: Global,
+    kdf: &RecordKdf,
+    kept: &CryptKept,
+    password: &str,
+    text: &str,
+) -> bool {
+    match check_any(alloc, kdf, kept, password, text) {
+        Ok(is_matched) => is_matched,
+        Err(error) => panic!(rt; "{text}: {error:?}"),
+    }
+}
+
+#[test]
+fn matched(rt: HostRuntime) {
+    let kdf = record_kdf(rt.alloc());
+    let kept = CryptKept::new(rt.alloc());
+    for row in rows() {
+        let is = is_matched(&rt, rt.alloc(), &kdf, &kept, row.password, row.text);
+        assert!(rt; is, "{}", row.text);
+        let is = is_matched(&rt, rt.alloc(), &kdf, &kept, "another", row.text);
+        assert!(rt; !is, "{}", row.text);
+    }
+}
+
 // A buffer of just the length is room.
+fn is_written_in_just_room(rt: &impl Abort, alloc: Global, row: &Row) {
+    let count = row.text.len();
+    let mut whole = [OLD; TEXT_MAX];
+    let made = made_row(rt, alloc, row, front(&mut whole, count));
+    assert!(rt; made == Ok(count), "{}", row.text);
+    assert!(rt; whole.starts_with(row.text.as_bytes()), "{}", row.text);
+}
+
 #[test]
 fn rooms(rt: HostRuntime) {
-    for row in ROWS {
-        let count = row.text.len();
-        let password = row.password.as_bytes();
-        let mut whole = [OLD; TEXT_MAX];
-        let room = front(&mut whole, count);
-        let made = make_text(rt.alloc(), row.cost, password, row.salt, room);
-        assert!(rt; made == Ok(count), "{}", row.text);
-        assert!(rt;
-            read_front(&whole, count) == row.text.as_bytes(),
-            "{}",
-            row.text
-        );
+    for row in rows() {
+        is_written_in_just_room(&rt, rt.alloc(), row);
     }
 }
 
 // In a buffer that is a byte shorter nothing is written.
+fn is_refused_in_short_room(rt: &impl Abort, alloc: Global, row: &Row) {
+    let count = row.text.len();
+    let mut whole = [OLD; TEXT_MAX];
+    let made = made_row(rt, alloc, row, front(&mut whole, count.saturating_sub(1)));
+    assert!(rt; made.err() == Some(MakeFault::BufferShort), "{}", row.text);
+    assert!(rt; is_old_after(&whole, 0), "{}", row.text);
+}
+
 #[test]
 fn short_rooms(rt: HostRuntime) {
-    for row in ROWS {
-        let count = row.text.len();
-        let password = row.password.as_bytes();
-        let mut whole = [OLD; TEXT_MAX];
-        let room = front(&mut whole, count.saturating_sub(1));
-        let made = make_text(rt.alloc(), row.cost, password, row.salt, room);
-        assert!(rt; made == Err(MakeFault::BufferShort), "{}", row.text);
-        assert!(rt; whole.iter().all(|b| *b == OLD), "{}", row.text);
+    for row in rows() {
+        is_refused_in_short_room(&rt, rt.alloc(), row);
     }
 }
 
-#[derive(Clone, Copy)]
 struct Refused {
     cost: MakeCost,
     password: &'static [u8],
@@ -304,183 +360,378 @@ const SALT: &[u8] = b"0123456789abcdef";
 
 const SHA_SALT: &[u8] = b"0123456789ab";
 
-fn scrypt(ln: u32, r: u32, p: u32) -> MakeCost {
-    MakeCost::Scrypt(ScryptParams { ln, r, p })
-}
-
-fn argon2(memory: u32, passes: u32, lanes: u32) -> MakeCost {
-    MakeCost::Argon2id(Argon2Cost {
-        memory,
-        passes,
-        lanes,
-    })
-}
-
-fn yescrypt(ln: u32, r: u32, t: u32) -> MakeCost {
-    MakeCost::Yescrypt(YescryptParams { ln, r, t })
-}
-
-fn sha256(rounds: u32) -> MakeCost {
-    MakeCost::ShaCrypt(Family::Sha256, rounds)
-}
-
-fn no_text(
-    cost: MakeCost,
-    password: &'static [u8],
-    salt: &'static [u8],
-    fault: MakeFault,
-) -> Refused {
+const REFUSED: &[Refused] = &[
     Refused {
-        cost,
-        password,
-        salt,
-        fault,
-    }
+        cost: MakeCost::ShaCrypt(Family::Sha256, 999),
+        password: b"x",
+        salt: SHA_SALT,
+        fault: MakeFault::Cost,
+    },
+    Refused {
+        cost: MakeCost::ShaCrypt(Family::Sha256, 1_000_000_000),
+        password: b"x",
+        salt: SHA_SALT,
+        fault: MakeFault::Cost,
+    },
+    Refused {
+        cost: MakeCost::Scrypt(ScryptParams { ln: 0, r: 8, p: 1 }),
+        password: b"x",
+        salt: SALT,
+        fault: MakeFault::Cost,
+    },
+    Refused {
+        cost: MakeCost::Scrypt(ScryptParams { ln: 25, r: 8, p: 1 }),
+        password: b"x",
+        salt: SALT,
+        fault: MakeFault::Cost,
+    },
+    Refused {
+        cost: MakeCost::Bcrypt(3),
+        password: b"x",
+        salt: SALT,
+        fault: MakeFault::Cost,
+    },
+    Refused {
+        cost: MakeCost::Bcrypt(32),
+        password: b"x",
+        salt: SALT,
+        fault: MakeFault::Cost,
+    },
+    Refused {
+        cost: MakeCost::Yescrypt(YescryptParams { ln: 1, r: 8, t: 0 }),
+        password: b"x",
+        salt: SALT,
+        fault: MakeFault::Cost,
+    },
+    Refused {
+        cost: MakeCost::Yescrypt(YescryptParams {
+            ln: 10,
+            r: 8,
+            t: 1_025,
+        }),
+        password: b"x",
+        salt: SALT,
+        fault: MakeFault::Cost,
+    },
+    Refused {
+        cost: MakeCost::Argon2id(Argon2Cost {
+            memory: 7,
+            passes: 1,
+            lanes: 1,
+        }),
+        password: b"x",
+        salt: SALT,
+        fault: MakeFault::Cost,
+    },
+    Refused {
+        cost: MakeCost::Argon2id(Argon2Cost {
+            memory: 64,
+            passes: 0,
+            lanes: 1,
+        }),
+        password: b"x",
+        salt: SALT,
+        fault: MakeFault::Cost,
+    },
+    Refused {
+        cost: MakeCost::Argon2id(Argon2Cost {
+            memory: 64,
+            passes: 1,
+            lanes: 9,
+        }),
+        password: b"x",
+        salt: SALT,
+        fault: MakeFault::Cost,
+    },
+    Refused {
+        cost: MakeCost::Pbkdf2(Pbkdf2Hash::Sha256, 0),
+        password: b"x",
+        salt: SALT,
+        fault: MakeFault::Cost,
+    },
+    Refused {
+        cost: MakeCost::Pbkdf2(Pbkdf2Hash::Sha256, 10_000_001),
+        password: b"x",
+        salt: SALT,
+        fault: MakeFault::Cost,
+    },
+    Refused {
+        cost: MakeCost::ShaCrypt(Family::Sha256, 1_000),
+        password: b"x",
+        salt: SALT,
+        fault: MakeFault::Salt,
+    },
+    Refused {
+        cost: MakeCost::ShaCrypt(Family::Sha256, 1_000),
+        password: b"x",
+        salt: b"",
+        fault: MakeFault::Salt,
+    },
+    Refused {
+        cost: MakeCost::Bcrypt(4),
+        password: b"x",
+        salt: SHA_SALT,
+        fault: MakeFault::Salt,
+    },
+    Refused {
+        cost: MakeCost::Scrypt(ScryptParams { ln: 4, r: 8, p: 1 }),
+        password: b"x",
+        salt: b"0123456789abcdefg",
+        fault: MakeFault::Salt,
+    },
+    Refused {
+        cost: MakeCost::Bcrypt(3),
+        password: b"\xff\0",
+        salt: SHA_SALT,
+        fault: MakeFault::Cost,
+    },
+    Refused {
+        cost: MakeCost::Bcrypt(4),
+        password: b"\xff\0",
+        salt: SHA_SALT,
+        fault: MakeFault::Salt,
+    },
+    Refused {
+        cost: MakeCost::Bcrypt(4),
+        password: b"\xff\0",
+        salt: SALT,
+        fault: MakeFault::NotUtf8,
+    },
+    Refused {
+        cost: MakeCost::Scrypt(ScryptParams { ln: 4, r: 8, p: 1 }),
+        password: b"\xc3",
+        salt: SALT,
+        fault: MakeFault::NotUtf8,
+    },
+    Refused {
+        cost: MakeCost::Bcrypt(4),
+        password: b"a\0b",
+        salt: SALT,
+        fault: MakeFault::ZeroByte,
+    },
+    Refused {
+        cost: MakeCost::ShaCrypt(Family::Sha256, 1_000),
+        password: b"\0",
+        salt: SHA_SALT,
+        fault: MakeFault::ZeroByte,
+    },
+    Refused {
+        cost: MakeCost::Yescrypt(YescryptParams { ln: 10, r: 8, t: 0 }),
+        password: b"a\0",
+        salt: SALT,
+        fault: MakeFault::ZeroByte,
+    },
+];
+
+fn refused_rows() -> &'static [Refused] {
+    REFUSED
+}
+
+// What is refused leaves the buffer as it was.
+fn is_refused(rt: &impl Abort, alloc: Global, i: usize, row: &Refused) {
+    let mut out = [OLD; TEXT_MAX];
+    let made = made_in(rt, alloc, row.cost, row.password, row.salt, &mut out);
+    assert!(rt; made.err() == Some(row.fault), "row {i}");
+    assert!(rt; is_old_after(&out, 0), "row {i}");
 }
 
 #[test]
 fn faults(rt: HostRuntime) {
-    let rows = [
-        no_text(sha256(999), b"x", SHA_SALT, MakeFault::Cost),
-        no_text(sha256(1_000_000_000), b"x", SHA_SALT, MakeFault::Cost),
-        no_text(scrypt(0, 8, 1), b"x", SALT, MakeFault::Cost),
-        no_text(scrypt(25, 8, 1), b"x", SALT, MakeFault::Cost),
-        no_text(MakeCost::Bcrypt(3), b"x", SALT, MakeFault::Cost),
-        no_text(MakeCost::Bcrypt(32), b"x", SALT, MakeFault::Cost),
-        no_text(yescrypt(1, 8, 0), b"x", SALT, MakeFault::Cost),
-        no_text(yescrypt(10, 8, 1_025), b"x", SALT, MakeFault::Cost),
-        no_text(argon2(7, 1, 1), b"x", SALT, MakeFault::Cost),
-        no_text(argon2(64, 0, 1), b"x", SALT, MakeFault::Cost),
-        no_text(argon2(64, 1, 9), b"x", SALT, MakeFault::Cost),
-        no_text(
-            MakeCost::Pbkdf2(Pbkdf2Hash::Sha256, 0),
-            b"x",
-            SALT,
-            MakeFault::Cost,
-        ),
-        no_text(
-            MakeCost::Pbkdf2(Pbkdf2Hash::Sha256, 10_000_001),
-            b"x",
-            SALT,
-            MakeFault::Cost,
-        ),
-        no_text(sha256(1_000), b"x", SALT, MakeFault::Salt),
-        no_text(sha256(1_000), b"x", b"", MakeFault::Salt),
-        no_text(MakeCost::Bcrypt(4), b"x", SHA_SALT, MakeFault::Salt),
-        no_text(scrypt(4, 8, 1), b"x", b"0123456789abcdefg", MakeFault::Salt),
-        no_text(MakeCost::Bcrypt(3), b"\xff\0", SHA_SALT, MakeFault::Cost),
-        no_text(MakeCost::Bcrypt(4), b"\xff\0", SHA_SALT, MakeFault::Salt),
-        no_text(MakeCost::Bcrypt(4), b"\xff\0", SALT, MakeFault::NotUtf8),
-        no_text(scrypt(4, 8, 1), b"\xc3", SALT, MakeFault::NotUtf8),
-        no_text(MakeCost::Bcrypt(4), b"a\0b", SALT, MakeFault::ZeroByte),
-        no_text(sha256(1_000), b"\0", SHA_SALT, MakeFault::ZeroByte),
-        no_text(yescrypt(10, 8, 0), b"a\0", SALT, MakeFault::ZeroByte),
-    ];
-    for row in rows {
-        let mut out = [OLD; TEXT_MAX];
-        let made = make_text(rt.alloc(), row.cost, row.password, row.salt, &mut out);
-        assert!(rt; made == Err(row.fault), "{:?} {:?}", row.cost, row.password);
-        assert!(rt;
-            out.iter().all(|b| *b == OLD),
-            "{:?} {:?}",
-            row.cost,
-            row.password
-        );
+    for (i, row) in refused_rows().iter().enumerate() {
+        is_refused(&rt, rt.alloc(), i, row);
+    }
+}
+
+// Costs that are quickly paid, and the scheme of each.
+const QUICK: &[(&str, MakeCost)] = &[
+    (
+        "scrypt",
+        MakeCost::Scrypt(ScryptParams { ln: 1, r: 1, p: 1 }),
+    ),
+    (
+        "argon2id",
+        MakeCost::Argon2id(Argon2Cost {
+            memory: 8,
+            passes: 1,
+            lanes: 1,
+        }),
+    ),
+    ("pbkdf2-sha256", MakeCost::Pbkdf2(Pbkdf2Hash::Sha256, 1)),
+];
+
+// Whether a password of so many bytes is taken.
+fn takes_length(rt: &impl Abort, alloc: Global, cost: MakeCost, length: usize) -> bool {
+    let long = [b'a'; 4_097];
+    let mut out = [OLD; TEXT_MAX];
+    let password = read_front(&long, length);
+    let salt = read_front(SALT, cost.salt_length());
+    match made_in(rt, alloc, cost, password, salt, &mut out) {
+        Ok(_) => true,
+        Err(fault) => {
+            assert!(rt; fault == MakeFault::PasswordTooLong, "{length}");
+            false
+        }
     }
 }
 
 #[test]
 fn long_passwords(rt: HostRuntime) {
-    let long = [b'a'; 4_097];
-    let mut out = [OLD; TEXT_MAX];
-    for cost in [
-        sha256(1_000),
-        scrypt(1, 1, 1),
-        argon2(8, 1, 1),
-        MakeCost::Pbkdf2(Pbkdf2Hash::Sha256, 1),
-    ] {
-        let salt = &SALT[..cost.salt_length()];
-        let made = make_text(rt.alloc(), cost, &long, salt, &mut out);
-        assert!(rt; made == Err(MakeFault::PasswordTooLong), "{cost:?}");
-        let made = make_text(rt.alloc(), cost, &long[1..], salt, &mut out);
-        assert!(rt; made.is_ok(), "{cost:?}");
+    for (name, cost) in QUICK {
+        assert!(rt; !takes_length(&rt, rt.alloc(), *cost, 4_097), "{name}");
+        assert!(rt; takes_length(&rt, rt.alloc(), *cost, 4_096), "{name}");
     }
+    let sha256 = MakeCost::ShaCrypt(Family::Sha256, 1_000);
+    assert!(rt; !takes_length(&rt, rt.alloc(), sha256, 4_097));
+    assert!(rt; takes_length(&rt, rt.alloc(), sha256, 4_096));
 }
 
 #[test]
 fn long_passwords_of_bcrypt(rt: HostRuntime) {
     let long = [b'a'; 73];
     let mut out = [OLD; TEXT_MAX];
-    let made = make_text(rt.alloc(), MakeCost::Bcrypt(4), &long, SALT, &mut out);
-    assert!(rt; made == Err(MakeFault::PasswordTooLong));
-    let made = make_text(rt.alloc(), MakeCost::Bcrypt(4), &long[..72], SALT, &mut out);
+    let made = made_in(&rt, rt.alloc(), MakeCost::Bcrypt(4), &long, SALT, &mut out);
+    assert!(rt; made.err() == Some(MakeFault::PasswordTooLong));
+    let made = made_in(
+        &rt,
+        rt.alloc(),
+        MakeCost::Bcrypt(4),
+        &long[..72],
+        SALT,
+        &mut out,
+    );
     assert!(rt; made == Ok(60));
 }
 
 // The text of a password with a zero byte is that of all its bytes.
-fn counts_all_bytes<R: Abort>(rt: &R, alloc: Global, text: &[u8]) {
+fn counts_all_bytes(rt: &impl Abort, alloc: Global, text: &[u8]) {
     let kdf = record_kdf(alloc);
     let kept = CryptKept::new(alloc);
     let Ok(stored) = str::from_utf8(text) else {
         panic!(rt; "it is no text")
     };
-    for (password, matches) in [("a\0b", true), ("a", false)] {
-        let answer = check_any(alloc, &kdf, &kept, password, stored);
-        assert!(rt; answer == Ok(matches), "{stored} {password:?}");
-    }
+    assert!(rt;
+        is_matched(rt, alloc, &kdf, &kept, "a\0b", stored),
+        "{stored}"
+    );
+    assert!(rt;
+        !is_matched(rt, alloc, &kdf, &kept, "a", stored),
+        "{stored}"
+    );
 }
 
 // A record's scheme takes a zero byte.
 #[test]
 fn zero_bytes(rt: HostRuntime) {
-    for cost in [
-        scrypt(1, 1, 1),
-        argon2(8, 1, 1),
-        MakeCost::Pbkdf2(Pbkdf2Hash::Sha256, 1),
-    ] {
-        match made_text(rt.alloc(), cost, b"a\0b", SALT) {
+    for (name, cost) in QUICK {
+        match made_text(rt.alloc(), *cost, b"a\0b", SALT) {
             Ok(text) => counts_all_bytes(&rt, rt.alloc(), text.as_slice()),
-            Err(fault) => panic!(rt; "{cost:?}: {fault:?}"),
+            Err(MakeFault::OutOfMemory) => panic!(rt; "want of memory: {name}"),
+            Err(_) => panic!(rt; "no text: {name}"),
         }
     }
 }
 
-// What OWASP, RFC 9106, libxcrypt and passlib recommend, and the bytes of a salt.
+// A scheme and its name, what is recommended of it, the bytes of a salt, and whether a table is needed.
+struct Recommended {
+    scheme: Scheme,
+    name: &'static str,
+    cost: MakeCost,
+    salt: usize,
+    needs_memory: bool,
+}
+
+// What OWASP, RFC 9106, libxcrypt and passlib recommend.
+const RECOMMENDED: &[Recommended] = &[
+    Recommended {
+        scheme: Scheme::Sha256Crypt,
+        name: "sha256-crypt",
+        cost: MakeCost::ShaCrypt(Family::Sha256, 535_000),
+        salt: 12,
+        needs_memory: false,
+    },
+    Recommended {
+        scheme: Scheme::Sha512Crypt,
+        name: "sha512-crypt",
+        cost: MakeCost::ShaCrypt(Family::Sha512, 656_000),
+        salt: 12,
+        needs_memory: false,
+    },
+    Recommended {
+        scheme: Scheme::Scrypt,
+        name: "scrypt",
+        cost: MakeCost::Scrypt(ScryptParams { ln: 17, r: 8, p: 1 }),
+        salt: 16,
+        needs_memory: true,
+    },
+    Recommended {
+        scheme: Scheme::Bcrypt,
+        name: "bcrypt",
+        cost: MakeCost::Bcrypt(12),
+        salt: 16,
+        needs_memory: false,
+    },
+    Recommended {
+        scheme: Scheme::Yescrypt,
+        name: "yescrypt",
+        cost: MakeCost::Yescrypt(YescryptParams {
+            ln: 12,
+            r: 32,
+            t: 0,
+        }),
+        salt: 16,
+        needs_memory: true,
+    },
+    Recommended {
+        scheme: Scheme::Argon2id,
+        name: "argon2id",
+        cost: MakeCost::Argon2id(Argon2Cost {
+            memory: 65_536,
+            passes: 3,
+            lanes: 4,
+        }),
+        salt: 16,
+        needs_memory: true,
+    },
+    Recommended {
+        scheme: Scheme::Pbkdf2Sha256,
+        name: "pbkdf2-sha256",
+        cost: MakeCost::Pbkdf2(Pbkdf2Hash::Sha256, 600_000),
+        salt: 16,
+        needs_memory: false,
+    },
+    Recommended {
+        scheme: Scheme::Pbkdf2Sha512,
+        name: "pbkdf2-sha512",
+        cost: MakeCost::Pbkdf2(Pbkdf2Hash::Sha512, 210_000),
+        salt: 16,
+        needs_memory: false,
+    },
+];
+
+fn recommended_rows() -> &'static [Recommended] {
+    RECOMMENDED
+}
+
+fn is_recommended(rt: &impl Abort, row: &Recommended) {
+    let name = row.name;
+    assert!(rt; recommended(row.scheme) == Some(row.cost), "{name}");
+    assert!(rt; row.cost.scheme() == row.scheme, "{name}");
+    assert!(rt; row.cost.is_taken(), "{name}");
+    assert!(rt; row.cost.salt_length() == row.salt, "{name}");
+    assert!(rt; row.cost.needs_memory() == row.needs_memory, "{name}");
+}
+
+fn is_named(rt: &impl Abort, row: &Recommended) {
+    let name = row.name;
+    assert!(rt; row.scheme.name() == name, "{name}");
+    assert!(rt; scheme_named(name) == Ok(row.scheme), "{name}");
+}
+
 #[test]
 fn schemes(rt: HostRuntime) {
-    for (scheme, cost, salt, needs) in [
-        (Scheme::Sha256Crypt, sha256(535_000), 12, false),
-        (
-            Scheme::Sha512Crypt,
-            MakeCost::ShaCrypt(Family::Sha512, 656_000),
-            12,
-            false,
-        ),
-        (Scheme::Scrypt, scrypt(17, 8, 1), 16, true),
-        (Scheme::Bcrypt, MakeCost::Bcrypt(12), 16, false),
-        (Scheme::Yescrypt, yescrypt(12, 32, 0), 16, true),
-        (Scheme::Argon2id, argon2(65_536, 3, 4), 16, true),
-        (
-            Scheme::Pbkdf2Sha256,
-            MakeCost::Pbkdf2(Pbkdf2Hash::Sha256, 600_000),
-            16,
-            false,
-        ),
-        (
-            Scheme::Pbkdf2Sha512,
-            MakeCost::Pbkdf2(Pbkdf2Hash::Sha512, 210_000),
-            16,
-            false,
-        ),
-    ] {
-        assert!(rt;
-            recommended(scheme) == Some(cost) && cost.scheme() == scheme,
-            "{scheme:?}"
-        );
-        assert!(rt; cost.is_taken(), "{scheme:?}");
-        let numbers = (cost.salt_length(), cost.needs_memory());
-        assert!(rt; numbers.0 == salt && numbers.1 == needs, "{scheme:?}");
-        assert!(rt; scheme_named(scheme.name()) == Ok(scheme), "{scheme:?}");
+    for row in recommended_rows() {
+        is_recommended(&rt, row);
+        is_named(&rt, row);
     }
 }
 
@@ -489,43 +740,34 @@ fn schemes_without_texts(rt: HostRuntime) {
     for scheme in SCHEMES {
         assert!(rt;
             recommended(scheme).is_some() == scheme.is_made(),
-            "{scheme:?}"
+            "{}",
+            scheme.name()
         );
     }
 }
 
-#[test]
-fn names(rt: HostRuntime) {
-    for (name, scheme) in [
-        ("sha256-crypt", Scheme::Sha256Crypt),
-        ("sha512-crypt", Scheme::Sha512Crypt),
-        ("scrypt", Scheme::Scrypt),
-        ("bcrypt", Scheme::Bcrypt),
-        ("yescrypt", Scheme::Yescrypt),
-        ("argon2id", Scheme::Argon2id),
-        ("pbkdf2-sha256", Scheme::Pbkdf2Sha256),
-        ("pbkdf2-sha512", Scheme::Pbkdf2Sha512),
-    ] {
-        assert!(rt; scheme_named(name) == Ok(scheme), "{name}");
-    }
-}
+const NO_NAMES: &[&str] = &[
+    "",
+    "md5",
+    "SHA256-crypt",
+    "argon2",
+    "argon2i",
+    "scrypt ",
+    "sha256",
+    "scrypt-crypt",
+    "pbkdf2-sha1",
+    "argon2d",
+];
 
 #[test]
 fn no_names(rt: HostRuntime) {
     assert!(rt; scheme_named("md5-crypt") == Err(NameFault::Weak));
-    for name in [
-        "",
-        "md5",
-        "SHA256-crypt",
-        "argon2",
-        "argon2i",
-        "scrypt ",
-        "sha256",
-        "scrypt-crypt",
-        "pbkdf2-sha1",
-        "argon2d",
-    ] {
-        assert!(rt; scheme_named(name) == Err(NameFault::Unknown), "{name}");
+    assert!(rt; scheme_named("sha1-crypt") == Err(NameFault::Weak));
+    for name in NO_NAMES {
+        assert!(rt;
+            scheme_named(name).err() == Some(NameFault::Unknown),
+            "{name}"
+        );
     }
 }
 
@@ -536,49 +778,127 @@ const NONE: &[u8] = b"$2b$04$......................w74bL5gU7LSJClZClCa.Pkz14aTv/
 
 const FIRST_SALT: &[u8] = b"\x00\x01\x02\x03\x04\x05\x06\x07\x08\x09\x0a\x0b\x0c\x0d\x0e\x0f";
 
+// What a source gives, the salt, whether a line without a byte is a password, the end, and what is written.
+struct FirstLine {
+    input: &'static [u8],
+    salt: &'static [u8],
+    takes_empty: bool,
+    end: MakeEnd,
+    output: &'static [u8],
+}
+
+const FIRST_LINES: &[FirstLine] = &[
+    FirstLine {
+        input: b"secret\nother\n",
+        salt: FIRST_SALT,
+        takes_empty: false,
+        end: MakeEnd::Made,
+        output: SECRET,
+    },
+    FirstLine {
+        input: b"secret\nother\n",
+        salt: FIRST_SALT,
+        takes_empty: true,
+        end: MakeEnd::Made,
+        output: SECRET,
+    },
+    FirstLine {
+        input: b"secret",
+        salt: FIRST_SALT,
+        takes_empty: false,
+        end: MakeEnd::Made,
+        output: SECRET,
+    },
+    FirstLine {
+        input: b"\n",
+        salt: &[0; 16],
+        takes_empty: true,
+        end: MakeEnd::Made,
+        output: NONE,
+    },
+    FirstLine {
+        input: b"\n",
+        salt: &[0; 16],
+        takes_empty: false,
+        end: MakeEnd::EmptyLine,
+        output: b"",
+    },
+    FirstLine {
+        input: b"\nsecret\n",
+        salt: FIRST_SALT,
+        takes_empty: false,
+        end: MakeEnd::EmptyLine,
+        output: b"",
+    },
+    FirstLine {
+        input: b"",
+        salt: FIRST_SALT,
+        takes_empty: true,
+        end: MakeEnd::NoLine,
+        output: b"",
+    },
+    FirstLine {
+        input: b"\xff\n",
+        salt: FIRST_SALT,
+        takes_empty: false,
+        end: MakeEnd::Refused(MakeFault::NotUtf8),
+        output: b"",
+    },
+    FirstLine {
+        input: b"a\0\nb\n",
+        salt: FIRST_SALT,
+        takes_empty: false,
+        end: MakeEnd::Refused(MakeFault::ZeroByte),
+        output: b"",
+    },
+    FirstLine {
+        input: b"secret\n",
+        salt: SHA_SALT,
+        takes_empty: true,
+        end: MakeEnd::Refused(MakeFault::Salt),
+        output: b"",
+    },
+    FirstLine {
+        input: &[b'a'; 8_193],
+        salt: FIRST_SALT,
+        takes_empty: false,
+        end: MakeEnd::LongLine,
+        output: b"",
+    },
+];
+
+fn first_line_rows() -> &'static [FirstLine] {
+    FIRST_LINES
+}
+
+// How the run over the first line of a source ends, with bcrypt and the first salt.
+fn ended(alloc: Global, source: &mut MemorySource<'_>, sink: &mut MemorySink<'_>) -> MakeEnd {
+    run_make(alloc, MakeCost::Bcrypt(4), FIRST_SALT, false, source, sink)
+}
+
+fn first_line(rt: &impl Abort, alloc: Global, i: usize, row: &FirstLine, chunk: usize) {
+    let mut room = [0; 100];
+    let mut source = MemorySource::new(row.input, chunk.max(1), &[]);
+    let mut sink = MemorySink::new(&mut room, chunk.max(1), &[]);
+    let cost = MakeCost::Bcrypt(4);
+    let got = run_make(
+        alloc,
+        cost,
+        row.salt,
+        row.takes_empty,
+        &mut source,
+        &mut sink,
+    );
+    assert!(rt; got == row.end, "row {i} by {chunk}");
+    assert!(rt; sink.bytes() == row.output, "row {i} by {chunk}");
+}
+
 #[test]
 fn first_lines(rt: HostRuntime) {
-    let rows: [(&[u8], &[u8], bool, MakeEnd, &[u8]); 11] = [
-        (b"secret\nother\n", FIRST_SALT, false, MakeEnd::Made, SECRET),
-        (b"secret\nother\n", FIRST_SALT, true, MakeEnd::Made, SECRET),
-        (b"secret", FIRST_SALT, false, MakeEnd::Made, SECRET),
-        (b"\n", &[0; 16], true, MakeEnd::Made, NONE),
-        (b"\n", &[0; 16], false, MakeEnd::EmptyLine, b""),
-        (b"\nsecret\n", FIRST_SALT, false, MakeEnd::EmptyLine, b""),
-        (b"", FIRST_SALT, true, MakeEnd::NoLine, b""),
-        (
-            b"\xff\n",
-            FIRST_SALT,
-            false,
-            MakeEnd::Refused(MakeFault::NotUtf8),
-            b"",
-        ),
-        (
-            b"a\0\nb\n",
-            FIRST_SALT,
-            false,
-            MakeEnd::Refused(MakeFault::ZeroByte),
-            b"",
-        ),
-        (
-            b"secret\n",
-            SHA_SALT,
-            true,
-            MakeEnd::Refused(MakeFault::Salt),
-            b"",
-        ),
-        (&[b'a'; 8_193], FIRST_SALT, false, MakeEnd::LongLine, b""),
-    ];
-    for (input, salt, takes_empty, end, output) in rows {
-        for chunk in [1, 5, 10_000] {
-            let mut room = [0; 100];
-            let mut source = MemorySource::new(input, chunk, &[]);
-            let mut sink = MemorySink::new(&mut room, chunk, &[]);
-            let cost = MakeCost::Bcrypt(4);
-            let got = run_make(rt.alloc(), cost, salt, takes_empty, &mut source, &mut sink);
-            assert!(rt; got == end, "{chunk}: {got:?}, and not {end:?}");
-            assert!(rt; sink.bytes() == output, "{chunk}: {end:?}");
-        }
+    for (i, row) in first_line_rows().iter().enumerate() {
+        first_line(&rt, rt.alloc(), i, row, 1);
+        first_line(&rt, rt.alloc(), i, row, 5);
+        first_line(&rt, rt.alloc(), i, row, 10_000);
     }
 }
 
@@ -595,77 +915,86 @@ fn count_left(source: &mut MemorySource<'_>) -> usize {
     left
 }
 
+const TOO_LONG: MakeEnd = MakeEnd::Refused(MakeFault::PasswordTooLong);
+
 // Few bytes of a source are taken, however long its first line is. What it gives at a read, the place of its first line feed, how
 // many bytes of it are taken, and the end.
+const TAKEN: &[(usize, usize, usize, MakeEnd)] = &[
+    (1, 6, 7, MakeEnd::Made),
+    (5, 6, 10, MakeEnd::Made),
+    (20_000, 6, 8_194, MakeEnd::Made),
+    (1, 8_192, 8_193, TOO_LONG),
+    (20_000, 8_192, 8_194, TOO_LONG),
+    (1, 8_193, 8_194, MakeEnd::LongLine),
+    (20_000, 8_193, 8_194, MakeEnd::LongLine),
+    (5, 19_999, 8_194, MakeEnd::LongLine),
+    (20_000, 19_999, 8_194, MakeEnd::LongLine),
+];
+
+// How the run over these bytes ends, and how many of them are taken.
+fn taken(alloc: Global, bytes: &[u8], step: usize) -> (MakeEnd, usize) {
+    let mut room = [0; 100];
+    let mut source = MemorySource::new(bytes, step.max(1), &[]);
+    let mut sink = MemorySink::new(&mut room, 100, &[]);
+    let end = ended(alloc, &mut source, &mut sink);
+    (end, bytes.len().saturating_sub(count_left(&mut source)))
+}
+
+fn are_taken(rt: &impl Abort, alloc: Global, row: &(usize, usize, usize, MakeEnd)) {
+    let (step, feed, count, end) = *row;
+    let mut bytes = [b'a'; 20_000];
+    if let Some(b) = bytes.get_mut(feed) {
+        *b = b'\n';
+    }
+    let (got, taken) = taken(alloc, &bytes, step);
+    assert!(rt; got == end, "{step}, {feed}");
+    assert!(rt; taken == count, "{step}, {feed}");
+}
+
 #[test]
 fn what_is_taken(rt: HostRuntime) {
-    let is_refused = MakeEnd::Refused(MakeFault::PasswordTooLong);
-    for (step, feed, taken, end) in [
-        (1, 6, 7, MakeEnd::Made),
-        (5, 6, 10, MakeEnd::Made),
-        (20_000, 6, 8_194, MakeEnd::Made),
-        (1, 8_192, 8_193, is_refused),
-        (20_000, 8_192, 8_194, is_refused),
-        (1, 8_193, 8_194, MakeEnd::LongLine),
-        (20_000, 8_193, 8_194, MakeEnd::LongLine),
-        (5, 19_999, 8_194, MakeEnd::LongLine),
-        (20_000, 19_999, 8_194, MakeEnd::LongLine),
-    ] {
-        let mut bytes = [b'a'; 20_000];
-        if let Some(b) = bytes.get_mut(feed) {
-            *b = b'\n';
-        }
-        let mut room = [0; 100];
-        let mut source = MemorySource::new(&bytes, step.max(1), &[]);
-        let mut sink = MemorySink::new(&mut room, 100, &[]);
-        let cost = MakeCost::Bcrypt(4);
-        let got = run_make(rt.alloc(), cost, FIRST_SALT, false, &mut source, &mut sink);
-        assert!(rt; got == end, "{step}, {feed}: {got:?}");
-        let left = count_left(&mut source);
-        assert!(rt;
-            left.saturating_add(taken) == 20_000,
-            "{step}, {feed}: {left}"
-        );
+    for row in TAKEN {
+        are_taken(&rt, rt.alloc(), row);
     }
 }
 
 // A line that the source ends has as many bytes at most as one that a line feed ends.
+const LAST_LINES: &[(usize, MakeEnd)] = &[
+    (8_192, TOO_LONG),
+    (8_193, MakeEnd::LongLine),
+    (8_194, MakeEnd::LongLine),
+];
+
 #[test]
 fn last_lines(rt: HostRuntime) {
-    let is_refused = MakeEnd::Refused(MakeFault::PasswordTooLong);
     let bytes = [b'a'; 8_194];
-    for (length, end) in [
-        (8_192, is_refused),
-        (8_193, MakeEnd::LongLine),
-        (8_194, MakeEnd::LongLine),
-    ] {
-        for step in [1, 10_000] {
-            let mut room = [0; 100];
-            let mut source = MemorySource::new(read_front(&bytes, length), step, &[]);
-            let mut sink = MemorySink::new(&mut room, 100, &[]);
-            let cost = MakeCost::Bcrypt(4);
-            let got = run_make(rt.alloc(), cost, FIRST_SALT, false, &mut source, &mut sink);
-            assert!(rt; got == end, "{step}, {length}: {got:?}");
-        }
+    for (length, end) in LAST_LINES {
+        let line = read_front(&bytes, *length);
+        assert!(rt; taken(rt.alloc(), line, 1).0 == *end, "{length}");
+        assert!(rt; taken(rt.alloc(), line, 10_000).0 == *end, "{length}");
     }
 }
 
-// The reads and the writes that fail, what is written, and the end.
-const DEVICES: [(&[u64], &[u64], &[u8], MakeEnd); 3] = [
-    (&[1], &[], b"", MakeEnd::ReadFault),
-    (&[], &[0], b"", MakeEnd::WriteFault),
-    (&[], &[1], b"$2b$04$", MakeEnd::WriteFault),
+// A name, the reads and the writes that fail, what is written, and the end.
+const DEVICES: &[(&str, &[u64], &[u64], &str, MakeEnd)] = &[
+    ("a read", &[1], &[], "", MakeEnd::ReadFault),
+    ("the first write", &[], &[0], "", MakeEnd::WriteFault),
+    (
+        "the second write",
+        &[],
+        &[1],
+        "$2b$04$",
+        MakeEnd::WriteFault,
+    ),
 ];
 
 #[test]
 fn failing_devices(rt: HostRuntime) {
-    for (bad_reads, bad_writes, output, end) in DEVICES {
+    for (name, bad_reads, bad_writes, output, end) in DEVICES {
         let mut room = [0; 100];
         let mut source = MemorySource::new(b"secret\n", 3, bad_reads);
         let mut sink = MemorySink::new(&mut room, 7, bad_writes);
-        let cost = MakeCost::Bcrypt(4);
-        let got = run_make(rt.alloc(), cost, FIRST_SALT, false, &mut source, &mut sink);
-        assert!(rt; got == end, "{bad_reads:?} {bad_writes:?}: {got:?}");
-        assert!(rt; sink.bytes() == output, "{bad_reads:?} {bad_writes:?}");
+        assert!(rt; ended(rt.alloc(), &mut source, &mut sink) == *end, "{name}");
+        assert!(rt; sink.bytes() == output.as_bytes(), "{name}");
     }
 }

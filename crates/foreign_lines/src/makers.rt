@@ -20,6 +20,7 @@ pub const MAKERS: &[&str] = &[
     "mosquitto",
     "mediawiki",
     "grub",
+    "postgres",
 ];
 
 /// The maker that has a name.
@@ -40,6 +41,7 @@ pub fn maker_named(name: &str) -> Option<Foreign>
         "mosquitto" => Some(Foreign::Mosquitto),
         "mediawiki" => Some(Foreign::MediaWiki),
         "grub" => Some(Foreign::Grub),
+        "postgres" => Some(Foreign::Postgres),
         _ => None,
     }
 }

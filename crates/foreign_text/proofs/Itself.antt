@@ -11,15 +11,19 @@ use Rattle.foreign_text.specs.Cisco.{cisco, cisco_fields, cisco_type, is_crypt_f
 use Rattle.foreign_text.specs.Converted.{converted}
 use Rattle.foreign_text.specs.Django.{django, django_argon2, django_bcrypt, django_digest_text, django_pbkdf2, django_pbkdf2_fields}
 use Rattle.foreign_text.specs.Django.{django_scrypt, django_scrypt_fields}
-use Rattle.foreign_text.specs.Dovecot.{dovecot}
+use Rattle.foreign_text.specs.Dovecot.{dovecot, dovecot_scram}
 use Rattle.foreign_text.specs.Elasticsearch.{elasticsearch}
 use Rattle.foreign_text.specs.Encoded.{either_pbkdf2, encoded_pbkdf2}
-use Rattle.foreign_text.specs.Fields.{field_bytes, five_of, number_of, pbkdf2_cost, plain_hex, scrypt_cost, small_hex, three_of}
+use Rattle.foreign_text.specs.Fields.{Four, Two, field_bytes, five_of, four_of, in_four, in_two, number_of, pbkdf2_cost, plain_hex, scrypt_cost, small_hex, three_of, two_of}
 use Rattle.foreign_text.specs.Grub.{grub, grub_fields, grub_pbkdf2}
 use Rattle.foreign_text.specs.Ldap.{crypt_fault, is_colon, ldap, ldap_argon2, ldap_bcrypt, ldap_crypt, ldif, whole_text}
 use Rattle.foreign_text.specs.MediaWiki.{if_sized, is_size, mediawiki, mediawiki_cost, mediawiki_fields, mediawiki_pbkdf2}
 use Rattle.foreign_text.specs.Mosquitto.{mosquitto}
 use Rattle.foreign_text.specs.Names.{begins, behind_tag, passlib_unread}
+use Rattle.scram_plain.specs.declared.preparation.Preparation.{Preparation}
+use Rattle.scram_plain.specs.declared.preparation.Preparation.TheVariants.{Raw, SaslPrep}
+use Rattle.foreign_text.specs.Postgres.{postgres, postgres_halves, postgres_scram}
+use Rattle.foreign_text.specs.Scram.{scram_by_keys, scram_by_rounds, scram_by_salt, scram_fields, scram_text}
 use Rattle.foreign_text.specs.Passlib.{begins_with_digit, passlib, passlib_other, passlib_pbkdf2}
 use Rattle.foreign_text.specs.Records.{made_text, with_kdf}
 use Rattle.foreign_text.specs.Spring.{spring, spring_cost, spring_fields, spring_pbkdf2, spring_scrypt, spring_scrypt_fields}
@@ -27,7 +31,8 @@ use Rattle.foreign_text.specs.Werkzeug.{werkzeug, werkzeug_fields, werkzeug_meth
 use Rattle.foreign_text.specs.declared.converted.Foreign.{Foreign}
 use Rattle.foreign_text.specs.declared.converted.Foreign.TheVariants as of
 use Rattle.foreign_text.specs.declared.fault.ForeignFault.{ForeignFault}
-use Rattle.foreign_text.specs.declared.fault.ForeignFault.TheVariants.{Form}
+use Rattle.foreign_text.specs.declared.fault.ForeignFault.TheVariants.{Form, Unread}
+use Rattle.foreign_text.specs.declared.fault.Unread.TheVariants.{Other as unread_other}
 use Rattle.foreign_text.specs.declared.fault.Unread as unread
 use Rattle.foreign_text.specs.declared.kdf.Kdf.{Kdf}
 use Rattle.foreign_text.specs.declared.kdf.Kdf.TheVariants.{Pbkdf2, Scrypt}
@@ -82,6 +87,59 @@ module _ (text stored : List ℕ) where
       (λ rest h. made_first stored (either_made Sha512 rest stored h))
       (λ h. no_ok _ stored h)))))
 
+  -- ---- a text of SCRAM begins with `$`
+
+  scram_first : (p : Preparation) (rounds : ℕ) (salt key server : List ℕ) → given (scram_text p rounds salt key server) ≡ Ok stored
+      → First stored
+  unfolding scram_text
+  scram_first p rounds salt key server h = held (scram_text p rounds salt key server) stored refl h
+
+  keys_first : (p : Preparation) (rounds : ℕ) (salt : List ℕ) (key server : Option (List ℕ))
+      → scram_by_keys p rounds salt key server ≡ Ok stored → First stored
+  keys_first p rounds salt None server h = no_ok _ stored h
+  keys_first p rounds salt (Some key) None h = no_ok _ stored h
+  keys_first p rounds salt (Some key) (Some server) h =
+      by_test ((length key == 32) && (length server == 32)) _ _ stored
+      (λ t i. scram_first p rounds salt key server i) (λ i. no_ok _ stored i) h
+
+  salt_first : (p : Preparation) (rounds : ℕ) (salt key server : Option (List ℕ))
+      → scram_by_salt p rounds salt key server ≡ Ok stored → First stored
+  salt_first p rounds None key server h = no_ok _ stored h
+  salt_first p rounds (Some salt) key server h =
+      by_test (nat_le 1 (length salt) && nat_le (length salt) 48) _ _ stored
+      (λ t i. keys_first p rounds salt key server i) (λ i. no_ok _ stored i) h
+
+  rounds_first : (p : Preparation) (rounds : Option ℕ) (salt key server : Option (List ℕ))
+      → scram_by_rounds p rounds salt key server ≡ Ok stored → First stored
+  rounds_first p None salt key server h = no_ok _ stored h
+  rounds_first p (Some rounds) salt key server h =
+      by_test (rounds == 0) _ _ stored (λ t i. no_ok _ stored i) (λ i. salt_first p rounds salt key server i) h
+
+  four_first : (r : Result Four ForeignFault) → in_four (scram_fields Raw) r ≡ Ok stored → First stored
+  four_first (Err e) h = no_ok _ stored h
+  four_first (Ok f) h =
+      rounds_first Raw (number_of f.first) (field_bytes base64 f.others.first) (field_bytes base64 f.others.second)
+      (field_bytes base64 f.others.third) h
+
+  keys_half_first : (rounds salt : List ℕ) (r : Result Two ForeignFault)
+      → in_two (λ key server. scram_fields SaslPrep rounds salt key server) r ≡ Ok stored → First stored
+  keys_half_first rounds salt (Err e) h = no_ok _ stored h
+  keys_half_first rounds salt (Ok f) h =
+      rounds_first SaslPrep (number_of rounds) (field_bytes base64 salt) (field_bytes base64 f.first) (field_bytes base64 f.second) h
+
+  cost_half_first : (keys : List ℕ) (r : Result Two ForeignFault)
+      → in_two (λ rounds salt. in_two (λ key server. scram_fields SaslPrep rounds salt key server) (two_of (pieces_at 58 keys))) r
+      ≡ Ok stored → First stored
+  cost_half_first keys (Err e) h = no_ok _ stored h
+  cost_half_first keys (Ok f) h = keys_half_first f.first f.second (two_of (pieces_at 58 keys)) h
+
+  halves_first : (r : Result Two ForeignFault) → in_two postgres_halves r ≡ Ok stored → First stored
+  halves_first (Err e) h = no_ok _ stored h
+  halves_first (Ok f) h = cost_half_first f.second (two_of (pieces_at 58 f.first)) h
+
+  unread_first : stored_or_unread text ≡ Ok stored → First stored
+  unread_first h = signed [] text stored (Unread unread_other) h
+
   dovecot_first : dovecot text ≡ Ok stored → First stored
   unfolding dovecot
   dovecot_first =
@@ -99,7 +157,17 @@ module _ (text stored : List ℕ) where
       (λ rest h. signed (codes "argon2id$") rest stored Form h)
       (by_front ldap_crypt (behind_tag text (codes "{CRYPT}") (codes "{crypt}")) _ stored
       (λ rest h. signed [] rest stored (crypt_fault rest) h)
-      (λ h. no_ok _ stored h)))))))
+      (by_front dovecot_scram (behind_tag text (codes "{SCRAM-SHA-256}") (codes "{scram-sha-256}")) _ stored
+      (λ rest h. four_first (four_of (pieces_at 44 rest)) h)
+      (λ h. no_ok _ stored h))))))))
+
+  postgres_first : postgres text ≡ Ok stored → First stored
+  unfolding postgres
+  postgres_first =
+      by_front postgres_scram (behind text (codes "SCRAM-SHA-256$")) _ stored
+      (λ rest h. halves_first (two_of (pieces_at 36 rest)) h)
+      (by_test (begins text (codes "md5")) _ (stored_or_unread text) stored (λ t h. no_ok _ stored h)
+      (λ h. unread_first h))
 
   spring_fields_made : (rest : List ℕ) → spring_fields rest ≡ Ok stored → First stored
   spring_fields_made rest h =
@@ -304,3 +372,4 @@ itself of.Cisco text stored h = again cisco cisco_made text stored h (cisco_give
 itself of.Mosquitto text stored h = again mosquitto mosquitto_made text stored h (mosquitto_gives text stored h)
 itself of.MediaWiki text stored h = plain_again mediawiki mediawiki_first text stored h
 itself of.Grub text stored h = plain_again grub grub_first text stored h
+itself of.Postgres text stored h = plain_again postgres postgres_first text stored h

@@ -1,4 +1,5 @@
 mod Lengths
+mod ScramTexts
 pub mod Records
 mod Made
 mod Spelled

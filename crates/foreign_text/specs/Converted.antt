@@ -11,6 +11,7 @@ use Rattle.foreign_text.specs.Ldap.{ldap, ldif}
 use Rattle.foreign_text.specs.MediaWiki.{mediawiki}
 use Rattle.foreign_text.specs.Mosquitto.{mosquitto}
 use Rattle.foreign_text.specs.Passlib.{passlib}
+use Rattle.foreign_text.specs.Postgres.{postgres}
 use Rattle.foreign_text.specs.Spring.{spring}
 use Rattle.foreign_text.specs.Werkzeug.{werkzeug}
 use Rattle.foreign_text.specs.Names.{begins}
@@ -32,6 +33,7 @@ by_maker of.Cisco = cisco
 by_maker of.Mosquitto = mosquitto
 by_maker of.MediaWiki = mediawiki
 by_maker of.Grub = grub
+by_maker of.Postgres = postgres
 
 -- a maker's own texts begin with `$`, or those of a dump in LDIF have to be looked at too
 abbrev pub has_own_dollar : Foreign → Bool
@@ -48,6 +50,7 @@ has_own_dollar of.Cisco = true
 has_own_dollar of.Mosquitto = true
 has_own_dollar of.MediaWiki = false
 has_own_dollar of.Grub = false
+has_own_dollar of.Postgres = false
 
 -- A maker's own texts have colons. The lines of a dump in LDIF have LDAP's texts, which are values of bytes and go on to the line's end.
 abbrev pub has_colons : Foreign → Bool
@@ -64,6 +67,7 @@ has_colons of.Cisco = false
 has_colons of.Mosquitto = false
 has_colons of.MediaWiki = true
 has_colons of.Grub = false
+has_colons of.Postgres = true
 
 -- Without a tag a text is the password itself: one that begins with `*` or `!` isn't of a locked account.
 abbrev pub has_clear_texts : Foreign → Bool
@@ -80,6 +84,7 @@ has_clear_texts of.Cisco = false
 has_clear_texts of.Mosquitto = false
 has_clear_texts of.MediaWiki = false
 has_clear_texts of.Grub = false
+has_clear_texts of.Postgres = false
 
 -- A text that begins with `$` is a stored text already, but where the maker has such texts of its own.
 unfoldable pub converted : Foreign → List ℕ → Answer

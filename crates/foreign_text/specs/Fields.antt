@@ -81,6 +81,22 @@ plain_hex field = if list_all is_small_digit field || list_all is_capital_digit 
 
 -- ---- a text cut at one character
 
+-- exactly two fields
+pub record Two : Type 0 where
+  pub first : List ℕ
+  pub second : List ℕ
+
+abbrev pub two_of : List (List ℕ) → Result Two ForeignFault
+two_of [] = Err Form
+two_of (a ∷ []) = Err Form
+two_of (a ∷ (b ∷ [])) = Ok (record { first = a; second = b })
+two_of (a ∷ (b ∷ (c ∷ more))) = Err Form
+
+-- what is read in two fields
+abbrev pub in_two : {A : Type 0} → (List ℕ → List ℕ → Result A ForeignFault) → Result Two ForeignFault → Result A ForeignFault
+in_two read (Err e) = Err e
+in_two read (Ok f) = read f.first f.second
+
 -- exactly three fields
 pub record Three : Type 0 where
   pub first : List ℕ
@@ -119,3 +135,22 @@ abbrev pub in_five : {A : Type 0} → (List ℕ → List ℕ → List ℕ → Li
     → Result A ForeignFault
 in_five read (Err e) = Err e
 in_five read (Ok f) = read f.first f.second f.others.first f.others.second f.others.third
+
+-- one field, and exactly three after it
+pub record Four : Type 0 where
+  pub first : List ℕ
+  pub others : Three
+
+abbrev pub four_with : List ℕ → Result Three ForeignFault → Result Four ForeignFault
+four_with a (Err e) = Err e
+four_with a (Ok others) = Ok (record { first = a; others = others })
+
+abbrev pub four_of : List (List ℕ) → Result Four ForeignFault
+four_of [] = Err Form
+four_of (a ∷ others) = four_with a (three_of others)
+
+-- what is read in four fields
+abbrev pub in_four : {A : Type 0} → (List ℕ → List ℕ → List ℕ → List ℕ → Result A ForeignFault) → Result Four ForeignFault
+    → Result A ForeignFault
+in_four read (Err e) = Err e
+in_four read (Ok f) = read f.first f.others.first f.others.second f.others.third

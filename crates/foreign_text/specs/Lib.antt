@@ -5,6 +5,7 @@ pub mod Records
 pub mod Fronts
 pub mod Answers
 pub mod Encoded
+pub mod Scram
 pub mod Django
 pub mod Werkzeug
 pub mod Ldap
@@ -17,6 +18,7 @@ pub mod Cisco
 pub mod Mosquitto
 pub mod MediaWiki
 pub mod Grub
+pub mod Postgres
 pub mod Converted
 pub mod Words
 pub mod Spellings

@@ -4,7 +4,14 @@ use Rattle.std.specs.Borrow.{Bor}
 use Rattle.foreign_text.specs.Fields as fields
 use Rattle.foreign_text.specs.declared.fields.Three.{Three}
 use Rattle.foreign_text.specs.declared.fields.Five.{Five}
+use Rattle.foreign_text.specs.declared.fields.Four.{Four}
+use Rattle.foreign_text.specs.declared.fields.Two.{Two}
 use Rattle.foreign_text.specs.declared.fault.ForeignFault.{ForeignFault}
+
+-- two fields as lists
+abbrev pub as_two : Result Two ForeignFault → Result fields.Two ForeignFault
+as_two (Err e) = Err e
+as_two (Ok f) = Ok (record { first = f.first.now; second = f.second.now })
 
 -- three fields as lists
 abbrev pub three : Three → fields.Three
@@ -13,6 +20,11 @@ three f = record { first = f.first.now; second = f.second.now; third = f.third.n
 abbrev pub as_three : Result Three ForeignFault → Result fields.Three ForeignFault
 as_three (Err e) = Err e
 as_three (Ok f) = Ok (three f)
+
+-- four fields as lists
+abbrev pub as_four : Result Four ForeignFault → Result fields.Four ForeignFault
+as_four (Err e) = Err e
+as_four (Ok f) = Ok (record { first = f.first.now; others = three f.others })
 
 -- five fields as lists
 abbrev pub as_five : Result Five ForeignFault → Result fields.Five ForeignFault

@@ -16,6 +16,7 @@ use crate::ldap::{ldap, ldif};
 use crate::mediawiki::mediawiki;
 use crate::mosquitto::mosquitto;
 use crate::passlib::passlib;
+use crate::postgres::postgres;
 use crate::spring::spring;
 use crate::werkzeug::werkzeug;
 use pieces::begins_with;
@@ -50,6 +51,8 @@ pub enum Foreign {
     MediaWiki,
     /// GRUB: `grub.pbkdf2.sha512.ROUNDS.SALT.KEY`.
     Grub,
+    /// PostgreSQL: `SCRAM-SHA-256$ROUNDS:SALT$STORED:SERVER`.
+    Postgres,
 }
 
 impl Foreign {
@@ -68,7 +71,7 @@ impl Foreign {
         ensures colons { result ≡ has_colons self }
     {
         match self {
-            Foreign::Werkzeug | Foreign::Ldif | Foreign::MediaWiki => true,
+            Foreign::Werkzeug | Foreign::Ldif | Foreign::MediaWiki | Foreign::Postgres => true,
             _ => false,
         }
     }
@@ -99,7 +102,7 @@ fn by_maker<'a>(
         Foreign::Ldap => ldap(text, made),
         Foreign::Ldif => ldif(text, made),
         Foreign::Passlib => passlib(text, made),
-        Foreign::Dovecot => dovecot(text),
+        Foreign::Dovecot => dovecot(text, made),
         Foreign::Spring => spring(text, made),
         Foreign::Elasticsearch => elasticsearch(text, made),
         Foreign::AspNet => aspnet(text, made),
@@ -107,13 +110,14 @@ fn by_maker<'a>(
         Foreign::Mosquitto => mosquitto(text, made),
         Foreign::MediaWiki => mediawiki(text, made),
         Foreign::Grub => grub(text, made),
+        Foreign::Postgres => postgres(text, made),
     }
 }
 
 /// The stored text that a foreign text is read as, in the one spelling that `any_check` reads: a part of the foreign text; or
 /// none, and then the text is put into `made`.
 ///
-/// A record of PBKDF2 or scrypt is made of the cost, the salt and the key; where the maker hashes a salt's characters, the salt
+/// A record of PBKDF2 or scrypt is made of the cost, the salt and the key, and a text of SCRAM of the rounds, the salt and both keys; where the maker hashes a salt's characters, the salt
 /// is their bytes. A text that is there in the foreign one is given as it is there, and so is one that begins with `$`, but for
 /// those of passlib, Cisco and Mosquitto of their own: whether it has a fault is for `any_check` to say.
 ///

@@ -1,13 +1,17 @@
 //! Texts of Dovecot.
 
 ghost use Rattle.std.specs.Prelude.{◌≡◌};
-ghost use Rattle.foreign_text.specs.Dovecot.{dovecot, dovecot_digest, dovecot_plain, dovecot_unread};
+ghost use Rattle.foreign_text.specs.Dovecot.{dovecot, dovecot_digest, dovecot_made, dovecot_plain, dovecot_scram, dovecot_unread};
 ghost use Rattle.foreign_text.specs.Views.{as_answer};
 ghost use Rattle.std.specs.Prelude.{ℕ, List};
 
-use crate::answers::as_it_is;
+use crate::answers::{as_it_is, put_made};
+use crate::fields::four_at;
+use crate::kdf::MadeText;
 use crate::ldap::{behind_tag, is_tagged, ldap_crypt, ldap_unread};
+use crate::scram::scram_fields;
 use crate::{ForeignFault, Unread};
+use scram_plain::Preparation;
 
 // The scheme of a text that keeps the password, or another.
 fn dovecot_plain(text: &str) -> Unread
@@ -43,9 +47,7 @@ fn dovecot_digest(text: &str) -> Unread
 fn dovecot_unread(text: &str) -> Unread
     ensures { result ≡ dovecot_unread text.now }
 {
-    if is_tagged(text, "{SCRAM-SHA-256}", "{scram-sha-256}")
-        || is_tagged(text, "{SCRAM-SHA-1}", "{scram-sha-1}")
-    {
+    if is_tagged(text, "{SCRAM-SHA-1}", "{scram-sha-1}") {
         Unread::Scram
     } else if is_tagged(text, "{DES-CRYPT}", "{des-crypt}") {
         Unread::DesCrypt
@@ -54,10 +56,39 @@ fn dovecot_unread(text: &str) -> Unread
     }
 }
 
+// The text of what follows the tag of SCRAM.
+fn dovecot_scram(rest: &str) -> Result<MadeText, ForeignFault>
+    ensures { result ≡ dovecot_scram rest.now }
+{
+    match four_at(rest, ',') {
+        Ok(f) => scram_fields(
+            Preparation::Raw,
+            f.first,
+            f.others.first,
+            f.others.second,
+            f.others.third,
+        ),
+        Err(fault) => Err(fault),
+    }
+}
+
+// The stored text of a text of SCRAM, or why there is none of another one.
+fn dovecot_made<'a>(text: &'a str, made: &mut MadeText) -> Result<Option<&'a str>, ForeignFault>
+    ensures { as_answer result made.new ≡ dovecot_made text.now }
+{
+    match behind_tag(text, "{SCRAM-SHA-256}", "{scram-sha-256}") {
+        Some(rest) => put_made(dovecot_scram(rest), made),
+        None => Err(ForeignFault::Unread(dovecot_unread(text))),
+    }
+}
+
 /// The stored text of a text of Dovecot.
 #[tactic(auto, unfolding(crate::specs::Dovecot::dovecot))]
-pub(crate) fn dovecot(text: &str) -> Result<Option<&str>, ForeignFault>
-    ensures { (made : List ℕ) → as_answer result made ≡ dovecot text.now }
+pub(crate) fn dovecot<'a>(
+    text: &'a str,
+    made: &mut MadeText,
+) -> Result<Option<&'a str>, ForeignFault>
+    ensures { as_answer result made.new ≡ dovecot text.now }
 {
     if let Some(rest) = behind_tag(text, "{SHA512-CRYPT}", "{sha512-crypt}") {
         return as_it_is("$6$", rest);
@@ -80,5 +111,5 @@ pub(crate) fn dovecot(text: &str) -> Result<Option<&str>, ForeignFault>
     if let Some(rest) = behind_tag(text, "{CRYPT}", "{crypt}") {
         return ldap_crypt(rest);
     }
-    Err(ForeignFault::Unread(dovecot_unread(text)))
+    dovecot_made(text, made)
 }

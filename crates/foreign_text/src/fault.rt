@@ -8,7 +8,7 @@ ghost use Rattle.foreign_text.specs.Words.{fault_word, unread_word};
 pub enum Unread {
     /// PBKDF2 with SHA-1.
     Pbkdf2Sha1,
-    /// SCRAM, whose text has no key of a password.
+    /// SCRAM with SHA-1.
     Scram,
     /// SHA-1 without a cost, with or without a salt.
     Sha1,

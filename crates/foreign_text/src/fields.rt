@@ -4,8 +4,8 @@ ghost use Rattle.std.specs.Prelude.{◌≡◌, ◌≤◌, ◌<◌, length};
 ghost use Rattle.std.specs.List.{list_all};
 ghost use Rattle.pieces.specs.Pieces.{pieces_at};
 ghost use Rattle.foreign_text.specs.Fields.{digit_bytes, field_bytes, five_of, is_capital_digit, is_small_digit, logarithm};
-ghost use Rattle.foreign_text.specs.Fields.{logarithm_of, number_of, pbkdf2_cost, plain_hex, scrypt_cost, small_hex, three_of};
-ghost use Rattle.foreign_text.specs.Views.{as_five, as_three};
+ghost use Rattle.foreign_text.specs.Fields.{four_of, logarithm_of, number_of, pbkdf2_cost, plain_hex, scrypt_cost, small_hex, three_of, two_of};
+ghost use Rattle.foreign_text.specs.Views.{as_five, as_four, as_three, as_two};
 
 use crate::ForeignFault;
 use crate::kdf::{FieldBytes, Kdf, Pbkdf2Hash};
@@ -17,12 +17,26 @@ use pieces::{first_piece, is_end};
 /// The most characters of a field that is decoded.
 const FIELD_MAX: usize = 128;
 
+/// Two fields of a text.
+#[derive(Clone, Copy, Debug)]
+pub(crate) struct Two<'a> {
+    pub first: &'a str,
+    pub second: &'a str,
+}
+
 /// Three fields of a text.
 #[derive(Clone, Copy, Debug)]
 pub(crate) struct Three<'a> {
     pub first: &'a str,
     pub second: &'a str,
     pub third: &'a str,
+}
+
+/// A field of a text, and three after it.
+#[derive(Clone, Copy, Debug)]
+pub(crate) struct Four<'a> {
+    pub first: &'a str,
+    pub others: Three<'a>,
 }
 
 /// Two fields of a text, and three after them.
@@ -33,7 +47,24 @@ pub(crate) struct Five<'a> {
     pub others: Three<'a>,
 }
 
-/// The fields of a text that is cut at each `cut`, where there are exactly three.
+/// The fields of a text that is cut at each `cut`, where there are exactly two.
+pub(crate) fn two_at(text: &str, cut: char) -> Result<Two<'_>, ForeignFault>
+    requires ascii { cut < 128 }
+    ensures { as_two result ≡ two_of (pieces_at cut text.now) }
+{
+    let (first, rest) = first_piece(text, cut);
+    let Some(rest) = rest else {
+        return Err(ForeignFault::Form);
+    };
+    let (second, more) = first_piece(rest, cut);
+    if is_end(more) {
+        Ok(Two { first, second })
+    } else {
+        Err(ForeignFault::Form)
+    }
+}
+
+/// The same, where there are exactly three.
 pub(crate) fn three_at(text: &str, cut: char) -> Result<Three<'_>, ForeignFault>
     requires ascii { cut < 128 }
     ensures { as_three result ≡ three_of (pieces_at cut text.now) }
@@ -55,6 +86,21 @@ pub(crate) fn three_at(text: &str, cut: char) -> Result<Three<'_>, ForeignFault>
         second,
         third,
     })
+}
+
+/// The same, where there are exactly four.
+pub(crate) fn four_at(text: &str, cut: char) -> Result<Four<'_>, ForeignFault>
+    requires ascii { cut < 128 }
+    ensures { as_four result ≡ four_of (pieces_at cut text.now) }
+{
+    let (first, others) = first_piece(text, cut);
+    let Some(others) = others else {
+        return Err(ForeignFault::Form);
+    };
+    match three_at(others, cut) {
+        Ok(others) => Ok(Four { first, others }),
+        Err(fault) => Err(fault),
+    }
 }
 
 /// The same, where there are exactly five.

@@ -22,6 +22,8 @@ mod ldap;
 mod mediawiki;
 mod mosquitto;
 mod passlib;
+mod postgres;
+mod scram;
 mod spring;
 mod werkzeug;
 

@@ -25,7 +25,37 @@ fn fault_of(foreign: Foreign, text: &str) -> Option<ForeignFault> {
 }
 
 // Foreign texts, and the stored texts for them.
-const CONVERTED: [(Foreign, &str, &str); 42] = [
+const CONVERTED: &[(Foreign, &str, &str)] = &[
+    (
+        Foreign::Postgres,
+        "SCRAM-SHA-256$4096:KKuwZV6QTiARVwYpYRdEYA==$mzeyc9wh1vO3fszeKs/ZRrWSBYkiSD6EsahtoLJMark=:ARZ3AEQM7sKRkXahGQ6nE9PZKKhYG/fuFpDLcFlPaO4=",
+        "$scram-sha-256$4096$KKuwZV6QTiARVwYpYRdEYA==$mzeyc9wh1vO3fszeKs/ZRrWSBYkiSD6EsahtoLJMark=$ARZ3AEQM7sKRkXahGQ6nE9PZKKhYG/fuFpDLcFlPaO4=",
+    ),
+    (
+        Foreign::Postgres,
+        "SCRAM-SHA-256$4096:tMu4kNZDQonoZ0FAjmNChQ==$xmaEu/q6i1Q8G5Y3ddjz8IFeiHYvq7iyRya2RFM/Tq0=:tVHgTuMNDgjbO4j8Sh8vDD9ljZFS0GEv+O0Oh9IJ87o=",
+        "$scram-sha-256$4096$tMu4kNZDQonoZ0FAjmNChQ==$xmaEu/q6i1Q8G5Y3ddjz8IFeiHYvq7iyRya2RFM/Tq0=$tVHgTuMNDgjbO4j8Sh8vDD9ljZFS0GEv+O0Oh9IJ87o=",
+    ),
+    (
+        Foreign::Postgres,
+        "$scram-sha-256$4096$KKuwZV6QTiARVwYpYRdEYA==$mzeyc9wh1vO3fszeKs/ZRrWSBYkiSD6EsahtoLJMark=$ARZ3AEQM7sKRkXahGQ6nE9PZKKhYG/fuFpDLcFlPaO4=",
+        "$scram-sha-256$4096$KKuwZV6QTiARVwYpYRdEYA==$mzeyc9wh1vO3fszeKs/ZRrWSBYkiSD6EsahtoLJMark=$ARZ3AEQM7sKRkXahGQ6nE9PZKKhYG/fuFpDLcFlPaO4=",
+    ),
+    (
+        Foreign::Dovecot,
+        "{SCRAM-SHA-256}4096,eT2ALwn9J59lS3e95d5cLA==,j/FIwttGABb6lm2Kv4iqJL899KAtCC0OrWnpsjzb6Pg=,MTJUwcrMkj9kd8P1ZtdphHl8Zd/6MgTytFkP1bRsy94=",
+        "$scram-sha-256-raw$4096$eT2ALwn9J59lS3e95d5cLA==$j/FIwttGABb6lm2Kv4iqJL899KAtCC0OrWnpsjzb6Pg=$MTJUwcrMkj9kd8P1ZtdphHl8Zd/6MgTytFkP1bRsy94=",
+    ),
+    (
+        Foreign::Dovecot,
+        "{SCRAM-SHA-256}4096,2wsAGHPOlx02JsAZmaldqg==,YuTv1Lm3hhzcCT/4NWdkGMfzx/ZrEAD+MKhbl0PSfD4=,bQ2PPNyUmx//C6r142IngJs266q3nh2VlMka0CsqffE=",
+        "$scram-sha-256-raw$4096$2wsAGHPOlx02JsAZmaldqg==$YuTv1Lm3hhzcCT/4NWdkGMfzx/ZrEAD+MKhbl0PSfD4=$bQ2PPNyUmx//C6r142IngJs266q3nh2VlMka0CsqffE=",
+    ),
+    (
+        Foreign::Dovecot,
+        "{scram-sha-256}4096,eT2ALwn9J59lS3e95d5cLA==,j/FIwttGABb6lm2Kv4iqJL899KAtCC0OrWnpsjzb6Pg=,MTJUwcrMkj9kd8P1ZtdphHl8Zd/6MgTytFkP1bRsy94=",
+        "$scram-sha-256-raw$4096$eT2ALwn9J59lS3e95d5cLA==$j/FIwttGABb6lm2Kv4iqJL899KAtCC0OrWnpsjzb6Pg=$MTJUwcrMkj9kd8P1ZtdphHl8Zd/6MgTytFkP1bRsy94=",
+    ),
     (Foreign::Ldif, "{CRYPT}$6$x$y", "$6$x$y"),
     (Foreign::Ldif, "$6$x$y", "$6$x$y"),
     (
@@ -230,16 +260,115 @@ const CONVERTED: [(Foreign, &str, &str); 42] = [
     ),
 ];
 
+fn converted() -> &'static [(Foreign, &'static str, &'static str)] {
+    CONVERTED
+}
+
 #[test]
 fn texts_of_makers(rt: HostRuntime) {
-    for (foreign, text, stored) in CONVERTED {
-        assert!(rt; is_converted(foreign, text, stored), "{text}");
-        assert!(rt; is_converted(foreign, stored, stored), "{stored}");
+    for (foreign, text, stored) in converted() {
+        assert!(rt; is_converted(*foreign, text, stored), "{text}");
+        assert!(rt; is_converted(*foreign, stored, stored), "{stored}");
     }
 }
 
 // Texts with a fault, the first of those that they have.
-const FAULTS: [(Foreign, &str, ForeignFault); 82] = [
+const FAULTS: &[(Foreign, &str, ForeignFault)] = &[
+    (
+        Foreign::Postgres,
+        "SCRAM-SHA-256$4096:c2FsdA==",
+        ForeignFault::Form,
+    ),
+    (
+        Foreign::Postgres,
+        "SCRAM-SHA-256$4096$c2FsdA==$AAAAAAAAAAAAAAAAAAAAAAAAAAAAAAAAAAAAAAAAAAA=:AAAAAAAAAAAAAAAAAAAAAAAAAAAAAAAAAAAAAAAAAAA=",
+        ForeignFault::Form,
+    ),
+    (
+        Foreign::Postgres,
+        "SCRAM-SHA-256$4096:c2FsdA==$AAAAAAAAAAAAAAAAAAAAAAAAAAAAAAAAAAAAAAAAAAA=:AAAAAAAAAAAAAAAAAAAAAAAAAAAAAAAAAAAAAAAAAAA=:",
+        ForeignFault::Form,
+    ),
+    (
+        Foreign::Postgres,
+        "SCRAM-SHA-256$04096:?$?:?",
+        ForeignFault::Rounds,
+    ),
+    (
+        Foreign::Postgres,
+        "SCRAM-SHA-256$0:?$?:?",
+        ForeignFault::Rounds,
+    ),
+    (
+        Foreign::Postgres,
+        "SCRAM-SHA-256$4294967296:?$?:?",
+        ForeignFault::Rounds,
+    ),
+    (
+        Foreign::Postgres,
+        "SCRAM-SHA-256$4096:c2FsdA$?:?",
+        ForeignFault::Salt,
+    ),
+    (
+        Foreign::Postgres,
+        "SCRAM-SHA-256$4096:$?:?",
+        ForeignFault::SaltLength,
+    ),
+    (
+        Foreign::Postgres,
+        "SCRAM-SHA-256$4096:AAAAAAAAAAAAAAAAAAAAAAAAAAAAAAAAAAAAAAAAAAAAAAAAAAAAAAAAAAAAAAAAAA==$?:?",
+        ForeignFault::SaltLength,
+    ),
+    (
+        Foreign::Postgres,
+        "SCRAM-SHA-256$4096:c2FsdA==$?:AAAAAAAAAAAAAAAAAAAAAAAAAAAAAAAAAAAAAAAAAAA=",
+        ForeignFault::Hash,
+    ),
+    (
+        Foreign::Postgres,
+        "SCRAM-SHA-256$4096:c2FsdA==$AAAAAAAAAAAAAAAAAAAAAAAAAAAAAAAAAAAAAAAAAAA=:?",
+        ForeignFault::Hash,
+    ),
+    (
+        Foreign::Postgres,
+        "SCRAM-SHA-256$4096:c2FsdA==$AAAA:AAAAAAAAAAAAAAAAAAAAAAAAAAAAAAAAAAAAAAAAAAA=",
+        ForeignFault::HashLength,
+    ),
+    (
+        Foreign::Postgres,
+        "SCRAM-SHA-256$4096:c2FsdA==$AAAAAAAAAAAAAAAAAAAAAAAAAAAAAAAAAAAAAAAAAAA=:AAAA",
+        ForeignFault::HashLength,
+    ),
+    (
+        Foreign::Dovecot,
+        "{SCRAM-SHA-256}4096,c2FsdA==,AAAAAAAAAAAAAAAAAAAAAAAAAAAAAAAAAAAAAAAAAAA=",
+        ForeignFault::Form,
+    ),
+    (
+        Foreign::Dovecot,
+        "{SCRAM-SHA-256}4096,c2FsdA==,AAAAAAAAAAAAAAAAAAAAAAAAAAAAAAAAAAAAAAAAAAA=,AAAAAAAAAAAAAAAAAAAAAAAAAAAAAAAAAAAAAAAAAAA=,",
+        ForeignFault::Form,
+    ),
+    (
+        Foreign::Dovecot,
+        "{SCRAM-SHA-256}0,?,?,?",
+        ForeignFault::Rounds,
+    ),
+    (
+        Foreign::Dovecot,
+        "{SCRAM-SHA-256}4096,x,y,z",
+        ForeignFault::Salt,
+    ),
+    (
+        Foreign::Dovecot,
+        "{SCRAM-SHA-256}4096,c2FsdA==,y,AAAAAAAAAAAAAAAAAAAAAAAAAAAAAAAAAAAAAAAAAAA=",
+        ForeignFault::Hash,
+    ),
+    (
+        Foreign::Dovecot,
+        "{SCRAM-SHA-256}4096,c2FsdA==,AAAAAAAAAAAAAAAAAAAAAAAAAAAAAAAAAAAAAAAAAAA=,AAAA",
+        ForeignFault::HashLength,
+    ),
     (
         Foreign::Django,
         "scrypt$16384$saltsalt$8$1",
@@ -556,16 +685,20 @@ const FAULTS: [(Foreign, &str, ForeignFault); 82] = [
     ),
 ];
 
+fn faults() -> &'static [(Foreign, &'static str, ForeignFault)] {
+    FAULTS
+}
+
 #[test]
 fn first_faults(rt: HostRuntime) {
-    for (foreign, text, fault) in FAULTS {
-        assert!(rt; fault_of(foreign, text) == Some(fault), "{text}");
+    for (foreign, text, fault) in faults() {
+        assert!(rt; fault_of(*foreign, text) == Some(*fault), "{text}");
     }
     assert!(rt; ForeignFault::Cost.word() == "foreign-cost");
 }
 
 // The same of directories: locked accounts, clear texts, and texts of a dump with a colon.
-const OF_DIRECTORIES: [(Foreign, &str, ForeignFault); 13] = [
+const OF_DIRECTORIES: &[(Foreign, &str, ForeignFault)] = &[
     (Foreign::Ldif, "{CRYPT}$6$x$y:", ForeignFault::Form),
     (Foreign::Ldif, "$6$x:y", ForeignFault::Form),
     (Foreign::Ldap, "{CRYPT}!$6$x$y", ForeignFault::Locked),
@@ -593,15 +726,19 @@ const OF_DIRECTORIES: [(Foreign, &str, ForeignFault); 13] = [
     (Foreign::Dovecot, "{CRYPT}!!", ForeignFault::Locked),
 ];
 
+fn of_directories() -> &'static [(Foreign, &'static str, ForeignFault)] {
+    OF_DIRECTORIES
+}
+
 #[test]
 fn first_faults_of_directories(rt: HostRuntime) {
-    for (foreign, text, fault) in OF_DIRECTORIES {
-        assert!(rt; fault_of(foreign, text) == Some(fault), "{text}");
+    for (foreign, text, fault) in of_directories() {
+        assert!(rt; fault_of(*foreign, text) == Some(*fault), "{text}");
     }
 }
 
 // Texts of schemes that are not read.
-const UNREAD: [(Foreign, &str, Unread); 34] = [
+const UNREAD: &[(Foreign, &str, Unread)] = &[
     (
         Foreign::Werkzeug,
         "pbkdf2:sha1:1000$saltsalt$0000000000000000000000000000000000000000",
@@ -620,7 +757,7 @@ const UNREAD: [(Foreign, &str, Unread); 34] = [
         "{DES-CRYPT}ud03EAGigf5FA",
         Unread::DesCrypt,
     ),
-    (Foreign::Dovecot, "{SCRAM-SHA-256}4096,x,y,z", Unread::Scram),
+    (Foreign::Dovecot, "{SCRAM-SHA-1}4096,x,y,z", Unread::Scram),
     (Foreign::Dovecot, "{cram-md5}00", Unread::Md5),
     (Foreign::Dovecot, "{SSHA256}x", Unread::Sha2),
     (Foreign::Dovecot, "{SHA512-CRYPT.HEX}24", Unread::Other),
@@ -656,13 +793,23 @@ const UNREAD: [(Foreign, &str, Unread); 34] = [
     (Foreign::MediaWiki, ":A:0", Unread::Md5),
     (Foreign::MediaWiki, ":bcrypt:x", Unread::Other),
     (Foreign::Grub, "secret", Unread::Other),
+    (
+        Foreign::Postgres,
+        "md5a3556571e93b0d20722ba62be61e8c2d",
+        Unread::Md5,
+    ),
+    (Foreign::Postgres, "secret", Unread::Other),
 ];
+
+fn unread() -> &'static [(Foreign, &'static str, Unread)] {
+    UNREAD
+}
 
 #[test]
 fn schemes_of_makers(rt: HostRuntime) {
-    for (foreign, text, scheme) in UNREAD {
+    for (foreign, text, scheme) in unread() {
         assert!(rt;
-            fault_of(foreign, text) == Some(ForeignFault::Unread(scheme)),
+            fault_of(*foreign, text) == Some(ForeignFault::Unread(*scheme)),
             "{text}"
         );
     }
@@ -674,6 +821,7 @@ fn schemes_of_makers(rt: HostRuntime) {
 fn makers_with_colons(rt: HostRuntime) {
     assert!(rt; Foreign::Werkzeug.has_colons());
     assert!(rt; Foreign::MediaWiki.has_colons());
+    assert!(rt; Foreign::Postgres.has_colons());
     assert!(rt; !Foreign::Django.has_colons());
     assert!(rt; !Foreign::Grub.has_colons());
 }

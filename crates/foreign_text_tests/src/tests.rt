@@ -25,7 +25,7 @@ fn fault_of(foreign: Foreign, text: &str) -> Option<ForeignFault> {
 }
 
 // Foreign texts, and the stored texts for them.
-const CONVERTED: [(Foreign, &str, &str); 21] = [
+const CONVERTED: &[(Foreign, &str, &str)] = &[
     (
         Foreign::Django,
         "bcrypt_sha256$$2b$12$z7iJH30X4a4mlj/yLFmlh.kTNMuCFWO04fO7zqSrOeJQE56Br0/aG",
@@ -129,16 +129,20 @@ const CONVERTED: [(Foreign, &str, &str); 21] = [
     ),
 ];
 
+fn converted() -> &'static [(Foreign, &'static str, &'static str)] {
+    CONVERTED
+}
+
 #[test]
 fn converted_texts(rt: HostRuntime) {
-    for (foreign, text, stored) in CONVERTED {
-        assert!(rt; is_converted(foreign, text, stored), "{text}");
-        assert!(rt; is_converted(foreign, stored, stored), "{stored}");
+    for (foreign, text, stored) in converted() {
+        assert!(rt; is_converted(*foreign, text, stored), "{text}");
+        assert!(rt; is_converted(*foreign, stored, stored), "{stored}");
     }
 }
 
 // Texts of schemes that aren't read.
-const UNREAD: [(Foreign, &str, Unread, &str); 13] = [
+const UNREAD: &[(Foreign, &str, Unread, &str)] = &[
     (
         Foreign::Django,
         "pbkdf2_sha1$3$CQGgXkH1zxFUb$GLn5Ai20ScanjT8A5+7iI21zErE=",
@@ -219,17 +223,21 @@ const UNREAD: [(Foreign, &str, Unread, &str); 13] = [
     ),
 ];
 
+fn unread() -> &'static [(Foreign, &'static str, Unread, &'static str)] {
+    UNREAD
+}
+
 #[test]
 fn unread_schemes(rt: HostRuntime) {
-    for (foreign, text, scheme, word) in UNREAD {
-        let fault = ForeignFault::Unread(scheme);
-        assert!(rt; fault_of(foreign, text) == Some(fault), "{text}");
-        assert!(rt; fault.word() == word);
+    for (foreign, text, scheme, word) in unread() {
+        let fault = ForeignFault::Unread(*scheme);
+        assert!(rt; fault_of(*foreign, text) == Some(fault), "{text}");
+        assert!(rt; fault.word() == *word, "{text}");
     }
 }
 
 // Texts with a fault, and its word. Of the spare bits of the last character of a key or a salt one is set in two of them.
-const FAULTS: [(Foreign, &str, ForeignFault, &str); 28] = [
+const FAULTS: &[(Foreign, &str, ForeignFault, &str)] = &[
     (
         Foreign::Django,
         "bcrypt_sha256$$2b$04$0v2TPSqrKaDKURXtLIvyu.",
@@ -400,10 +408,14 @@ const FAULTS: [(Foreign, &str, ForeignFault, &str); 28] = [
     ),
 ];
 
+fn fault_rows() -> &'static [(Foreign, &'static str, ForeignFault, &'static str)] {
+    FAULTS
+}
+
 #[test]
 fn faults(rt: HostRuntime) {
-    for (foreign, text, fault, word) in FAULTS {
-        assert!(rt; fault_of(foreign, text) == Some(fault), "{text}");
-        assert!(rt; fault.word() == word);
+    for (foreign, text, fault, word) in fault_rows() {
+        assert!(rt; fault_of(*foreign, text) == Some(*fault), "{text}");
+        assert!(rt; fault.word() == *word, "{text}");
     }
 }

@@ -1,16 +1,20 @@
 //! Values, parameters, salts and outputs: rows that say what is refused, texts from outside, and one call of
 //! each kind.
 
-use phc::{Error, Ident, Output, ParamsString, Salt, SaltString, TryFill, Value};
+use phc::{Error, Ident, Iter, Output, ParamsString, Salt, SaltString, TryFill, Value};
 use rand_chacha::ChaCha20Rng;
 use rand_core::SeedableRng;
-use std::alloc::AllocError;
+use std::alloc::{AllocError, Global};
 use std::cmp::Ordering;
+use std::fmt::Display;
 use std::process::Abort;
 use subtle::ConstantTimeEq;
 
 // Sixteen characters that each value may have.
 const SIXTEEN: &str = "AZaz09/+.-bcdefg";
+
+// The same four times.
+const SIXTY_FOUR: &str = "AZaz09/+.-bcdefgAZaz09/+.-bcdefgAZaz09/+.-bcdefgAZaz09/+.-bcdefg";
 
 const SHORT: Error = Error::OutputSize {
     provided: Ordering::Less,
@@ -21,6 +25,8 @@ const LONG: Error = Error::OutputSize {
     provided: Ordering::Greater,
     expected: 64,
 };
+
+const INVALID_ENCODING: Error = Error::Base64(base64ct::Error::InvalidEncoding);
 
 // Bytes counted from 0 on.
 const COUNTED: [u8; 65] = [
@@ -37,6 +43,12 @@ fn name(rt: &impl Abort, text: &str) -> Ident {
     Ident::new(text).expect(rt, "a name")
 }
 
+// What is printed of a value.
+fn prints(rt: &impl Abort, alloc: Global, value: &impl Display, text: &str) -> bool {
+    let printed = format!(in alloc; "{value}").expect(rt, "want of memory");
+    printed.as_str() == text
+}
+
 fn value<'a>(rt: &impl Abort, text: &'a str) -> Value<'a> {
     Value::new(text).expect(rt, "a value")
 }
@@ -44,7 +56,7 @@ fn value<'a>(rt: &impl Abort, text: &'a str) -> Value<'a> {
 // ---- values
 
 // Values and the numbers that they write.
-const DECIMALS: [(&str, Option<u32>); 10] = [
+const DECIMALS: &[(&str, Option<u32>)] = &[
     ("0", Some(0)),
     ("7", Some(7)),
     ("4294967295", Some(4_294_967_295)),
@@ -61,57 +73,96 @@ const DECIMALS: [(&str, Option<u32>); 10] = [
 fn decimals(rt: HostRuntime) {
     for (text, number) in DECIMALS {
         let value = value(&rt, text);
-        assert!(rt; value.decimal() == number.ok_or(Error::ParamValueInvalid));
-        assert!(rt; value.is_decimal() == number.is_some());
+        assert!(rt; value.decimal().ok() == *number, "{text}");
+        assert!(rt; value.is_decimal() == number.is_some(), "{text}");
     }
 }
 
 #[test]
-fn values(rt: HostRuntime) -> Result<(), AllocError> {
-    let long = format!(in rt.alloc(); "{SIXTEEN}{SIXTEEN}{SIXTEEN}{SIXTEEN}")?;
+fn refused_decimals(rt: HostRuntime) {
+    for (text, number) in DECIMALS {
+        if number.is_none() {
+            let refusal = value(&rt, text).decimal().err();
+            assert!(rt; refusal == Some(Error::ParamValueInvalid), "{text}");
+        }
+    }
+}
+
+#[test]
+fn values(rt: HostRuntime) {
     let sixteen = value(&rt, SIXTEEN);
     assert!(rt; sixteen.as_str() == SIXTEEN);
     assert!(rt; sixteen.as_bytes() == SIXTEEN.as_bytes());
-    assert!(rt; value(&rt, &long).len() == Value::MAX_LENGTH);
-    assert!(rt; value(&rt, "").is_empty() && !sixteen.is_empty());
-    assert!(rt; value(&rt, "a") < value(&rt, "b"));
-    assert!(rt; format!(in rt.alloc(); "{sixteen}")?.as_str() == SIXTEEN);
-    Ok(())
+    assert!(rt; !sixteen.is_empty());
+    assert!(rt; prints(&rt, rt.alloc(), &sixteen, SIXTEEN));
 }
 
 #[test]
-fn refused_values(rt: HostRuntime) -> Result<(), AllocError> {
-    let longer = format!(in rt.alloc(); "{SIXTEEN}{SIXTEEN}{SIXTEEN}{SIXTEEN};")?;
-    assert!(rt; Value::new(&longer) == Err(Error::ParamValueTooLong));
-    for text in ["x;y", "a=b", "a,b", "a$b", "a b", "\u{e9}"] {
-        assert!(rt; Value::new(text) == Err(Error::ParamValueInvalid), "{text}");
+fn lengths_of_values(rt: HostRuntime) {
+    assert!(rt; value(&rt, SIXTY_FOUR).len() == Value::MAX_LENGTH);
+    assert!(rt; value(&rt, "").is_empty());
+    assert!(rt; value(&rt, "a") < value(&rt, "b"));
+}
+
+const BAD_VALUES: &[(&str, Error)] = &[
+    (
+        "AZaz09/+.-bcdefgAZaz09/+.-bcdefgAZaz09/+.-bcdefgAZaz09/+.-bcdefg;",
+        Error::ParamValueTooLong,
+    ),
+    ("x;y", Error::ParamValueInvalid),
+    ("a=b", Error::ParamValueInvalid),
+    ("a,b", Error::ParamValueInvalid),
+    ("a$b", Error::ParamValueInvalid),
+    ("a b", Error::ParamValueInvalid),
+    ("\u{e9}", Error::ParamValueInvalid),
+];
+
+#[test]
+fn refused_values(rt: HostRuntime) {
+    for (text, fault) in BAD_VALUES {
+        assert!(rt; Value::new(text).err() == Some(*fault), "{text}");
     }
-    Ok(())
+}
+
+// A value is decoded at the front of four sevens.
+fn decoded_as(rt: &impl Abort, text: &str, bytes: &[u8], room: [u8; 4]) {
+    let mut sevens = [7; 4];
+    assert!(rt;
+        value(rt, text).b64_decode(&mut sevens) == Ok(bytes),
+        "{text}"
+    );
+    assert!(rt; sevens == room, "{text}");
 }
 
 #[test]
 fn decoded_values(rt: HostRuntime) {
+    decoded_as(&rt, "AgM", &[2, 3], [2, 3, 7, 7]);
+    decoded_as(&rt, "BAUG", &[4, 5, 6], [4, 5, 6, 7]);
+}
+
+#[test]
+fn values_without_room(rt: HostRuntime) {
     let mut room = [7; 4];
-    let no_room = Some(Error::Base64(base64ct::Error::InvalidLength));
-    assert!(rt; value(&rt, "BAUG").b64_decode(&mut room[..2]).err() == no_room);
+    let no_room = Error::Base64(base64ct::Error::InvalidLength);
+    assert!(rt; value(&rt, "BAUG").b64_decode(&mut room[..2]).err() == Some(no_room));
     assert!(rt; room == [7; 4]);
-    assert!(rt; value(&rt, "AgM").b64_decode(&mut room) == Ok([2, 3].as_slice()));
-    assert!(rt; room == [2, 3, 7, 7]);
-    assert!(rt; value(&rt, "BAUG").b64_decode(&mut room) == Ok([4, 5, 6].as_slice()));
-    assert!(rt; room == [4, 5, 6, 7]);
-    let encoding = Some(Error::Base64(base64ct::Error::InvalidEncoding));
-    for text in ["Mi", "A", "AA-", "...."] {
-        assert!(rt;
-            value(&rt, text).b64_decode(&mut room).err() == encoding,
-            "{text}"
-        );
+}
+
+const NO_ENCODINGS: &[&str] = &["Mi", "A", "AA-", "...."];
+
+#[test]
+fn values_of_no_bytes(rt: HostRuntime) {
+    let mut room = [7; 4];
+    for text in NO_ENCODINGS {
+        let refusal = value(&rt, text).b64_decode(&mut room).err();
+        assert!(rt; refusal == Some(INVALID_ENCODING), "{text}");
     }
 }
 
 // ---- salts
 
 // Texts of salts that are refused.
-const BAD_SALTS: [(&str, Error); 7] = [
+const BAD_SALTS: &[(&str, Error)] = &[
     ("", Error::SaltTooShort),
     ("__________", Error::SaltTooShort),
     ("abcdabcdab", Error::SaltTooShort),
@@ -133,41 +184,57 @@ const BAD_SALTS: [(&str, Error); 7] = [
     ),
 ];
 
+fn bad_salts() -> &'static [(&'static str, Error)] {
+    BAD_SALTS
+}
+
+fn refused_salt(rt: &impl Abort, text: &str, fault: Error) {
+    let refusal = Some(fault);
+    assert!(rt; Salt::from_b64(text).err() == refusal, "{text}");
+    assert!(rt; SaltString::from_b64(text).err() == refusal, "{text}");
+    assert!(rt; text.parse::<Salt>().err() == refusal, "{text}");
+    assert!(rt; text.parse::<SaltString>().err() == refusal, "{text}");
+}
+
 #[test]
 fn refused_salts(rt: HostRuntime) {
-    for (text, fault) in BAD_SALTS {
-        assert!(rt; Salt::from_b64(text) == Err(fault), "{text}");
-        assert!(rt; SaltString::from_b64(text) == Err(fault), "{text}");
-        assert!(rt; text.parse::<Salt>() == Err(fault), "{text}");
-        assert!(rt; text.parse::<SaltString>() == Err(fault), "{text}");
+    for (text, fault) in bad_salts() {
+        refused_salt(&rt, text, *fault);
     }
 }
 
-#[test]
-fn salts(rt: HostRuntime) -> Result<(), AllocError> {
-    let bytes = [0x69, 0xb7, 0x1d, 0x69, 0xb7, 0x1d, 0x69, 0xb7];
-    let salt = Salt::from_b64("abcdabcdabc").expect(&rt, "a salt");
-    assert!(rt; salt.as_bytes() == bytes.as_slice());
-    assert!(rt; Salt::new(&bytes) == Ok(salt));
-    assert!(rt; Salt::new(&COUNTED[..7]) == Err(Error::SaltTooShort));
-    assert!(rt; Salt::new(&COUNTED[..49]) == Err(Error::SaltTooLong));
-    assert!(rt; format!(in rt.alloc(); "{salt}")?.as_str() == "abcdabcdabc");
-    Ok(())
+const SALT_TEXT: &str = "abcdabcdabc";
+
+fn salt(rt: &impl Abort) -> Salt {
+    Salt::from_b64(SALT_TEXT).expect(rt, "a salt")
 }
 
 #[test]
-fn texts_of_salts(rt: HostRuntime) -> Result<(), AllocError> {
-    let salt = Salt::from_b64("abcdabcdabc").expect(&rt, "a salt");
-    let text = salt.to_salt_string();
-    assert!(rt; text.as_str() == "abcdabcdabc");
-    assert!(rt; SaltString::from_b64("abcdabcdabc") == Ok(text));
-    assert!(rt; text.to_salt() == salt);
-    assert!(rt; format!(in rt.alloc(); "{text}")?.as_str() == "abcdabcdabc");
+fn salts(rt: HostRuntime) {
+    let bytes = [0x69, 0xb7, 0x1d, 0x69, 0xb7, 0x1d, 0x69, 0xb7];
+    let salt = salt(&rt);
+    assert!(rt; salt.as_bytes() == bytes.as_slice());
+    assert!(rt; Salt::new(&bytes) == Ok(salt));
+    assert!(rt; prints(&rt, rt.alloc(), &salt, SALT_TEXT));
+}
+
+#[test]
+fn lengths_of_salts(rt: HostRuntime) {
+    assert!(rt; Salt::new(&COUNTED[..7]).err() == Some(Error::SaltTooShort));
+    assert!(rt; Salt::new(&COUNTED[..49]).err() == Some(Error::SaltTooLong));
     let longest = Salt::new(&COUNTED[..48])
         .expect(&rt, "a salt")
         .to_salt_string();
     assert!(rt; longest.as_str() == &COUNTED_TEXT[..SaltString::MAX_LENGTH]);
-    Ok(())
+}
+
+#[test]
+fn texts_of_salts(rt: HostRuntime) {
+    let text = salt(&rt).to_salt_string();
+    assert!(rt; text.as_str() == SALT_TEXT);
+    assert!(rt; SaltString::from_b64(SALT_TEXT) == Ok(text));
+    assert!(rt; text.to_salt() == salt(&rt));
+    assert!(rt; prints(&rt, rt.alloc(), &text, SALT_TEXT));
 }
 
 // ---- generators
@@ -236,7 +303,7 @@ fn salts_of_a_generator_that_refuses(rt: HostRuntime) {
 // ---- outputs
 
 // Texts of outputs that are refused.
-const BAD_OUTPUTS: [(&str, Error); 5] = [
+const BAD_OUTPUTS: &[(&str, Error)] = &[
     (
         ".......................................................................................",
         Error::Base64(base64ct::Error::InvalidLength),
@@ -253,36 +320,51 @@ const BAD_OUTPUTS: [(&str, Error); 5] = [
     ),
 ];
 
-#[test]
-fn refused_outputs(rt: HostRuntime) {
-    for (text, fault) in BAD_OUTPUTS {
-        assert!(rt; Output::decode(text) == Err(fault), "{text}");
-        assert!(rt; Output::b64_decode(text) == Err(fault), "{text}");
-        assert!(rt; text.parse::<Output>() == Err(fault), "{text}");
-    }
-    assert!(rt; Output::new(&COUNTED[..9]) == Err(SHORT));
-    assert!(rt; Output::new(&COUNTED) == Err(LONG));
+fn bad_outputs() -> &'static [(&'static str, Error)] {
+    BAD_OUTPUTS
 }
 
-// The text of the longest output is written at the front of 88 sevens; with room for 85 characters none is written.
+fn refused_output(rt: &impl Abort, text: &str, fault: Error) {
+    let refusal = Some(fault);
+    assert!(rt; Output::decode(text).err() == refusal, "{text}");
+    assert!(rt; Output::b64_decode(text).err() == refusal, "{text}");
+    assert!(rt; text.parse::<Output>().err() == refusal, "{text}");
+}
+
+#[test]
+fn refused_outputs(rt: HostRuntime) {
+    for (text, fault) in bad_outputs() {
+        refused_output(&rt, text, *fault);
+    }
+    assert!(rt; Output::new(&COUNTED[..9]).err() == Some(SHORT));
+    assert!(rt; Output::new(&COUNTED).err() == Some(LONG));
+}
+
+// The text of the longest output at the front of 88 sevens.
+fn is_counted_text(room: &[u8]) -> bool {
+    room.starts_with(COUNTED_TEXT.as_bytes()) && room.ends_with(&[7, 7])
+}
+
+// With room for 85 characters none is written.
 fn encoded_as(rt: &impl Abort, most: &Output) {
     let mut short = [7; 85];
-    assert!(rt; most.encode(&mut short).is_err());
+    let refusal = most.encode(&mut short).err();
+    assert!(rt; refusal == Some(Error::Base64(base64ct::Error::InvalidLength)));
     assert!(rt; short == [7; 85]);
     let mut room = [7; 88];
     assert!(rt; most.encode(&mut room) == Ok(COUNTED_TEXT));
-    assert!(rt; room.starts_with(COUNTED_TEXT.as_bytes()) && room.ends_with(&[7, 7]));
+    assert!(rt; is_counted_text(&room));
 }
 
 // The same by the older name.
 fn b64_encoded_as(rt: &impl Abort, most: &Output) {
     let mut short = [7; 85];
-    let fault = most.b64_encode(&mut short).err();
-    assert!(rt; fault == Some(Error::Base64(base64ct::Error::InvalidLength)));
+    let refusal = most.b64_encode(&mut short).err();
+    assert!(rt; refusal == Some(Error::Base64(base64ct::Error::InvalidLength)));
     assert!(rt; short == [7; 85]);
     let mut room = [7; 88];
     assert!(rt; most.b64_encode(&mut room) == Ok(COUNTED_TEXT));
-    assert!(rt; room.starts_with(COUNTED_TEXT.as_bytes()) && room.ends_with(&[7, 7]));
+    assert!(rt; is_counted_text(&room));
 }
 
 #[test]
@@ -296,18 +378,19 @@ fn outputs(rt: HostRuntime) {
 }
 
 #[test]
-fn the_longest_output(rt: HostRuntime) -> Result<(), AllocError> {
+fn the_longest_output(rt: HostRuntime) {
+    let most = Output::new(&COUNTED[..64]).expect(&rt, "an output");
+    encoded_as(&rt, &most);
+    b64_encoded_as(&rt, &most);
+    assert!(rt; prints(&rt, rt.alloc(), &most, COUNTED_TEXT));
+}
+
+#[test]
+fn length_of_the_longest_output(rt: HostRuntime) {
     let most = Output::new(&COUNTED[..64]).expect(&rt, "an output");
     assert!(rt; Output::B64_MAX_LENGTH == 86);
     assert!(rt; most.encoded_len() == Output::B64_MAX_LENGTH);
     assert!(rt; most.b64_len() == Output::B64_MAX_LENGTH);
-    let mut short = [7; 85];
-    let fault = most.encode(&mut short).err();
-    assert!(rt; fault == Some(Error::Base64(base64ct::Error::InvalidLength)));
-    encoded_as(&rt, &most);
-    b64_encoded_as(&rt, &most);
-    assert!(rt; format!(in rt.alloc(); "{most}")?.as_str() == COUNTED_TEXT);
-    Ok(())
 }
 
 #[test]
@@ -337,7 +420,7 @@ fn outputs_by_a_closure(rt: HostRuntime) {
 // ---- parameters
 
 // Texts of parameters that are refused.
-const BAD_PARAMS: [(&str, Error); 10] = [
+const BAD_PARAMS: &[(&str, Error)] = &[
     ("=1", Error::ParamNameInvalid),
     ("A=1", Error::ParamNameInvalid),
     ("a=1,", Error::ParamNameInvalid),
@@ -356,10 +439,17 @@ const BAD_PARAMS: [(&str, Error); 10] = [
     ),
 ];
 
+fn bad_params() -> &'static [(&'static str, Error)] {
+    BAD_PARAMS
+}
+
 #[test]
 fn refused_params(rt: HostRuntime) {
-    for (text, fault) in BAD_PARAMS {
-        assert!(rt; text.parse::<ParamsString>() == Err(fault), "{text}");
+    for (text, fault) in bad_params() {
+        assert!(rt;
+            text.parse::<ParamsString>().err() == Some(*fault),
+            "{text}"
+        );
     }
 }
 
@@ -394,32 +484,49 @@ fn params_by_a_text(rt: HostRuntime) {
     assert!(rt; params.get_str_named("p") == Some("01"));
 }
 
+// The next pair of parameters has this name and value.
+fn next_is(pairs: &mut Iter<'_>, name: &str, value: &str) -> bool {
+    match pairs.next() {
+        Some((next, text)) => next.as_str() == name && text.as_str() == value,
+        None => false,
+    }
+}
+
+fn is_over(pairs: &mut Iter<'_>) -> bool {
+    pairs.next().is_none()
+}
+
+const PAIRS: &[(&str, &str)] = &[("ln", "16"), ("r", "8"), ("p", "01"), ("r", "x"), ("e", "")];
+
 #[test]
-fn pairs_in_turn(rt: HostRuntime) -> Result<(), AllocError> {
+fn pairs_in_turn(rt: HostRuntime) {
     let params = five_params(&rt);
     let mut pairs = params.iter();
-    assert!(rt; pairs.next() == Some((name(&rt, "ln"), value(&rt, "16"))));
-    let mut again = pairs.clone()?;
-    for (text, wanted) in [("r", "8"), ("p", "01"), ("r", "x"), ("e", "")] {
-        assert!(rt;
-            pairs.next() == Some((name(&rt, text), value(&rt, wanted))),
-            "{text}={wanted}"
-        );
+    for (name, value) in PAIRS {
+        assert!(rt; next_is(&mut pairs, name, value), "{name}={value}");
     }
-    assert!(rt; pairs.next() == None);
-    assert!(rt; again.next() == Some((name(&rt, "r"), value(&rt, "8"))));
+    assert!(rt; is_over(&mut pairs));
+}
+
+#[test]
+fn pairs_from_the_same_place(rt: HostRuntime) -> Result<(), AllocError> {
+    let params = five_params(&rt);
+    let mut pairs = params.iter();
+    assert!(rt; next_is(&mut pairs, "ln", "16"));
+    let mut again = pairs.clone()?;
+    assert!(rt; next_is(&mut pairs, "r", "8"));
+    assert!(rt; next_is(&mut again, "r", "8"));
     Ok(())
 }
 
 #[test]
-fn texts_of_params(rt: HostRuntime) -> Result<(), AllocError> {
+fn texts_of_params(rt: HostRuntime) {
     let params = five_params(&rt);
     assert!(rt; params.as_str() == "ln=16,r=8,p=01,r=x,e=");
     assert!(rt; params.as_bytes() == params.as_str().as_bytes());
     assert!(rt; params.len() == 21);
     assert!(rt; !params.is_empty());
-    assert!(rt; format!(in rt.alloc(); "{params}")?.as_str() == params.as_str());
-    Ok(())
+    assert!(rt; prints(&rt, rt.alloc(), &params, "ln=16,r=8,p=01,r=x,e="));
 }
 
 #[test]
@@ -432,83 +539,140 @@ fn params_are_compared(rt: HostRuntime) -> Result<(), AllocError> {
     Ok(())
 }
 
-// Three parameters of bytes.
-fn three_params(rt: &impl Abort) -> ParamsString {
-    "a=AQ,b=AgM,c=BAUG"
-        .parse::<ParamsString>()
-        .expect(rt, "parameters")
+// A call that adds a pair: a text, a number, or bytes, with a name or with the text of a name.
+enum Call {
+    Text(&'static str, &'static str),
+    TextNamed(&'static str, &'static str),
+    Number(&'static str, u32),
+    NumberNamed(&'static str, u32),
+    Bytes(&'static str, &'static [u8]),
+    BytesNamed(&'static str, &'static [u8]),
 }
 
-#[test]
-fn added_bytes(rt: HostRuntime) {
-    let mut params = ParamsString::new();
-    assert!(rt; params.add_b64_bytes(name(&rt, "a"), &[1]) == Ok(()));
-    assert!(rt; params.add_b64_bytes(name(&rt, "b"), &[2, 3]) == Ok(()));
-    assert!(rt; params.add_b64_bytes_named("c", &[4, 5, 6]) == Ok(()));
-    assert!(rt; params.as_str() == "a=AQ,b=AgM,c=BAUG");
+fn add(rt: &impl Abort, params: &mut ParamsString, call: &Call) -> Option<Error> {
+    let added = match *call {
+        Call::Text(text, added) => params.add_str(name(rt, text), value(rt, added)),
+        Call::TextNamed(text, added) => params.add_str_named(text, added),
+        Call::Number(text, number) => params.add_decimal(name(rt, text), number),
+        Call::NumberNamed(text, number) => params.add_decimal_named(text, number),
+        Call::Bytes(text, bytes) => params.add_b64_bytes(name(rt, text), bytes),
+        Call::BytesNamed(text, bytes) => params.add_b64_bytes_named(text, bytes),
+    };
+    added.err()
 }
 
-#[test]
-fn names_added_twice(rt: HostRuntime) {
-    let mut params = three_params(&rt);
-    let twice = Err(Error::ParamNameDuplicated);
-    assert!(rt; params.add_b64_bytes(name(&rt, "a"), &COUNTED) == twice);
-    assert!(rt; params.add_str(name(&rt, "a"), value(&rt, "1")) == twice);
-    assert!(rt; params.add_decimal(name(&rt, "c"), 1) == twice);
-    assert!(rt; params.as_str() == "a=AQ,b=AgM,c=BAUG");
+// Parameters, a call, its refusal, and the parameters then.
+type Added = (&'static str, Call, Option<Error>, &'static str);
+
+const THREE: &str = "a=AQ,b=AgM,c=BAUG";
+
+const TOO_LONG: Option<Error> = Some(Error::ParamValueTooLong);
+
+const TWICE: Option<Error> = Some(Error::ParamNameDuplicated);
+
+const NO_NAME: Option<Error> = Some(Error::ParamNameInvalid);
+
+const NO_VALUE: Option<Error> = Some(Error::ParamValueInvalid);
+
+const FULL: Option<Error> = Some(Error::ParamsMaxExceeded);
+
+// A parameter of 66 bytes, and two of 127.
+const ONE_LONG: &str = "a=AZaz09/+.-bcdefgAZaz09/+.-bcdefgAZaz09/+.-bcdefgAZaz09/+.-bcdefg";
+
+const TWO_LONG: &str =
+    "a=AZaz09/+.-bcdefgAZaz09/+.-bcdefgAZaz09/+.-bcdefgAZaz09/+.-bcdefg,b=AZaz09/+.-bcdefgAZaz09/+.-bcdefgAZaz09/+.-bcdefgAZaz09/+.-";
+
+const ADDED: &[Added] = &[
+    ("", Call::Bytes("a", &[1]), None, "a=AQ"),
+    ("a=AQ", Call::Bytes("b", &[2, 3]), None, "a=AQ,b=AgM"),
+    ("a=AQ,b=AgM", Call::BytesNamed("c", &[4, 5, 6]), None, THREE),
+    (THREE, Call::Bytes("a", &COUNTED), TWICE, THREE),
+    (THREE, Call::Text("a", "1"), TWICE, THREE),
+    (THREE, Call::Number("c", 1), TWICE, THREE),
+    (THREE, Call::Bytes("d", &[7; 49]), TOO_LONG, THREE),
+    (THREE, Call::BytesNamed("d", &[7; 49]), TOO_LONG, THREE),
+    (THREE, Call::BytesNamed("D", &[7; 49]), NO_NAME, THREE),
+    ("", Call::TextNamed("A", "1"), NO_NAME, ""),
+    ("", Call::TextNamed("A", "x;y"), NO_NAME, ""),
+    ("", Call::TextNamed("a", "x;y"), NO_VALUE, ""),
+    (
+        "",
+        Call::TextNamed(
+            "a",
+            "AZaz09/+.-bcdefgAZaz09/+.-bcdefgAZaz09/+.-bcdefgAZaz09/+.-bcdefg1",
+        ),
+        NO_VALUE,
+        "",
+    ),
+    ("", Call::TextNamed("a", SIXTY_FOUR), None, ONE_LONG),
+    (
+        ONE_LONG,
+        Call::TextNamed(
+            "b",
+            "AZaz09/+.-bcdefgAZaz09/+.-bcdefgAZaz09/+.-bcdefgAZaz09/+.-b",
+        ),
+        FULL,
+        ONE_LONG,
+    ),
+    (
+        ONE_LONG,
+        Call::TextNamed(
+            "b",
+            "AZaz09/+.-bcdefgAZaz09/+.-bcdefgAZaz09/+.-bcdefgAZaz09/+.-",
+        ),
+        None,
+        TWO_LONG,
+    ),
+    (TWO_LONG, Call::TextNamed("c", ""), FULL, TWO_LONG),
+    (TWO_LONG, Call::NumberNamed("c", 1), FULL, TWO_LONG),
+    (TWO_LONG, Call::BytesNamed("c", &[]), FULL, TWO_LONG),
+    (TWO_LONG, Call::TextNamed("a", ""), TWICE, TWO_LONG),
+];
+
+fn added() -> &'static [Added] {
+    ADDED
 }
 
-#[test]
-fn bytes_too_long(rt: HostRuntime) {
-    let mut params = three_params(&rt);
-    assert!(rt;
-        params.add_b64_bytes(name(&rt, "d"), &COUNTED[..49]) == Err(Error::ParamValueTooLong)
-    );
-    assert!(rt; params.add_b64_bytes_named("d", &COUNTED[..49]) == Err(Error::ParamValueTooLong));
-    assert!(rt; params.add_b64_bytes_named("D", &COUNTED[..49]) == Err(Error::ParamNameInvalid));
-    assert!(rt; params.as_str() == "a=AQ,b=AgM,c=BAUG");
+fn parsed(rt: &impl Abort, text: &str) -> ParamsString {
+    text.parse::<ParamsString>().expect(rt, "parameters")
 }
 
 #[test]
 fn added_pairs(rt: HostRuntime) {
-    let mut params = three_params(&rt);
-    assert!(rt; params.add_decimal(name(&rt, "d"), 0) == Ok(()));
-    assert!(rt; params.add_decimal_named("e", 4_294_967_295) == Ok(()));
-    assert!(rt; params.add_decimal_named("", 1) == Err(Error::ParamNameInvalid));
-    assert!(rt; params.add_str_named("f", "") == Ok(()));
-    assert!(rt; params.add_str(name(&rt, "g-1"), value(&rt, "/+.-")) == Ok(()));
+    for (i, row) in added().iter().enumerate() {
+        let (before, call, refusal, after) = row;
+        let mut params = parsed(&rt, before);
+        assert!(rt; add(&rt, &mut params, call) == *refusal, "row {i}");
+        assert!(rt; params.as_str() == *after, "row {i}");
+        assert!(rt; params == parsed(&rt, after), "row {i}");
+    }
+}
+
+#[test]
+fn the_longest_params(rt: HostRuntime) {
+    assert!(rt; parsed(&rt, TWO_LONG).len() == 127);
+}
+
+// Calls in turn, from no parameter on, and their refusals.
+const IN_TURN: &[(Call, Option<Error>)] = &[
+    (Call::Bytes("a", &[1]), None),
+    (Call::Bytes("b", &[2, 3]), None),
+    (Call::BytesNamed("c", &[4, 5, 6]), None),
+    (Call::Number("d", 0), None),
+    (Call::NumberNamed("e", 4_294_967_295), None),
+    (Call::NumberNamed("", 1), NO_NAME),
+    (Call::TextNamed("f", ""), None),
+    (Call::Text("g-1", "/+.-"), None),
+];
+
+#[test]
+fn pairs_added_in_turn(rt: HostRuntime) {
+    let mut params = ParamsString::new();
+    for (call, refusal) in IN_TURN {
+        let added = add(&rt, &mut params, call);
+        assert!(rt; added == *refusal, "after {params}");
+    }
     assert!(rt; params.as_str() == "a=AQ,b=AgM,c=BAUG,d=0,e=4294967295,f=,g-1=/+.-");
-}
-
-#[test]
-fn names_and_values_refused(rt: HostRuntime) -> Result<(), AllocError> {
-    let most = format!(in rt.alloc(); "{SIXTEEN}{SIXTEEN}{SIXTEEN}{SIXTEEN}")?;
-    let mut params = ParamsString::new();
-    assert!(rt; params.add_str_named("A", "1") == Err(Error::ParamNameInvalid));
-    assert!(rt; params.add_str_named("A", "x;y") == Err(Error::ParamNameInvalid));
-    assert!(rt; params.add_str_named("a", "x;y") == Err(Error::ParamValueInvalid));
-    let longer = format!(in rt.alloc(); "{most}1")?;
-    assert!(rt; params.add_str_named("a", &longer) == Err(Error::ParamValueInvalid));
-    assert!(rt; params.is_empty());
-    Ok(())
-}
-
-#[test]
-fn full_params(rt: HostRuntime) -> Result<(), AllocError> {
-    let most = format!(in rt.alloc(); "{SIXTEEN}{SIXTEEN}{SIXTEEN}{SIXTEEN}")?;
-    let full = format!(in rt.alloc(); "a={most},b={}", &most[..58])?;
-    let mut params = ParamsString::new();
-    assert!(rt; params.add_str_named("a", &most) == Ok(()));
-    assert!(rt; params.add_str_named("b", &most[..59]) == Err(Error::ParamsMaxExceeded));
-    assert!(rt; params.add_str_named("b", &most[..58]) == Ok(()));
-    assert!(rt; params.len() == 127);
-    assert!(rt; params.add_str_named("c", "") == Err(Error::ParamsMaxExceeded));
-    assert!(rt; params.add_decimal_named("c", 1) == Err(Error::ParamsMaxExceeded));
-    assert!(rt; params.add_b64_bytes_named("c", &[]) == Err(Error::ParamsMaxExceeded));
-    assert!(rt; params.add_str_named("a", "") == Err(Error::ParamNameDuplicated));
-    assert!(rt; params.as_str() == full.as_str());
-    assert!(rt; full.parse::<ParamsString>() == Ok(params));
-    Ok(())
 }
 
 #[test]

@@ -7,6 +7,7 @@ use phc::{
 };
 use std::alloc::{AllocError, Global};
 use std::cmp::Ordering;
+use std::fmt::Display;
 use std::process::Abort;
 
 const FIELD_REFUSED: Error = Error::Base64(base64ct::Error::InvalidEncoding);
@@ -17,7 +18,7 @@ const SHORT: Error = Error::OutputSize {
 };
 
 // Texts and their first fault.
-const REFUSED: [(&str, Error); 31] = [
+const REFUSED: &[(&str, Error)] = &[
     ("", Error::MissingField),
     ("x", Error::MissingField),
     ("x$y", Error::MissingField),
@@ -75,8 +76,12 @@ const REFUSED: [(&str, Error); 31] = [
     ("$x$abcdabcdabc$AAAAAAAAAAAAAA$", Error::TrailingData),
 ];
 
+fn refused() -> &'static [(&'static str, Error)] {
+    REFUSED
+}
+
 // Texts that are read, and what is looked up and compared of them.
-const READ: [(&str, u64, u64); 12] = [
+const READ: &[(&str, u64, u64)] = &[
     ("$x", 0, 0),
     ("$x$a=", 0, 0),
     ("$x$v=0", 0, 0),
@@ -90,6 +95,10 @@ const READ: [(&str, u64, u64); 12] = [
     (SCRYPT, 68, 8),
     (ARGON2, 48, 8),
 ];
+
+fn read() -> &'static [(&'static str, u64, u64)] {
+    READ
+}
 
 const SCRYPT: &str =
     "$scrypt$ln=16,r=8,p=1$aM15713r3Xsvxbi31lqr1Q$nFNh2CVHVjNldFVKDHDlm4CbdRSCdEBsjjJxD+iCs5E";
@@ -111,16 +120,20 @@ fn record(rt: &impl Abort, text: &str) -> PasswordHash {
 
 // ---- records
 
+// A text is refused for its first fault, and little is looked up and compared of the text.
+fn refused_for(rt: &impl Abort, text: &str, fault: Error) {
+    let mut counts = Counts::new();
+    let refusal = PasswordHash::new(text).err();
+    assert!(rt; refusal == Some(fault), "{text}");
+    let refusal = PasswordHash::new_counted(text, &mut counts).err();
+    assert!(rt; refusal == Some(fault), "{text}");
+    assert!(rt; counts.looks() <= 156 && counts.sames() <= 8, "{text}");
+}
+
 #[test]
 fn refused_texts(rt: HostRuntime) {
-    for (text, fault) in REFUSED {
-        let mut counts = Counts::new();
-        assert!(&rt; PasswordHash::new(text) == Err(fault), "{text}");
-        assert!(&rt;
-            PasswordHash::new_counted(text, &mut counts) == Err(fault),
-            "{text}"
-        );
-        assert!(&rt; counts.looks() <= 156 && counts.sames() <= 8, "{text}");
+    for (text, fault) in refused() {
+        refused_for(&rt, text, *fault);
     }
 }
 
@@ -133,19 +146,23 @@ fn most_counts_of_a_refusal(rt: HostRuntime) {
     assert!(&rt; counts.looks() == 156 && counts.sames() == 8);
 }
 
-fn read_as(rt: &impl Abort, alloc: Global, text: &str) -> Result<(), AllocError> {
+// What is printed of a value.
+fn prints(rt: &impl Abort, alloc: Global, value: &impl Display, text: &str) -> bool {
+    let printed = format!(in alloc; "{value}").expect(rt, "want of memory");
+    printed.as_str() == text
+}
+
+fn read_as(rt: &impl Abort, alloc: Global, text: &str) {
     let read = record(rt, text);
     assert!(rt; read.is_printable(), "{text}");
-    let printed = format!(in alloc; "{read}")?;
-    assert!(rt; printed.as_str() == text);
-    assert!(rt; text.parse::<PasswordHash>() == Ok(read));
-    Ok(())
+    assert!(rt; prints(rt, alloc, &read, text), "{text}");
+    assert!(rt; text.parse::<PasswordHash>() == Ok(read), "{text}");
 }
 
 fn counted_as(rt: &impl Abort, text: &str, looks: u64, sames: u64) {
     let mut counts = Counts::new();
     let read = PasswordHash::new_counted(text, &mut counts);
-    assert!(rt; read == Ok(record(rt, text)));
+    assert!(rt; read == Ok(record(rt, text)), "{text}");
     assert!(rt;
         counts.looks() == looks && counts.sames() == sames,
         "{text}"
@@ -153,128 +170,217 @@ fn counted_as(rt: &impl Abort, text: &str, looks: u64, sames: u64) {
 }
 
 #[test]
-fn read_texts(rt: HostRuntime) -> Result<(), AllocError> {
-    let alloc = rt.alloc();
-    for (text, looks, sames) in READ {
-        counted_as(&rt, text, looks, sames);
-        read_as(&rt, alloc, text)?;
+fn read_texts(rt: HostRuntime) {
+    for (text, looks, sames) in read() {
+        counted_as(&rt, text, *looks, *sames);
+        read_as(&rt, rt.alloc(), text);
     }
-    Ok(())
+}
+
+// The record of `ARGON2`.
+fn parts_of(rt: &impl Abort, read: &PasswordHash) {
+    assert!(rt; read.algorithm == Ident::new_unwrap("argon2d"));
+    assert!(rt; read.version == Some(19));
+    assert!(rt; read.params.as_str() == "m=512,t=3,p=2");
+}
+
+fn bytes_of(rt: &impl Abort, read: &PasswordHash) {
+    assert!(rt; read.salt == Salt::new(&ARGON2_SALT).ok());
+    assert!(rt; read.hash == Output::new(&ARGON2_HASH).ok());
 }
 
 #[test]
 fn parts_of_a_record(rt: HostRuntime) {
     let read = record(&rt, ARGON2);
-    assert!(&rt; read.algorithm == Ident::new_unwrap("argon2d"));
-    assert!(&rt; read.version == Some(19));
-    assert!(&rt; read.params.as_str() == "m=512,t=3,p=2");
-    assert!(&rt; read.salt == Salt::new(&ARGON2_SALT).ok());
-    assert!(&rt; read.hash == Output::new(&ARGON2_HASH).ok());
-    assert!(&rt; record(&rt, "$x$v=1,a=2").version == None);
-    assert!(&rt; record(&rt, "$x$v=1$v=1").version == Some(1));
+    parts_of(&rt, &read);
+    bytes_of(&rt, &read);
     assert!(&rt; read != record(&rt, SCRYPT));
 }
 
+fn version(rt: &impl Abort, text: &str) -> Option<u32> {
+    record(rt, text).version
+}
+
 #[test]
-fn printable_records(rt: HostRuntime) -> Result<(), AllocError> {
-    let alloc = rt.alloc();
+fn versions(rt: HostRuntime) {
+    assert!(&rt; version(&rt, "$x$v=1,a=2") == None);
+    assert!(&rt; version(&rt, "$x$v=1$v=1") == Some(1));
+}
+
+#[test]
+fn record_without_a_salt(rt: HostRuntime) {
     let mut unsalted = record(&rt, ARGON2);
     unsalted.salt = None;
     assert!(&rt; !unsalted.is_printable());
-    assert!(&rt; format!(in alloc; "{unsalted}")?.as_str() == "$argon2d$v=19$m=512,t=3,p=2");
+    assert!(&rt; prints(&rt, rt.alloc(), &unsalted, "$argon2d$v=19$m=512,t=3,p=2"));
+}
+
+#[test]
+fn record_of_a_version(rt: HostRuntime) {
     let mut lone = record(&rt, "$x$a=1");
     lone.params = "v=1".parse::<ParamsString>().expect(&rt, "parameters");
     assert!(&rt; !lone.is_printable());
     lone.version = Some(1);
     assert!(&rt; lone.is_printable());
-    assert!(&rt; format!(in alloc; "{lone}")?.as_str() == "$x$v=1$v=1");
+    assert!(&rt; prints(&rt, rt.alloc(), &lone, "$x$v=1$v=1"));
+}
+
+#[test]
+fn laws_hold() {
     laws::parses_back();
     laws::prints_back();
-    Ok(())
 }
 
 // ---- kept texts
 
-fn kept_as(
-    rt: &impl Abort,
-    alloc: Global,
-    kept: &PasswordHashString,
-    read: &PasswordHash,
-) -> Result<(), AllocError> {
+fn kept(rt: &impl Abort, alloc: Global, text: &str) -> PasswordHashString {
+    PasswordHashString::new(alloc, text).expect(rt, "a record")
+}
+
+// The kept text of `ARGON2`.
+fn kept_text(rt: &impl Abort, alloc: Global, kept: &PasswordHashString) {
     assert!(rt; kept.as_str() == ARGON2);
     assert!(rt; kept.as_bytes() == ARGON2.as_bytes());
     assert!(rt; kept.len() == 73);
-    assert!(rt; format!(in alloc; "{kept}")?.as_str() == ARGON2);
-    assert!(rt; kept.password_hash() == read.clone()?);
+    assert!(rt; prints(rt, alloc, kept, ARGON2));
+}
+
+fn kept_parts(rt: &impl Abort, kept: &PasswordHashString, read: &PasswordHash) {
     assert!(rt; kept.algorithm() == read.algorithm);
     assert!(rt; kept.version() == Some(19));
-    assert!(rt; kept.params() == read.params);
     assert!(rt; kept.salt() == read.salt);
     assert!(rt; kept.hash() == read.hash);
-    Ok(())
+}
+
+fn kept_record(rt: &impl Abort, kept: &PasswordHashString, read: &PasswordHash) {
+    assert!(rt; &kept.password_hash() == read);
+    assert!(rt; &kept.params() == &read.params);
+}
+
+fn kept_as(rt: &impl Abort, alloc: Global, kept: &PasswordHashString) {
+    let read = record(rt, ARGON2);
+    kept_text(rt, alloc, kept);
+    kept_parts(rt, kept, &read);
+    kept_record(rt, kept, &read);
 }
 
 #[test]
-fn kept_texts(rt: HostRuntime) -> Result<(), AllocError> {
-    let alloc = rt.alloc();
+fn kept_texts(rt: HostRuntime) {
+    let kept = kept(&rt, rt.alloc(), ARGON2);
+    kept_as(&rt, rt.alloc(), &kept);
+}
+
+#[test]
+fn kept_clones(rt: HostRuntime) {
+    let kept = kept(&rt, rt.alloc(), ARGON2)
+        .try_clone()
+        .expect(&rt, "want of memory");
+    kept_as(&rt, rt.alloc(), &kept);
+}
+
+#[test]
+fn kept_of_records(rt: HostRuntime) {
     let read = record(&rt, ARGON2);
-    let other = record(&rt, SCRYPT);
-    assert!(&rt; read.is_printable() && other.is_printable());
-    let kept = PasswordHashString::new(alloc, ARGON2).expect(&rt, "a record");
-    kept_as(&rt, alloc, &kept, &read)?;
-    kept_as(&rt, alloc, &kept.try_clone()?, &read)?;
-    kept_as(
-        &rt,
-        alloc,
-        &PasswordHashString::from_record(alloc, &read)?,
-        &read,
-    )?;
-    kept_as(&rt, alloc, &read.serialize(alloc)?, &read)?;
-    assert!(&rt; kept == read.serialize(alloc)?);
-    assert!(&rt; kept != other.serialize(alloc)?);
-    for (text, fault) in REFUSED {
-        match PasswordHashString::new(alloc, text) {
-            Ok(_) => rt.abort(),
-            Err(e) => assert!(&rt; e == PhcStringError::Phc(fault), "{text}"),
-        }
+    assert!(&rt; read.is_printable());
+    let kept = PasswordHashString::from_record(rt.alloc(), &read).expect(&rt, "want of memory");
+    kept_as(&rt, rt.alloc(), &kept);
+}
+
+#[test]
+fn kept_by_records(rt: HostRuntime) {
+    let read = record(&rt, ARGON2);
+    assert!(&rt; read.is_printable());
+    let kept = read.serialize(rt.alloc()).expect(&rt, "want of memory");
+    kept_as(&rt, rt.alloc(), &kept);
+}
+
+// Whether the kept text is what this record is kept as.
+fn is_kept(rt: &impl Abort, alloc: Global, kept: &PasswordHashString, text: &str) -> bool {
+    let read = record(rt, text);
+    assert!(rt; read.is_printable());
+    kept == &read.serialize(alloc).expect(rt, "want of memory")
+}
+
+#[test]
+fn kept_texts_are_compared(rt: HostRuntime) {
+    let kept = kept(&rt, rt.alloc(), ARGON2);
+    assert!(&rt; is_kept(&rt, rt.alloc(), &kept, ARGON2));
+    assert!(&rt; !is_kept(&rt, rt.alloc(), &kept, SCRYPT));
+}
+
+#[test]
+fn refused_kept_texts(rt: HostRuntime) {
+    for (text, fault) in refused() {
+        let refusal = PasswordHashString::new(rt.alloc(), text).err();
+        assert!(&rt; refusal == Some(PhcStringError::Phc(*fault)), "{text}");
     }
-    Ok(())
 }
 
 // ---- names
 
+const BAD_NAMES: &[&str] = &["", "A", "a b", "é", "012345678911234567892123456789312"];
+
+const NAMES: &[&str] = &[
+    "-a",
+    "a",
+    "argon2id",
+    "0",
+    "01234567891123456789212345678931",
+];
+
+// Each name is before the next one.
+const ORDER: &[(&str, &str)] = &[
+    ("-", "0"),
+    ("0", "b"),
+    ("b", "aa"),
+    ("aa", "ab"),
+    ("ab", "ba"),
+    ("ba", "aaa"),
+];
+
+fn name(rt: &impl Abort, text: &str) -> Ident {
+    Ident::new(text).expect(rt, "a name")
+}
+
+fn named(rt: &impl Abort, alloc: Global, text: &str) {
+    let name = name(rt, text);
+    assert!(rt; name.as_str() == text, "{text}");
+    assert!(rt; prints(rt, alloc, &name, text), "{text}");
+    assert!(rt; name == Ident::new_unwrap(text), "{text}");
+    assert!(rt; text.parse::<Ident>() == Ok(name), "{text}");
+}
+
+fn ordered(rt: &impl Abort, before: Ident, behind: Ident) {
+    assert!(rt; before < behind, "{before}");
+    assert!(rt; before.cmp(&behind) == Ordering::Less, "{before}");
+    assert!(rt; before != behind, "{before}");
+}
+
 #[test]
-fn names(rt: HostRuntime) -> Result<(), AllocError> {
-    for text in ["", "A", "a b", "é", "012345678911234567892123456789312"] {
+fn refused_names(rt: HostRuntime) {
+    for text in BAD_NAMES {
         assert!(&rt; Ident::new(text) == Err(Error::ParamNameInvalid), "{text}");
     }
-    for text in [
-        "-a",
-        "a",
-        "argon2id",
-        "0",
-        "01234567891123456789212345678931",
-    ] {
-        let name = Ident::new(text).expect(&rt, "a name");
-        assert!(&rt; name.as_str() == text);
-        assert!(&rt; format!(in rt.alloc(); "{name}")?.as_str() == text);
-        assert!(&rt; name == Ident::new_unwrap(text));
-        assert!(&rt; text.parse::<Ident>() == Ok(name));
+}
+
+#[test]
+fn names(rt: HostRuntime) {
+    for text in NAMES {
+        named(&rt, rt.alloc(), text);
     }
-    let order = ["-", "0", "b", "aa", "ab", "ba", "aaa"];
-    for i in 1..7 {
-        let before = Ident::new(order[i - 1]).expect(&rt, "a name");
-        let behind = Ident::new(order[i]).expect(&rt, "a name");
-        assert!(&rt; before < behind && before.cmp(&behind) == Ordering::Less);
-        assert!(&rt; before != behind);
+}
+
+#[test]
+fn names_in_order(rt: HostRuntime) {
+    for (before, behind) in ORDER {
+        ordered(&rt, name(&rt, before), name(&rt, behind));
     }
-    Ok(())
 }
 
 // ---- errors
 
 // Errors and their texts.
-const TEXTS: [(Error, &str); 14] = [
+const TEXTS: &[(Error, &str)] = &[
     (FIELD_REFUSED, "invalid Base64 encoding"),
     (
         Error::Base64(base64ct::Error::InvalidLength),
@@ -312,17 +418,33 @@ const TEXTS: [(Error, &str); 14] = [
     ),
 ];
 
+fn texts() -> &'static [(Error, &'static str)] {
+    TEXTS
+}
+
 #[test]
-fn error_texts(rt: HostRuntime) -> Result<(), AllocError> {
-    let alloc = rt.alloc();
-    for (error, text) in TEXTS {
-        assert!(&rt; format!(in alloc; "{error}")?.as_str() == text);
-        assert!(&rt; format!(in alloc; "{}", PhcStringError::Phc(error))?.as_str() == text);
+fn error_texts(rt: HostRuntime) {
+    for (error, text) in texts() {
+        assert!(&rt; prints(&rt, rt.alloc(), error, text), "{text}");
+        assert!(&rt;
+            prints(&rt, rt.alloc(), &PhcStringError::Phc(*error), text),
+            "{text}"
+        );
     }
-    assert!(&rt; format!(in alloc; "{}", PhcStringError::OutOfMemory)?.as_str() == "out of memory");
+    assert!(&rt;
+        prints(
+            &rt,
+            rt.alloc(),
+            &PhcStringError::OutOfMemory,
+            "out of memory"
+        )
+    );
+}
+
+#[test]
+fn converted_errors(rt: HostRuntime) {
     assert!(&rt; Error::from(base64ct::Error::InvalidEncoding) == FIELD_REFUSED);
     assert!(&rt;
         Error::from(base64ct::InvalidLengthError) == Error::Base64(base64ct::Error::InvalidLength)
     );
-    Ok(())
 }

@@ -6,10 +6,17 @@ ghost use Rattle.pw_file.specs.StoredTexts.{stored_texts};
 ghost use Rattle.pw_store.specs.Stored.{IsSound, takes_changes};
 
 use line_log::{Device, MemoryDevice, OpenError};
-use pw_file::{StoredTexts, UserName};
-use pw_store::{Store, recover};
+use pw_file::{FileError, StoredTexts, UserName};
+use pw_store::{Store, StoreError, recover};
 use scrypt_plain::ScryptKept;
 use std::alloc::Global;
+use stored_check::{McfFault, StoredError};
+
+pub type TestStore = Store<MemoryDevice, StoredTexts>;
+
+pub type CheckFault = FileError<McfFault, StoredError>;
+
+pub type Fault = StoreError<McfFault, StoredError>;
 
 pub const EMPTY: &[u8] = b"#pwstore 1\n#";
 
@@ -53,11 +60,7 @@ pub fn memory(alloc: Global, file: &[u8], failing: u64) -> Option<(MemoryDevice,
 }
 
 /// The store of a file in memory. The call of recovery has the number 0.
-pub fn store_of(
-    alloc: Global,
-    file: &[u8],
-    failing: u64,
-) -> Option<Store<MemoryDevice, StoredTexts>>
+pub fn store_of(alloc: Global, file: &[u8], failing: u64) -> Option<TestStore>
     ensures takes { IfSome result (λ store. takes_changes store ≡ true) }
     ensures sound { IfSome result (λ store. IsSound stored_texts ⟦<MemoryDevice as Device>⟧.seen ⟦<MemoryDevice as Device>⟧.may_leave store) }
 {
@@ -127,22 +130,4 @@ pub fn count_outcomes(
         }
     }
     (counts[0], counts[1], counts[2])
-}
-
-/// Whether the user at a place has this name and this text.
-pub fn is_row<D: Device>(store: &Store<D, StoredTexts>, i: usize, name: &str, text: &str) -> bool {
-    match store.row(i) {
-        Some((user, found)) => user.as_str() == name && found == text,
-        None => false,
-    }
-}
-
-/// Whether the store has the users and texts of the file `ONE`.
-pub fn is_one<D: Device>(store: &Store<D, StoredTexts>) -> bool {
-    store.len() == 1 && is_row(store, 0, "ann", "$5")
-}
-
-/// Whether the store has the users and texts of the file `CHANGED`.
-pub fn is_changed<D: Device>(store: &Store<D, StoredTexts>) -> bool {
-    store.len() == 2 && is_row(store, 0, "ann", "$6") && is_row(store, 1, "bob", "$1$a$b")
 }

@@ -11,4 +11,6 @@ mod groups;
 #[cfg(test)]
 mod helpers;
 #[cfg(test)]
+mod steps;
+#[cfg(test)]
 mod tests;

@@ -12,6 +12,10 @@ use Rattle.bcrypt_plain.specs.declared.error.BcryptFault.{BcryptFault}
 use Rattle.bcrypt_plain.specs.declared.error.BcryptFault.TheVariants as of_bcrypt
 use Rattle.yescrypt_plain.specs.declared.error.TextFault.{TextFault}
 use Rattle.yescrypt_plain.specs.declared.error.TextFault.TheVariants as of_text
+use Rattle.sha1_crypt.specs.declared.error.Sha1Fault.{Sha1Fault}
+use Rattle.sha1_crypt.specs.declared.error.Sha1Fault.TheVariants as of_sha1
+use Rattle.scram_plain.specs.declared.error.ScramFault.{ScramFault}
+use Rattle.scram_plain.specs.declared.error.ScramFault.TheVariants as of_scram
 use Rattle.any_check.specs.declared.error.AnyError.{AnyError}
 use Rattle.any_check.specs.declared.error.AnyError.TheVariants as of_any
 use Rattle.pwcheck_c.specs.declared.answer.Answer.{Answer}
@@ -19,6 +23,7 @@ use Rattle.pwcheck_c.specs.declared.answer.Answer.TheVariants.{NotText, OtherIde
 use Rattle.pwcheck_c.specs.declared.answer.Answer.TheVariants.{BcryptB64, BcryptCost, BcryptFormat, BcryptObsolete}
 use Rattle.pwcheck_c.specs.declared.answer.Answer.TheVariants.{Md5Format, NoScheme, ScryptCost, ScryptFormat, YescryptCost}
 use Rattle.pwcheck_c.specs.declared.answer.Answer.TheVariants.{YescryptFlavor, YescryptFormat, ZeroByte}
+use Rattle.pwcheck_c.specs.declared.answer.Answer.TheVariants.{NotAscii, ScramB64, ScramCost, ScramFormat, Sha1B64, Sha1Cost, Sha1Format}
 
 -- ---- numbers
 
@@ -69,6 +74,13 @@ answers =
     ∷ ScryptCost
     ∷ ScryptFormat
     ∷ ZeroByte
+    ∷ Sha1Cost
+    ∷ Sha1B64
+    ∷ Sha1Format
+    ∷ ScramCost
+    ∷ ScramB64
+    ∷ ScramFormat
+    ∷ NotAscii
     ∷ []
 
 -- the answer of a number, if it is one's
@@ -95,6 +107,13 @@ answer_word YescryptFormat = codes "yescrypt-format"
 answer_word ScryptCost = codes "scrypt-cost"
 answer_word ScryptFormat = codes "scrypt-format"
 answer_word ZeroByte = codes "zero-byte"
+answer_word Sha1Cost = codes "sha1-cost"
+answer_word Sha1B64 = codes "sha1-b64"
+answer_word Sha1Format = codes "sha1-format"
+answer_word ScramCost = codes "scram-cost"
+answer_word ScramB64 = codes "scram-b64"
+answer_word ScramFormat = codes "scram-format"
+answer_word NotAscii = codes "not-ascii"
 answer_word (Checked (Err of_stored.OutOfMemory)) = codes "no-memory"
 answer_word (Checked verdict) = word verdict
 
@@ -124,6 +143,22 @@ scrypt_cause of_text.Memory = ScryptCost
 scrypt_cause of_text.Cost = ScryptCost
 scrypt_cause fault = ScryptFormat
 
+-- a fault of a text of sha1-crypt; the last line is for the faults of its form
+abbrev pub sha1_cause : Sha1Fault → Answer
+sha1_cause of_sha1.Rounds = Sha1Cost
+sha1_cause of_sha1.HashCharacter = Sha1B64
+sha1_cause of_sha1.FirstByte = Sha1B64
+sha1_cause fault = Sha1Format
+
+-- a fault of a text of SCRAM, or of its password; the last line is for the faults of the text's form
+abbrev pub scram_cause : ScramFault → Answer
+scram_cause of_scram.Rounds = ScramCost
+scram_cause of_scram.SaltEncoding = ScramB64
+scram_cause of_scram.StoredKeyEncoding = ScramB64
+scram_cause of_scram.ServerKeyEncoding = ScramB64
+scram_cause of_scram.NotAscii = NotAscii
+scram_cause fault = ScramFormat
+
 -- what `check_any` answers; the verdicts and the causes of `check_stored` keep their numbers
 abbrev pub cause_answer : Result Bool AnyError → Answer
 cause_answer (Ok b) = Checked (Ok b)
@@ -133,5 +168,7 @@ cause_answer (Err (of_any.Md5 fault)) = Md5Format
 cause_answer (Err (of_any.Bcrypt fault)) = bcrypt_cause fault
 cause_answer (Err (of_any.Yescrypt fault)) = yescrypt_cause fault
 cause_answer (Err (of_any.Scrypt fault)) = scrypt_cause fault
+cause_answer (Err (of_any.Sha1 fault)) = sha1_cause fault
+cause_answer (Err (of_any.Scram fault)) = scram_cause fault
 cause_answer (Err of_any.ZeroByte) = ZeroByte
 cause_answer (Err of_any.TooCostly) = OverCost

@@ -2,11 +2,13 @@
 
 ghost use Rattle.std.specs.Prelude.{◌≡◌, Some};
 ghost use Rattle.std.specs.List.{slice_get};
-ghost use Rattle.pwcheck_c.specs.Answers.{answer_of, answer_word, bcrypt_cause, cause_answer, scrypt_cause, yescrypt_cause};
+ghost use Rattle.pwcheck_c.specs.Answers.{answer_of, answer_word, bcrypt_cause, cause_answer, scram_cause, scrypt_cause, sha1_cause, yescrypt_cause};
 
 use any_check::AnyError;
 use base64ct::Error;
 use bcrypt_plain::BcryptFault;
+use scram_plain::ScramFault;
+use sha1_crypt::Sha1Fault;
 use stored_check::{McfFault, PhcFault, ShaFault, ShaFormat, StoredError, word};
 use yescrypt_plain::TextFault;
 
@@ -45,11 +47,25 @@ pub enum Answer {
     ScryptFormat,
     /// The password has a zero byte, which bcrypt can't hash.
     ZeroByte,
+    /// The rounds of sha1-crypt are none that are taken.
+    Sha1Cost,
+    /// The hash of sha1-crypt is that of no digest.
+    Sha1B64,
+    /// The text of sha1-crypt has another fault.
+    Sha1Format,
+    /// The rounds of a text of SCRAM are none that are taken.
+    ScramCost,
+    /// The salt or a key of a text of SCRAM is no Base64 with padding.
+    ScramB64,
+    /// The text of SCRAM has another fault.
+    ScramFormat,
+    /// The password isn't ASCII, and the text of SCRAM is of prepared passwords.
+    NotAscii,
 }
 
 /// The answers by their numbers: the verdicts, the causes of this library's own, and the others in the order in which
 /// they are found; what came later goes last.
-pub const ANSWERS: [Answer; 43] = [
+pub const ANSWERS: [Answer; 50] = [
     Answer::Checked(Ok(true)),
     Answer::Checked(Ok(false)),
     Answer::NotText,
@@ -93,6 +109,13 @@ pub const ANSWERS: [Answer; 43] = [
     Answer::ScryptCost,
     Answer::ScryptFormat,
     Answer::ZeroByte,
+    Answer::Sha1Cost,
+    Answer::Sha1B64,
+    Answer::Sha1Format,
+    Answer::ScramCost,
+    Answer::ScramB64,
+    Answer::ScramFormat,
+    Answer::NotAscii,
 ];
 
 // The number of a fault of the modular crypt format.
@@ -178,6 +201,13 @@ impl Answer {
             Answer::ScryptCost => 40,
             Answer::ScryptFormat => 41,
             Answer::ZeroByte => 42,
+            Answer::Sha1Cost => 43,
+            Answer::Sha1B64 => 44,
+            Answer::Sha1Format => 45,
+            Answer::ScramCost => 46,
+            Answer::ScramB64 => 47,
+            Answer::ScramFormat => 48,
+            Answer::NotAscii => 49,
         }
     }
 
@@ -211,6 +241,13 @@ impl Answer {
             Answer::ScryptCost => "scrypt-cost",
             Answer::ScryptFormat => "scrypt-format",
             Answer::ZeroByte => "zero-byte",
+            Answer::Sha1Cost => "sha1-cost",
+            Answer::Sha1B64 => "sha1-b64",
+            Answer::Sha1Format => "sha1-format",
+            Answer::ScramCost => "scram-cost",
+            Answer::ScramB64 => "scram-b64",
+            Answer::ScramFormat => "scram-format",
+            Answer::NotAscii => "not-ascii",
             Answer::Checked(Err(StoredError::OutOfMemory)) => "no-memory",
             Answer::Checked(verdict) => word(&verdict),
         }
@@ -254,6 +291,30 @@ fn scrypt_cause(fault: TextFault) -> Answer
     }
 }
 
+// The answer for a fault of a text of SCRAM, or of its password.
+fn scram_cause(fault: ScramFault) -> Answer
+    ensures { result ≡ scram_cause fault }
+{
+    match fault {
+        ScramFault::Rounds => Answer::ScramCost,
+        ScramFault::SaltEncoding | ScramFault::StoredKeyEncoding | ScramFault::ServerKeyEncoding =>
+            Answer::ScramB64,
+        ScramFault::NotAscii => Answer::NotAscii,
+        _ => Answer::ScramFormat,
+    }
+}
+
+// The answer for a fault of a text of sha1-crypt.
+fn sha1_cause(fault: Sha1Fault) -> Answer
+    ensures { result ≡ sha1_cause fault }
+{
+    match fault {
+        Sha1Fault::Rounds => Answer::Sha1Cost,
+        Sha1Fault::HashCharacter | Sha1Fault::FirstByte => Answer::Sha1B64,
+        _ => Answer::Sha1Format,
+    }
+}
+
 /// What `check_any` answers, as an answer with a number.
 pub fn cause_answer(answer: Result<bool, AnyError>) -> Answer
     ensures { result ≡ cause_answer answer }
@@ -266,6 +327,8 @@ pub fn cause_answer(answer: Result<bool, AnyError>) -> Answer
         Err(AnyError::Bcrypt(fault)) => bcrypt_cause(fault),
         Err(AnyError::Yescrypt(fault)) => yescrypt_cause(fault),
         Err(AnyError::Scrypt(fault)) => scrypt_cause(fault),
+        Err(AnyError::Sha1(fault)) => sha1_cause(fault),
+        Err(AnyError::Scram(fault)) => scram_cause(fault),
         Err(AnyError::ZeroByte) => Answer::ZeroByte,
         Err(AnyError::TooCostly) => Answer::OverCost,
     }

@@ -82,7 +82,7 @@ fn has_word(number: i32, word: &str) -> bool {
 
 #[test]
 fn causes_by_number(rt: HostRuntime) {
-    let rows: [(&[u8], i32, &str); 16] = [
+    let rows: [(&[u8], i32, &str); 22] = [
         (b"\xff", 2, "not-utf8"),
         (b"*", 31, "no-scheme"),
         (b"", 31, "no-scheme"),
@@ -127,6 +127,16 @@ fn causes_by_number(rt: HostRuntime) {
         (b"$5$rounds=1$abcdefgh$x", 15, "sha-rounds"),
         (b"$scrypt$ln=4,r=8,p=1$c2FsdHNhbHRzYWx0", 28, "no-hash"),
         (b"!$6$abcdefgh$x", 5, "mcf-delimiter"),
+        (b"$sha1$0$salt$x", 43, "sha1-cost"),
+        (
+            b"$sha1$19$abcdefgh$nl4bYNUkvp1kTppWm6kb5cqPQqN-",
+            44,
+            "sha1-b64",
+        ),
+        (b"$sha1$19$abcdefgh", 45, "sha1-format"),
+        (b"$scram-sha-256$0$c2FsdA==$x$x", 46, "scram-cost"),
+        (b"$scram-sha-256$19$c2FsdA$x$x", 47, "scram-b64"),
+        (b"$scram-sha-256$19$c2FsdA==", 48, "scram-format"),
     ];
     for (stored, number, word) in rows {
         let got = pwcheck_check_any(rt.alloc(), b"secret", stored, &NONE);

@@ -1,11 +1,10 @@
 //! The forms of words beside `check`, and each device call failing in turn.
 
-use crate::runs::{Devices, ONE_CALL, SMALL_STEPS, run_over, run_within, words};
+use crate::runs::{Devices, ONE_CALL, SMALL_STEPS, run_over, run_within, runs, words};
 use line_io::{MemorySink, MemorySource};
 use pwcheck_run::{Words, run};
 use std::alloc::{AllocError, Global};
 use std::process::Abort;
-use std::test::Fail;
 
 // Earlier texts, and what `normalize` writes for them.
 const EARLIER: &str = "$5$rounds=+05000$saltstring$5B8vYYiY.CVt1RlTTf8KbXBH3hsxY/GNooZaBBGWEc5\n\
@@ -21,7 +20,7 @@ const LEFT_ALONE: &[u8] =
     b"$2a$12$R9h/cIPz0gi.URNNX3kh2OPST9/PgBkqquzi.Ss7KIUgO2t0jWMUW\n\n\xff\t$\n$5$rounds=999$s$x\n";
 
 // Two words, an input, the output and the status.
-const ROWS: [(&str, &str, &[u8], &[u8], u8); 28] = [
+const ROWS: &[(&str, &str, &[u8], &[u8], u8)] = &[
     ("wrap", "4", &[0; 6], b"AAAA\nAAAA", 0),
     ("wrap", "5", &[0; 6], b"AAAAA\nAAA", 0),
     ("wrap", "4", &[0; 7], b"AAAA\nAAAA\nAA==", 0),
@@ -70,6 +69,10 @@ const ROWS: [(&str, &str, &[u8], &[u8], u8); 28] = [
     ("normalize", "4", b"x", b"", 2),
 ];
 
+fn rows() -> &'static [(&'static str, &'static str, &'static [u8], &'static [u8], u8)] {
+    ROWS
+}
+
 // Lines of each word that a line can have, the last without a line feed.
 const LINES: &str = "Hello world!\t$5$saltstring$5B8vYYiY.CVt1RlTTf8KbXBH3hsxY/GNooZaBBGWEc5\n\
     x\t$5$rounds=1000$a$5B8vYYiY.CVt1RlTTf8KbXBH3hsxY/GNooZaBBGWEc5\n\
@@ -91,44 +94,49 @@ const LINES: &str = "Hello world!\t$5$saltstring$5B8vYYiY.CVt1RlTTf8KbXBH3hsxY/G
     \t$x$abcdabcdabc$AAAAAAAAAAAAAA\n\
     \t$scrypt$ln=1,r=1,p=1$abcdabcdabc$AAAAAAAAAAAAAA";
 
-#[test]
-fn rows_of_two_words(rt: HostRuntime) -> Result<(), Fail> {
-    for (first, second, input, output, status) in ROWS {
-        let words = words(rt.alloc(), &[first, second])?;
-        run_over(&rt, rt.alloc(), &words, input, SMALL_STEPS, output, status);
-    }
-    Ok(())
+// A constant is written out in each function that names it, so only this one does.
+fn lines() -> &'static [u8] {
+    LINES.as_bytes()
 }
 
 #[test]
-fn earlier_texts_and_others(rt: HostRuntime) -> Result<(), Fail> {
-    let words = words(rt.alloc(), &["normalize"])?;
-    for (input, output) in [
-        (EARLIER.as_bytes(), NORMAL.as_bytes()),
-        (NORMAL.as_bytes(), NORMAL.as_bytes()),
-        (LEFT_ALONE, LEFT_ALONE),
-    ] {
-        run_over(&rt, rt.alloc(), &words, input, SMALL_STEPS, output, 0);
+fn rows_of_two_words(rt: HostRuntime) {
+    for (first, second, input, output, status) in rows() {
+        let list = [*first, *second];
+        runs(&rt, rt.alloc(), &list, input, &SMALL_STEPS, output, *status);
     }
-    Ok(())
 }
 
+const NORMALIZE: &[&str] = &["normalize"];
+
 #[test]
-fn a_long_line(rt: HostRuntime) -> Result<(), Fail> {
-    let words = words(rt.alloc(), &["normalize"])?;
-    let mut long = Vec::new(rt.alloc());
-    long.resize(8_193, b'a')?;
-    long.extend_from_slice(b"\n$5")?;
-    run_over(
+fn earlier_texts_and_others(rt: HostRuntime) {
+    let (earlier, normal) = (EARLIER.as_bytes(), NORMAL.as_bytes());
+    runs(&rt, rt.alloc(), NORMALIZE, earlier, &SMALL_STEPS, normal, 0);
+    runs(&rt, rt.alloc(), NORMALIZE, normal, &SMALL_STEPS, normal, 0);
+    runs(
         &rt,
         rt.alloc(),
-        &words,
+        NORMALIZE,
+        LEFT_ALONE,
+        &SMALL_STEPS,
+        LEFT_ALONE,
+        0,
+    );
+}
+
+#[test]
+fn a_long_line(rt: HostRuntime) {
+    let long = repeated(rt.alloc(), &(b"a", 8_193, b"\n$5")).expect(&rt, "want of memory");
+    runs(
+        &rt,
+        rt.alloc(),
+        NORMALIZE,
         &long,
-        SMALL_STEPS,
+        &SMALL_STEPS,
         b"toolong\n$5\n",
         1,
     );
-    Ok(())
 }
 
 // How many line feeds stand among the first bytes.
@@ -151,24 +159,24 @@ fn first_lines(text: &[u8], count: usize) -> usize {
 }
 
 // Texts of each ending that are wrapped at 4, and the bytes that they stand for.
-const WRAPPED: [&[u8]; 3] = [
+const WRAPPED: &[&[u8]] = &[
     b"AAAA\nAAAA\nAA==\n",
     b"AAAA\r\nAAAA\r\nAA==",
     b"AAAA\rAAAA\rAA==\r",
 ];
 
 // What a run writes.
-fn whole_output(alloc: Global, words: &Words, input: &[u8]) -> Result<Vec<u8>, AllocError> {
+fn whole_output(rt: &impl Abort, alloc: Global, words: &Words, input: &[u8]) -> Vec<u8> {
     let mut room = [0u8; 1_024];
     let mut source = MemorySource::new(input, 4_096, &[]);
     let mut sink = MemorySink::new(&mut room, 1_024, &[]);
     let _ = run(alloc, words, &mut source, &mut sink);
-    Vec::from_slice(alloc, sink.bytes())
+    Vec::from_slice(alloc, sink.bytes()).expect(rt, "want of memory")
 }
 
 // A run whose read `call` fails ends with 3, and has written `kept`.
-fn failing_read<R: Abort>(
-    rt: &R,
+fn failing_read(
+    rt: &impl Abort,
     alloc: Global,
     words: &Words,
     input: &[u8],
@@ -181,13 +189,13 @@ fn failing_read<R: Abort>(
         bad_reads: &[call as u64],
         ..ONE_CALL
     };
-    run_over(rt, alloc, words, input, devices, kept, 3);
+    run_over(rt, alloc, words, input, &devices, kept, 3);
 }
 
 // A run whose write `call` fails ends with 4, and has written the beginning of the output, with a sink of step 1 its
 // first `call` bytes.
-fn failing_write<R: Abort>(
-    rt: &R,
+fn failing_write(
+    rt: &impl Abort,
     alloc: Global,
     words: &Words,
     input: &[u8],
@@ -195,92 +203,124 @@ fn failing_write<R: Abort>(
     step: usize,
     call: usize,
 ) {
-    assert!(rt; step >= 1);
     let calls = [call as u64];
     let mut room = [0u8; 1_024];
     let mut source = MemorySource::new(input, 4_096, &[]);
-    let mut sink = MemorySink::new(&mut room, step, &calls);
+    let mut sink = MemorySink::new(&mut room, step.max(1), &calls);
     let status = run(alloc, words, &mut source, &mut sink);
     assert!(rt; status == 4, "{call}: {status}");
     assert!(rt; output.starts_with(sink.bytes()), "{call}");
     assert!(rt; step > 1 || sink.bytes().len() == call, "{call}");
 }
 
-#[test]
-fn each_read_failing(rt: HostRuntime) -> Result<(), Fail> {
-    let input = LINES.as_bytes();
-    for word in ["check", "normalize"] {
-        let words = words(rt.alloc(), &[word])?;
-        let output = whole_output(rt.alloc(), &words, input)?;
-        for (step, calls) in [(1, input.len() + 1), (7, input.len() / 7 + 1), (4_096, 2)] {
-            for call in 0..calls {
-                assert!(rt; call <= 4_096);
-                let taken = (call * step).min(input.len());
-                let kept = first_lines(&output, feeds(&input[..taken]));
-                assert!(rt; kept <= output.len());
-                failing_read(&rt, rt.alloc(), &words, input, step, call, &output[..kept]);
-            }
-        }
+// Each of the first reads fails, of `step` bytes each: the lines that were read whole have their output.
+fn failing_reads(
+    rt: &impl Abort,
+    alloc: Global,
+    words: &Words,
+    output: &[u8],
+    step: usize,
+    calls: usize,
+) {
+    let input = lines();
+    for call in 0..calls {
+        let taken = call.saturating_mul(step).min(input.len());
+        let kept = first_lines(output, feeds(&input[..taken])).min(output.len());
+        failing_read(rt, alloc, words, input, step, call, &output[..kept]);
     }
-    Ok(())
+}
+
+fn each_read_fails(rt: &impl Abort, alloc: Global, word: &str) {
+    let words = words(rt, alloc, &[word]);
+    let output = whole_output(rt, alloc, &words, lines());
+    let length = lines().len();
+    failing_reads(rt, alloc, &words, &output, 1, length.saturating_add(1));
+    failing_reads(
+        rt,
+        alloc,
+        &words,
+        &output,
+        7,
+        (length / 7).saturating_add(1),
+    );
+    failing_reads(rt, alloc, &words, &output, 4_096, 2);
 }
 
 #[test]
-fn each_write_failing(rt: HostRuntime) -> Result<(), Fail> {
-    let input = LINES.as_bytes();
-    for word in ["check", "normalize"] {
-        let words = words(rt.alloc(), &[word])?;
-        let output = whole_output(rt.alloc(), &words, input)?;
-        for (step, calls) in [
-            (1, output.len()),
-            (3, output.len() / 3),
-            (64, output.len() / 64),
-        ] {
-            for call in 0..calls {
-                failing_write(&rt, rt.alloc(), &words, input, &output, step, call);
-            }
-        }
+fn each_read_failing(rt: HostRuntime) {
+    each_read_fails(&rt, rt.alloc(), "check");
+    each_read_fails(&rt, rt.alloc(), "normalize");
+}
+
+// Each of the first writes fails, of `step` bytes each.
+fn failing_writes(
+    rt: &impl Abort,
+    alloc: Global,
+    words: &Words,
+    input: &[u8],
+    output: &[u8],
+    step: usize,
+) {
+    for call in 0..output.len() / step.max(1) {
+        failing_write(rt, alloc, words, input, output, step, call);
     }
-    Ok(())
+}
+
+fn each_write_fails(rt: &impl Abort, alloc: Global, word: &str) {
+    let words = words(rt, alloc, &[word]);
+    let input = lines();
+    let output = whole_output(rt, alloc, &words, input);
+    failing_writes(rt, alloc, &words, input, &output, 1);
+    failing_writes(rt, alloc, &words, input, &output, 3);
+    failing_writes(rt, alloc, &words, input, &output, 64);
 }
 
 #[test]
-fn each_call_failing_over_wrapped_texts(rt: HostRuntime) -> Result<(), Fail> {
+fn each_write_failing(rt: HostRuntime) {
+    each_write_fails(&rt, rt.alloc(), "check");
+    each_write_fails(&rt, rt.alloc(), "normalize");
+}
+
+// Each read and each write of one byte fails, of a form at width 4 that writes so many bytes at least.
+fn each_call_fails(rt: &impl Abort, alloc: Global, first: &str, written: usize, input: &[u8]) {
+    let words = words(rt, alloc, &[first, "4"]);
+    let output = whole_output(rt, alloc, &words, input);
+    assert!(rt; output.len() >= written, "{first}");
+    for call in 0..input.len().saturating_add(1) {
+        failing_read(rt, alloc, &words, input, 1, call, b"");
+    }
+    failing_writes(rt, alloc, &words, input, &output, 1);
+}
+
+#[test]
+fn each_call_failing_over_wrapped_texts(rt: HostRuntime) {
     for input in WRAPPED {
-        for (first, written) in [("unwrap", 7), ("wrap", 18)] {
-            let words = words(rt.alloc(), &[first, "4"])?;
-            let output = whole_output(rt.alloc(), &words, input)?;
-            assert!(rt; output.len() >= written);
-            for call in 0..input.len() + 1 {
-                failing_read(&rt, rt.alloc(), &words, input, 1, call, b"");
-            }
-            for call in 0..output.len() {
-                failing_write(&rt, rt.alloc(), &words, input, &output, 1, call);
-            }
-        }
+        each_call_fails(&rt, rt.alloc(), "unwrap", 7, input);
+        each_call_fails(&rt, rt.alloc(), "wrap", 18, input);
     }
-    Ok(())
 }
 
+// A form at width 4, how many bytes of six count, the output and the status.
+const BOUNDS: &[(&str, u64, &[u8], u8)] = &[
+    ("wrap", 5, b"", 6),
+    ("wrap", 6, b"AAAA\nAAAA", 0),
+    ("unwrap", 5, b"", 6),
+    ("unwrap", 6, b"", 7),
+];
+
 #[test]
-fn bounds_of_whole_inputs(rt: HostRuntime) -> Result<(), Fail> {
-    for (first, max, output, status) in [
-        ("wrap", 5, b"".as_slice(), 6),
-        ("wrap", 6, b"AAAA\nAAAA", 0),
-        ("unwrap", 5, b"", 6),
-        ("unwrap", 6, b"", 7),
-    ] {
-        let words = words(rt.alloc(), &[first, "4"])?;
-        run_within(&rt, rt.alloc(), &words, &[0; 6], max, output, status);
+fn bounds_of_whole_inputs(rt: HostRuntime) {
+    for (first, max, output, status) in BOUNDS {
+        let list = [*first, "4"];
+        run_within(&rt, rt.alloc(), &list, &[0; 6], *max, output, *status);
     }
-    Ok(())
 }
 
 // A text: some bytes so many times, and what stands behind them.
 type Repeated = (&'static [u8], usize, &'static [u8]);
 
-fn repeated(alloc: Global, text: Repeated) -> Result<Vec<u8>, AllocError> {
-    let (unit, count, last) = text;
+fn repeated(alloc: Global, text: &Repeated) -> Result<Vec<u8>, AllocError> {
+    let (unit, count, last) = *text;
     let mut bytes = Vec::new(alloc);
     for _ in 0..count {
         bytes.extend_from_slice(unit)?;
@@ -290,7 +330,7 @@ fn repeated(alloc: Global, text: Repeated) -> Result<Vec<u8>, AllocError> {
 }
 
 // A word, an input, its output and the status, for 10,000 bytes, for 1,048,576, and for one byte more.
-const LONG_INPUTS: [(&str, Repeated, Repeated, u8); 6] = [
+const LONG_INPUTS: &[(&str, Repeated, Repeated, u8)] = &[
     (
         "wrap",
         (b"abc", 3_333, b"a"),
@@ -319,18 +359,30 @@ const LONG_INPUTS: [(&str, Repeated, Repeated, u8); 6] = [
     ),
 ];
 
+// A run at width 4 must write `output` and end with `status`.
+fn is_long_run(
+    rt: &impl Abort,
+    alloc: Global,
+    first: &str,
+    input: &[u8],
+    output: &[u8],
+    status: u8,
+) {
+    let words = words(rt, alloc, &[first, "4"]);
+    let length = output.len().saturating_add(1);
+    let mut room = Vec::from_elem(alloc, 0u8, length).expect(rt, "want of memory");
+    let mut source = MemorySource::new(input, 65_536, &[]);
+    let mut sink = MemorySink::new(&mut room, 65_536, &[]);
+    let got = run(alloc, &words, &mut source, &mut sink);
+    assert!(rt; got == status, "{first}: {got}");
+    assert!(rt; sink.bytes() == output, "{first}: {}", output.len());
+}
+
 #[test]
-fn long_inputs(rt: HostRuntime) -> Result<(), Fail> {
+fn long_inputs(rt: HostRuntime) {
     for (first, input, output, status) in LONG_INPUTS {
-        let words = words(rt.alloc(), &[first, "4"])?;
-        let input = repeated(rt.alloc(), input)?;
-        let output = repeated(rt.alloc(), output)?;
-        let mut room = Vec::from_elem(rt.alloc(), 0u8, output.len() + 1)?;
-        let mut source = MemorySource::new(&input, 65_536, &[]);
-        let mut sink = MemorySink::new(&mut room, 65_536, &[]);
-        let got = run(rt.alloc(), &words, &mut source, &mut sink);
-        assert!(rt; got == status, "{first}: {got}");
-        assert!(rt; sink.bytes() == output.as_slice(), "{first}");
+        let input = repeated(rt.alloc(), input).expect(&rt, "want of memory");
+        let output = repeated(rt.alloc(), output).expect(&rt, "want of memory");
+        is_long_run(&rt, rt.alloc(), first, &input, &output, *status);
     }
-    Ok(())
 }

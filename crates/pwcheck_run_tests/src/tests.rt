@@ -1,8 +1,9 @@
 //! Worked lines, bounds and failing devices.
 
-use crate::runs::{Devices, ONE_CALL, SMALL_STEPS, run_over, run_within, words};
+use crate::runs::{Devices, ONE_CALL, SMALL_STEPS, run_over, run_within, runs, words};
 use pwcheck_run::word;
-use std::test::Fail;
+use std::alloc::{AllocError, Global};
+use std::process::Abort;
 use stored_check::{PhcFault, StoredError};
 
 // One line of a password that matches, and the same with another password.
@@ -10,7 +11,7 @@ const TWO_LINES: &str = "Hello world!\t$5$saltstring$5B8vYYiY.CVt1RlTTf8KbXBH3hs
     Hello world\t$5$saltstring$5B8vYYiY.CVt1RlTTf8KbXBH3hsxY/GNooZaBBGWEc5\n";
 
 // An input, the output and the status.
-const ROWS: [(&[u8], &str, u8); 37] = [
+const ROWS: &[(&[u8], &str, u8)] = &[
     (b"", "", 0),
     (
         b"Hello world!\t$5$saltstring$5B8vYYiY.CVt1RlTTf8KbXBH3hsxY/GNooZaBBGWEc5\n",
@@ -163,8 +164,12 @@ const ROWS: [(&[u8], &str, u8); 37] = [
     ),
 ];
 
+fn rows() -> &'static [(&'static [u8], &'static str, u8)] {
+    ROWS
+}
+
 // The parts of a stored text, of which the second is taken so many times, and the word.
-const PHC_CAUSES: [(&str, &str, usize, &str, &str); 15] = [
+const PHC_CAUSES: &[(&str, &str, usize, &str, &str)] = &[
     ("$", "a", 33, "", "phc-name\n"),
     ("$x$", "=", 1, "1", "phc-name\n"),
     ("$x$a=1", ",", 1, "", "phc-name\n"),
@@ -182,8 +187,18 @@ const PHC_CAUSES: [(&str, &str, usize, &str, &str); 15] = [
     ("$x$abcdabcdabc$", "A", 14, "", "kdf\n"),
 ];
 
+fn phc_causes() -> &'static [(
+    &'static str,
+    &'static str,
+    usize,
+    &'static str,
+    &'static str,
+)] {
+    PHC_CAUSES
+}
+
 // An input of `check --count`, the output and the status. Each line has fresh counts.
-const COUNTED: [(&str, &str, u8); 5] = [
+const COUNTED: &[(&str, &str, u8)] = &[
     (
         TWO_LINES,
         "match looks=44 sames=36\nmismatch looks=44 sames=36\n",
@@ -211,8 +226,12 @@ const COUNTED: [(&str, &str, u8); 5] = [
     ),
 ];
 
+fn counted() -> &'static [(&'static str, &'static str, u8)] {
+    COUNTED
+}
+
 // How many bytes of a stored text are kept, and the word.
-const PREFIXES: [(usize, usize, &str); 8] = [
+const PREFIXES: &[(usize, usize, &str)] = &[
     (0, 2, "mcf-delimiter\n"),
     (2, 3, "sha-format\n"),
     (3, 4, "mcf-delimiter\n"),
@@ -227,7 +246,7 @@ const PREFIXES: [(usize, usize, &str); 8] = [
 const SCRYPT_TEXT: &str =
     "password\t$scrypt$ln=16,r=8,p=1$aM15713r3Xsvxbi31lqr1Q$nFNh2CVHVjNldFVKDHDlm4CbdRSCdEBsjjJxD+iCs5E";
 
-const SCRYPT_PREFIXES: [(&[usize], &str); 9] = [
+const SCRYPT_PREFIXES: &[(&[usize], &str)] = &[
     (&[0, 1, 8, 22, 45], "mcf-delimiter\n"),
     (
         &[
@@ -248,7 +267,7 @@ const SCRYPT_PREFIXES: [(&[usize], &str); 9] = [
 ];
 
 // The step of a source, the call of it that fails, and the output before status 3.
-const FAILING_READS: [(usize, u64, &str); 6] = [
+const FAILING_READS: &[(usize, u64, &str)] = &[
     (8, 0, ""),
     (8, 8, ""),
     (8, 9, "match\n"),
@@ -261,7 +280,7 @@ const FAILING_READS: [(usize, u64, &str); 6] = [
 const LINE: &str = "Hello world!\t$5$saltstring$5B8vYYiY.CVt1RlTTf8KbXBH3hsxY/GNooZaBBGWEc5\n";
 
 // What stands before some letters, how many there are, what stands behind them, and the output.
-const LENGTHS: [(&str, usize, &str, &str); 5] = [
+const LENGTHS: &[(&str, usize, &str, &str)] = &[
     ("", 4_096, "\t$\n", "mcf-delimiter\nmatch\n"),
     ("", 4_097, "\t$\n", "password-too-long\nmatch\n"),
     ("", 8_192, "\n", "badline\nmatch\n"),
@@ -269,9 +288,13 @@ const LENGTHS: [(&str, usize, &str, &str); 5] = [
     (LINE, 20_000, "\n", "match\ntoolong\nmatch\n"),
 ];
 
+fn lengths() -> &'static [(&'static str, usize, &'static str, &'static str)] {
+    LENGTHS
+}
+
 // An input, the writes that fail, the output and the status. A line with a verdict is written at once; other words
 // wait.
-const WRITES: [(&str, &[u64], &str, u8); 5] = [
+const WRITES: &[(&str, &[u64], &str, u8)] = &[
     (TWO_LINES, &[], "match\nmismatch\n", 1),
     (TWO_LINES, &[1], "match\n", 4),
     ("x\n\t\n", &[1], "badline\nmcf-delimiter\n", 1),
@@ -284,103 +307,86 @@ const WRITES: [(&str, &[u64], &str, u8); 5] = [
     ),
 ];
 
+fn writes() -> &'static [(&'static str, &'static [u64], &'static str, u8)] {
+    WRITES
+}
+
+// A constant is written out in each function that names it, so only this one does.
+fn two_lines() -> &'static str {
+    TWO_LINES
+}
+
+const CHECK: &[&str] = &["check"];
+
 #[test]
-fn lines_and_their_words(rt: HostRuntime) -> Result<(), Fail> {
-    let words = words(rt.alloc(), &["check"])?;
-    for (input, output, status) in ROWS {
-        run_over(
-            &rt,
-            rt.alloc(),
-            &words,
-            input,
-            ONE_CALL,
-            output.as_bytes(),
-            status,
-        );
+fn lines_and_their_words(rt: HostRuntime) {
+    for (input, output, status) in rows() {
+        let output = output.as_bytes();
+        runs(&rt, rt.alloc(), CHECK, input, &ONE_CALL, output, *status);
     }
-    Ok(())
+}
+
+// The front of a line is answered by a word.
+fn is_answered(rt: &impl Abort, alloc: Global, line: &str, kept: usize, word: &str) {
+    let line = line.as_bytes();
+    let input = &line[..kept.min(line.len())];
+    let status = if word == "match\n" { 0 } else { 1 };
+    runs(rt, alloc, CHECK, input, &ONE_CALL, word.as_bytes(), status);
 }
 
 #[test]
-fn prefixes_of_stored_texts(rt: HostRuntime) -> Result<(), Fail> {
-    let words = words(rt.alloc(), &["check"])?;
-    let line = TWO_LINES.as_bytes();
-    assert!(rt; line.len() == 141);
+fn prefixes_of_stored_texts(rt: HostRuntime) {
+    assert!(rt; two_lines().len() == 141);
     for (from, to, word) in PREFIXES {
-        assert!(rt; to <= 58);
-        for kept in from..to {
-            let status = if kept == 57 { 0 } else { 1 };
-            let input = &line[..13 + kept];
-            run_over(
-                &rt,
-                rt.alloc(),
-                &words,
-                input,
-                ONE_CALL,
-                word.as_bytes(),
-                status,
-            );
+        for kept in *from..*to {
+            is_answered(&rt, rt.alloc(), two_lines(), kept.saturating_add(13), word);
         }
     }
-    Ok(())
 }
 
 #[test]
-fn prefixes_of_a_record_of_scrypt(rt: HostRuntime) -> Result<(), Fail> {
-    let words = words(rt.alloc(), &["check"])?;
-    let line = SCRYPT_TEXT.as_bytes();
-    assert!(rt; line.len() == 97);
+fn prefixes_of_a_record_of_scrypt(rt: HostRuntime) {
+    assert!(rt; SCRYPT_TEXT.len() == 97);
     for (lengths, word) in SCRYPT_PREFIXES {
-        for kept in lengths {
-            assert!(rt; *kept <= 88);
-            let status = if *kept == 61 { 0 } else { 1 };
-            let input = &line[..9 + *kept];
-            run_over(
-                &rt,
-                rt.alloc(),
-                &words,
-                input,
-                ONE_CALL,
-                word.as_bytes(),
-                status,
-            );
+        for kept in *lengths {
+            is_answered(&rt, rt.alloc(), SCRYPT_TEXT, kept.saturating_add(9), word);
         }
     }
-    Ok(())
+}
+
+// A tab, and a text of which the second part is taken so many times.
+fn line_of(
+    alloc: Global,
+    front: &str,
+    middle: &str,
+    count: usize,
+    back: &str,
+) -> Result<String, AllocError> {
+    let mut line = String::from_str(alloc, "\t")?;
+    line.push_str(front)?;
+    for _ in 0..count {
+        line.push_str(middle)?;
+    }
+    line.push_str(back)?;
+    Ok(line)
 }
 
 #[test]
-fn causes_of_phc_texts(rt: HostRuntime) -> Result<(), Fail> {
-    let words = words(rt.alloc(), &["check"])?;
-    for (front, middle, count, back, word) in PHC_CAUSES {
-        let mut line = String::from_str(rt.alloc(), "\t")?;
-        line.push_str(front)?;
-        for _ in 0..count {
-            line.push_str(middle)?;
-        }
-        line.push_str(back)?;
-        let input = line.as_bytes();
-        run_over(&rt, rt.alloc(), &words, input, ONE_CALL, word.as_bytes(), 1);
+fn causes_of_phc_texts(rt: HostRuntime) {
+    for (front, middle, count, back, word) in phc_causes() {
+        let line = line_of(rt.alloc(), front, middle, *count, back).expect(&rt, "want of memory");
+        is_answered(&rt, rt.alloc(), &line, line.len(), word);
     }
-    Ok(())
 }
 
+const COUNT: &[&str] = &["check", "--count"];
+
 #[test]
-fn lines_and_their_counts(rt: HostRuntime) -> Result<(), Fail> {
-    let words = words(rt.alloc(), &["check", "--count"])?;
-    for (input, output, status) in COUNTED {
-        let input = input.as_bytes();
-        run_over(
-            &rt,
-            rt.alloc(),
-            &words,
-            input,
-            ONE_CALL,
-            output.as_bytes(),
-            status,
-        );
+fn lines_and_their_counts(rt: HostRuntime) {
+    for (input, output, status) in counted() {
+        let (input, output) = (input.as_bytes(), output.as_bytes());
+        runs(&rt, rt.alloc(), COUNT, input, &ONE_CALL, output, *status);
     }
-    Ok(())
 }
 
 #[test]
@@ -391,148 +397,155 @@ fn words_of_answers(rt: HostRuntime) {
     assert!(rt; word(&Err(long)) == "phc-hash-long");
 }
 
-#[test]
-fn lines_by_length(rt: HostRuntime) -> Result<(), Fail> {
-    let words = words(rt.alloc(), &["check"])?;
-    for (front, count, back, output) in LENGTHS {
-        let mut input = Vec::from_slice(rt.alloc(), front.as_bytes())?;
-        input.resize(front.len() + count, b'a')?;
-        input.extend_from_slice(back.as_bytes())?;
-        input.extend_from_slice(LINE.as_bytes())?;
-        for read in [1, 7, 16_384] {
-            let devices = Devices { read, ..ONE_CALL };
-            run_over(
-                &rt,
-                rt.alloc(),
-                &words,
-                &input,
-                devices,
-                output.as_bytes(),
-                1,
-            );
-        }
-    }
-    Ok(())
+// A text before letters, how many they are, a text after them, and a line that matches.
+fn long_line(alloc: Global, front: &str, count: usize, back: &str) -> Result<Vec<u8>, AllocError> {
+    let mut input = Vec::from_slice(alloc, front.as_bytes())?;
+    input.resize(front.len().saturating_add(count), b'a')?;
+    input.extend_from_slice(back.as_bytes())?;
+    input.extend_from_slice(LINE.as_bytes())?;
+    Ok(input)
+}
+
+const BY_ONE: Devices<'static> = Devices {
+    read: 1,
+    ..ONE_CALL
+};
+
+const BY_SEVEN: Devices<'static> = Devices {
+    read: 7,
+    ..ONE_CALL
+};
+
+fn is_read(rt: &impl Abort, alloc: Global, input: &[u8], output: &[u8]) {
+    runs(rt, alloc, CHECK, input, &BY_ONE, output, 1);
+    runs(rt, alloc, CHECK, input, &BY_SEVEN, output, 1);
+    runs(rt, alloc, CHECK, input, &ONE_CALL, output, 1);
 }
 
 #[test]
-fn bounds_on_the_input(rt: HostRuntime) -> Result<(), Fail> {
-    let words = words(rt.alloc(), &["check"])?;
-    for (max, output, status) in [
-        (70, b"".as_slice(), 6),
-        (71, b"match\n", 6),
-        (140, b"match\n", 6),
-        (141, b"match\nmismatch\n", 1),
-    ] {
-        run_within(
-            &rt,
-            rt.alloc(),
-            &words,
-            TWO_LINES.as_bytes(),
-            max,
-            output,
-            status,
-        );
+fn lines_by_length(rt: HostRuntime) {
+    for (front, count, back, output) in lengths() {
+        let input = long_line(rt.alloc(), front, *count, back).expect(&rt, "want of memory");
+        is_read(&rt, rt.alloc(), &input, output.as_bytes());
     }
-    Ok(())
 }
 
-#[test]
-fn failing_reads(rt: HostRuntime) -> Result<(), Fail> {
-    let words = words(rt.alloc(), &["check"])?;
-    let input = TWO_LINES.as_bytes();
-    for (read, call, output) in FAILING_READS {
-        let devices = Devices {
-            read,
-            bad_reads: &[call],
-            ..ONE_CALL
-        };
-        run_over(
-            &rt,
-            rt.alloc(),
-            &words,
-            input,
-            devices,
-            output.as_bytes(),
-            3,
-        );
-    }
-    Ok(())
-}
+// How many bytes of the two lines count, the output and the status.
+const BOUNDS: &[(u64, &[u8], u8)] = &[
+    (70, b"", 6),
+    (71, b"match\n", 6),
+    (140, b"match\n", 6),
+    (141, b"match\nmismatch\n", 1),
+];
 
 #[test]
-fn each_write_of_two_words_failing(rt: HostRuntime) -> Result<(), Fail> {
-    let words = words(rt.alloc(), &["check"])?;
-    let input = TWO_LINES.as_bytes();
-    let output = b"match\nmismatch\n";
-    for call in 0..15usize {
-        let devices = Devices {
-            write: 1,
-            bad_writes: &[call as u64],
-            ..ONE_CALL
-        };
-        run_over(&rt, rt.alloc(), &words, input, devices, &output[..call], 4);
+fn bounds_on_the_input(rt: HostRuntime) {
+    let input = two_lines().as_bytes();
+    for (max, output, status) in BOUNDS {
+        run_within(&rt, rt.alloc(), CHECK, input, *max, output, *status);
     }
-    Ok(())
 }
 
-#[test]
-fn when_words_are_written(rt: HostRuntime) -> Result<(), Fail> {
-    let words = words(rt.alloc(), &["check"])?;
-    for (input, bad_writes, output, status) in WRITES {
-        let devices = Devices {
-            bad_writes,
-            ..ONE_CALL
-        };
-        let input = input.as_bytes();
-        run_over(
-            &rt,
-            rt.alloc(),
-            &words,
-            input,
-            devices,
-            output.as_bytes(),
-            status,
-        );
-    }
-    Ok(())
-}
-
-#[test]
-fn other_words(rt: HostRuntime) -> Result<(), Fail> {
+fn is_read_in_part(rt: &impl Abort, alloc: Global, read: usize, call: u64, output: &str) {
     let devices = Devices {
-        bad_reads: &[0],
-        bad_writes: &[0],
-        ..SMALL_STEPS
+        read,
+        bad_reads: &[call],
+        ..ONE_CALL
     };
-    for list in [
-        [].as_slice(),
-        &["Check"],
-        &["checks"],
-        &["chec"],
-        &["check", "check"],
-        &["check", "--Count"],
-        &["check", "--count", "x"],
-        &["--count", "check"],
-        &["bench"],
-        &["wrap", "4", "4"],
-        &["Normalize"],
-        &["normalize", "x"],
-        &[""],
-    ] {
-        let words = words(rt.alloc(), list)?;
-        assert!(rt; words.len() == list.len(), "{list:?}");
-        let input = TWO_LINES.as_bytes();
-        run_over(&rt, rt.alloc(), &words, input, devices, b"", 2);
-    }
-    Ok(())
+    let input = two_lines().as_bytes();
+    runs(rt, alloc, CHECK, input, &devices, output.as_bytes(), 3);
 }
 
 #[test]
-fn words_by_number(rt: HostRuntime) -> Result<(), Fail> {
-    let words = words(rt.alloc(), &["check", "--count"])?;
+fn failing_reads(rt: HostRuntime) {
+    for (read, call, output) in FAILING_READS {
+        is_read_in_part(&rt, rt.alloc(), *read, *call, output);
+    }
+}
+
+fn is_written_in_part(rt: &impl Abort, alloc: Global, call: usize) {
+    let devices = Devices {
+        write: 1,
+        bad_writes: &[call as u64],
+        ..ONE_CALL
+    };
+    let output = b"match\nmismatch\n";
+    let written = &output[..call.min(output.len())];
+    runs(
+        rt,
+        alloc,
+        CHECK,
+        two_lines().as_bytes(),
+        &devices,
+        written,
+        4,
+    );
+}
+
+#[test]
+fn each_write_of_two_words_failing(rt: HostRuntime) {
+    for call in 0..15usize {
+        is_written_in_part(&rt, rt.alloc(), call);
+    }
+}
+
+fn is_written_as(rt: &impl Abort, alloc: Global, row: &(&str, &[u64], &str, u8)) {
+    let (input, bad_writes, output, status) = *row;
+    let devices = Devices {
+        bad_writes,
+        ..ONE_CALL
+    };
+    let (input, output) = (input.as_bytes(), output.as_bytes());
+    runs(rt, alloc, CHECK, input, &devices, output, status);
+}
+
+#[test]
+fn when_words_are_written(rt: HostRuntime) {
+    for row in writes() {
+        is_written_as(&rt, rt.alloc(), row);
+    }
+}
+
+// Command lines that are refused.
+const OTHER_WORDS: &[&[&str]] = &[
+    &[],
+    &["Check"],
+    &["checks"],
+    &["chec"],
+    &["check", "check"],
+    &["check", "--Count"],
+    &["check", "--count", "x"],
+    &["--count", "check"],
+    &["bench"],
+    &["wrap", "4", "4"],
+    &["Normalize"],
+    &["normalize", "x"],
+    &[""],
+];
+
+const NO_CALL: Devices<'static> = Devices {
+    bad_reads: &[0],
+    bad_writes: &[0],
+    ..SMALL_STEPS
+};
+
+fn are_refused(rt: &impl Abort, alloc: Global, list: &[&str]) {
+    let words = words(rt, alloc, list);
+    assert!(rt; words.len() == list.len(), "{list:?}");
+    run_over(rt, alloc, &words, two_lines().as_bytes(), &NO_CALL, b"", 2);
+}
+
+#[test]
+fn other_words(rt: HostRuntime) {
+    for list in OTHER_WORDS {
+        are_refused(&rt, rt.alloc(), list);
+    }
+}
+
+#[test]
+fn words_by_number(rt: HostRuntime) {
+    let words = words(&rt, rt.alloc(), COUNT);
     assert!(rt; words.get(0) == Some("check"));
     assert!(rt; words.get(1) == Some("--count"));
     assert!(rt; words.get(2).is_none());
-    Ok(())
 }

@@ -19,6 +19,7 @@ const LINE_MAKERS: &[&str] = &[
     "mosquitto",
     "mediawiki",
     "grub",
+    "postgres",
 ];
 
 /// A form without its words: its name, what it does, and what is after the options in its help.

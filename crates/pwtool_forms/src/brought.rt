@@ -5,8 +5,9 @@ use crate::progress::Watched;
 use crate::reports::called;
 use clap::ArgMatches;
 use ldif_lines::{FileForm, LdifLines};
-use line_filter::{Filtered, LineForms, Noticed};
+use line_filter::{Filtered, LineForms, MESSAGE_MAX, Noticed, passed_message};
 use line_io::StdSource;
+use pieces::short_bytes::ShortBytes;
 use pieces::text::text_of;
 use std::io::Read;
 
@@ -46,22 +47,67 @@ pub fn brought_texts<'a, R: Read + Drop>(
     }
 }
 
-/// Says what was met in a file that its lines may not be meant to have, where nothing of it was left out.
+/// What the lines of a file begin with.
+#[derive(Clone, Copy, Debug, PartialEq, Eq)]
+pub enum LineStart {
+    /// A password, which may begin with `#`.
+    Password,
+    /// A user or a stored text. An empty line or one that begins with `#` has neither.
+    UserOrText,
+}
+
+// What was met of the line's ends and is left as it is, in words; none where the command line leaves it out.
+fn returns_met<R: Read + Drop>(
+    matches: &ArgMatches<'_>,
+    noticed: &Noticed<StdSource<Watched<'_, R>>>,
+) -> ShortBytes<MESSAGE_MAX> {
+    if matches.get_flag("crlf") {
+        return ShortBytes::new();
+    }
+    noticed.met().message()
+}
+
+// The same of empty lines and comments.
+fn passed_met<R: Read + Drop>(
+    matches: &ArgMatches<'_>,
+    start: LineStart,
+    noticed: &Noticed<StdSource<Watched<'_, R>>>,
+) -> ShortBytes<MESSAGE_MAX> {
+    if matches.get_flag("htpasswd") || start == LineStart::Password {
+        return ShortBytes::new();
+    }
+    passed_message(noticed.passed_over())
+}
+
+/// Says what was met in a file that its lines may not be meant to have, where it wasn't left out: in one line, with the
+/// options that leave it out.
 pub fn tell_met<R: Read + Drop>(
     rt: &impl Eprint,
     matches: &ArgMatches<'_>,
     name: &str,
+    start: LineStart,
     source: &Filtered<Noticed<StdSource<Watched<'_, R>>>>,
 ) {
-    if matches.get_flag("quiet") || matches.get_flag("crlf") {
+    if matches.get_flag("quiet") {
         return;
     }
-    let words = source.source().met().message();
-    match text_of(words.as_slice()) {
-        Some("") | None => {}
-        Some(words) => {
-            let name = called(name);
-            let _ = eprintln!(rt; "pwtool: {name}: {words}: try --crlf");
+    let returns = returns_met(matches, source.source());
+    let passed = passed_met(matches, start, source.source());
+    let returns = text_of(returns.as_slice()).unwrap_or("");
+    let passed = text_of(passed.as_slice()).unwrap_or("");
+    let name = called(name);
+    match (returns, passed) {
+        ("", "") => {}
+        (returns, "") => {
+            let _ = eprintln!(rt; "pwtool: {name}: {returns}: try --crlf");
+        }
+        ("", passed) => {
+            let _ = eprintln!(rt; "pwtool: {name}: {passed}: try --htpasswd");
+        }
+        (returns, passed) => {
+            let _ = eprintln!(rt;
+                "pwtool: {name}: {returns}: try --crlf; {passed}: try --htpasswd"
+            );
         }
     }
 }
@@ -74,6 +120,6 @@ pub fn tell_met_of_texts<R: Read + Drop>(
     source: &LdifLines<Filtered<Noticed<StdSource<Watched<'_, R>>>>>,
 ) {
     if !is_ldif(matches) {
-        tell_met(rt, matches, name, source.source());
+        tell_met(rt, matches, name, LineStart::UserOrText, source.source());
     }
 }

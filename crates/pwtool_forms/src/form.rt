@@ -3,7 +3,7 @@
 ghost use Rattle.std.specs.Prelude.{◌≡◌, ◌≢◌, ◌≤◌};
 
 use crate::bounds::{bound_of, least_of};
-use crate::brought::{brought, brought_texts, tell_met, tell_met_of_texts};
+use crate::brought::{LineStart, brought, brought_texts, tell_met, tell_met_of_texts};
 use crate::check::{check_lines, check_users};
 use crate::fault::say;
 use crate::foreign::{check_foreign, check_foreign_users, survey_foreign};
@@ -42,6 +42,15 @@ fn answer_given<S: Source, K: Sink>(
     }
 }
 
+// What the lines begin with.
+fn line_start(matches: &ArgMatches<'_>) -> LineStart {
+    if matches.get_flag("users") {
+        LineStart::UserOrText
+    } else {
+        LineStart::Password
+    }
+}
+
 /// Answers all lines that a reader gives on a writer, with or without users.
 pub fn answer<R: Read + Drop, W: Write + Drop>(
     rt: &HostRuntime,
@@ -61,7 +70,7 @@ pub fn answer<R: Read + Drop, W: Write + Drop>(
     let mut sink = StdSink::new(&mut tally);
     let status = answer_given(rt.alloc(), matches, &mut source, &mut sink);
     let status = told(rt, name, KEY, tally.fault(), status);
-    tell_met(rt, matches, name, &source);
+    tell_met(rt, matches, name, line_start(matches), &source);
     summarize(rt, reporting, tally.fault(), &tally.counts());
     judging.status(status)
 }

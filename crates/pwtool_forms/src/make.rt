@@ -91,7 +91,7 @@ fn recommended_of(rt: &HostRuntime, name: &str) -> Option<MakeCost> {
         Ok(scheme) => recommended(scheme),
         Err(NameFault::Weak) => {
             let _ = eprintln!(rt;
-                "pwtool: {name}: no text of it is made, as 1,000 rounds of MD5 are too weak"
+                "pwtool: {name}: no text of it is made, as each is weak whatever it costs"
             );
             None
         }

@@ -1,7 +1,7 @@
 //! The form `join` from its command line on: what of it reaches files and streams.
 
 use crate::bounds::bound_of;
-use crate::brought::{brought, brought_texts, tell_met, tell_met_of_texts};
+use crate::brought::{LineStart, brought, brought_texts, tell_met, tell_met_of_texts};
 use crate::fault::say;
 use crate::foreign::{join_foreign, join_foreign_fewer};
 use crate::from::foreign_of;
@@ -117,7 +117,13 @@ fn join<P: Read + Drop, T: Read + Drop>(
     };
     let status = names.told(rt, tally.fault(), end, is_no_text);
     tell_met_of_texts(rt, matches, names.texts, &texts);
-    tell_met(rt, matches, names.passwords, &passwords);
+    tell_met(
+        rt,
+        matches,
+        names.passwords,
+        LineStart::UserOrText,
+        &passwords,
+    );
     summarize(rt, reporting, tally.fault(), &tally.counts());
     judging.status(status)
 }
@@ -174,7 +180,13 @@ fn join_small(
         Err(status) => told(rt, names.texts, "the table of users", tally.fault(), status),
     };
     tell_met_of_texts(rt, matches, names.texts, &users);
-    tell_met(rt, matches, names.passwords, &passwords);
+    tell_met(
+        rt,
+        matches,
+        names.passwords,
+        LineStart::UserOrText,
+        &passwords,
+    );
     summarize(rt, reporting, tally.fault(), &tally.counts());
     judging.status(status)
 }

@@ -1,6 +1,6 @@
 //! The forms `normalize`, `wrap` and `unwrap` from their command lines on.
 
-use crate::brought::{brought, tell_met};
+use crate::brought::{LineStart, brought, tell_met};
 use crate::fault::{say, say_at};
 use crate::normalize::normalize_lines;
 use crate::progress::Watched;
@@ -29,7 +29,7 @@ fn normalize<R: Read + Drop>(
     let mut sink = StdSink::new(&mut writer);
     let status = normalize_lines(&mut source, &mut sink);
     let status = told(rt, name, "a line", writer.fault(), status);
-    tell_met(rt, matches, name, &source);
+    tell_met(rt, matches, name, LineStart::UserOrText, &source);
     status
 }
 

@@ -581,10 +581,10 @@ fn bounds_by_options(rt: HostRuntime) -> Result<(), Fail> {
 #[test]
 fn bounds_of_other_schemes(rt: HostRuntime) -> Result<(), Fail> {
     let own = SchemeCosts {
-        sha_crypt: Costs::of_rounds(999_999_999),
+        sha_crypt: Costs::of_rounds(4_294_967_295),
         bcrypt: Costs::of_cost(31),
         yescrypt: Costs::of_ln_r_t(23, 524_287, 1_024),
-        pbkdf2_sha256: Costs::of_rounds(10_000_000),
+        pbkdf2_sha256: Costs::of_rounds(4_294_967_295),
         pbkdf2_sha512: Costs::of_rounds(10_000_000),
         scrypt: Costs::of_ln_r_p(24, 131_072, 1_024),
         argon2: Costs::of_m_t_p(2_097_152, 2_097_152, 262_144),

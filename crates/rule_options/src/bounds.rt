@@ -6,7 +6,7 @@ use clap::ArgMatches;
 /// The most that each scheme takes: no valid text is above it.
 const SCHEMES_OWN: SchemeCosts = SchemeCosts {
     sha_crypt: Costs {
-        rounds: 999_999_999,
+        rounds: 4_294_967_295,
         ..NO_COSTS
     },
     bcrypt: Costs {
@@ -26,7 +26,7 @@ const SCHEMES_OWN: SchemeCosts = SchemeCosts {
         ..NO_COSTS
     },
     pbkdf2_sha256: Costs {
-        rounds: 10_000_000,
+        rounds: 4_294_967_295,
         ..NO_COSTS
     },
     pbkdf2_sha512: Costs {

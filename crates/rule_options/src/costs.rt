@@ -27,9 +27,9 @@ fn costs() -> [CostOption; 12] {
     [
         cost(
             "max-sha-rounds",
-            "SHA-crypt: rounds, 1000 to 999999999",
+            "SHA-crypt, sha1-crypt: rounds, 1000 to 4294967295",
             1_000,
-            999_999_999,
+            4_294_967_295,
         ),
         cost("max-bcrypt-cost", "bcrypt: cost, 4 to 31", 4, 31),
         cost("max-yescrypt-ln", "yescrypt: log2 of N, 2 to 23", 2, 23),
@@ -37,9 +37,9 @@ fn costs() -> [CostOption; 12] {
         cost("max-yescrypt-t", "yescrypt: t, 0 to 1024", 0, 1_024),
         cost(
             "max-pbkdf2-rounds",
-            "PBKDF2: i, 1 to 10000000",
+            "PBKDF2, SCRAM: rounds, 1 to 4294967295",
             1,
-            10_000_000,
+            4_294_967_295,
         ),
         cost(
             "max-scrypt-ln",

@@ -7,7 +7,7 @@ use Rattle.scheme_list.specs.declared.schemes.CostFamily.TheVariants as of
 use Rattle.scheme_list.specs.declared.schemes.Scheme.{Scheme}
 use Rattle.scheme_list.specs.declared.schemes.Scheme.TheVariants.{Argon2d, Argon2i, Argon2id, Bcrypt, BcryptDigest, Md5Crypt}
 use Rattle.scheme_list.specs.declared.schemes.Scheme.TheVariants.{Pbkdf2Sha256, Pbkdf2Sha512, Scrypt, ScryptCrypt, Sha256Crypt, Sha512Crypt}
-use Rattle.scheme_list.specs.declared.schemes.Scheme.TheVariants.{Yescrypt}
+use Rattle.scheme_list.specs.declared.schemes.Scheme.TheVariants.{Scram, Sha1Crypt, Yescrypt}
 
 -- ---- the table
 
@@ -76,6 +76,18 @@ digest_row = record (crypt (codes "wp") (codes "bcrypt-digest") of.Bcrypt) {
   prefixes = [];
 }
 
+-- NetBSD's: HMAC-SHA-1, which is cheap for a guesser whatever the rounds. crypt(3) has it as a method; ours answers none of its
+-- settings yet
+abbrev sha1_row : Row
+sha1_row = record (crypt (codes "sha1") (codes "sha1-crypt") of.ShaCrypt) { is_weak = true; prefixes = [] }
+
+-- SCRAM-SHA-256 (RFC 5802, RFC 7677), as PostgreSQL and Dovecot store it: the second identifier is of passwords that aren't prepared
+abbrev scram_row : Row
+scram_row = record (crypt (codes "scram-sha-256") (codes "scram-sha-256") of.Pbkdf2Sha256) {
+  identifiers = codes "scram-sha-256" ∷ codes "scram-sha-256-raw" ∷ [];
+  prefixes = [];
+}
+
 abbrev pub row_of : Scheme → Row
 row_of Md5Crypt = md5_row
 row_of Sha256Crypt = made (crypt (codes "5") (codes "sha256-crypt") of.ShaCrypt)
@@ -84,6 +96,8 @@ row_of Bcrypt = bcrypt_row
 row_of Yescrypt = made (crypt (codes "y") (codes "yescrypt") of.Yescrypt)
 row_of ScryptCrypt = crypt (codes "7") (codes "scrypt-crypt") of.Scrypt
 row_of BcryptDigest = digest_row
+row_of Sha1Crypt = sha1_row
+row_of Scram = scram_row
 row_of Scrypt = made (phc (codes "scrypt") of.Scrypt)
 row_of Pbkdf2Sha256 = made (phc (codes "pbkdf2-sha256") of.Pbkdf2Sha256)
 row_of Pbkdf2Sha512 = made (phc (codes "pbkdf2-sha512") of.Pbkdf2Sha512)
@@ -95,8 +109,8 @@ row_of Argon2id = made (phc (codes "argon2id") of.Argon2)
 
 abbrev pub schemes : List Scheme
 schemes =
-    Md5Crypt ∷ Sha256Crypt ∷ Sha512Crypt ∷ Bcrypt ∷ Yescrypt ∷ ScryptCrypt ∷ BcryptDigest ∷ Scrypt ∷ Pbkdf2Sha256
-    ∷ Pbkdf2Sha512 ∷ Argon2d ∷ Argon2i ∷ Argon2id ∷ []
+    Md5Crypt ∷ Sha256Crypt ∷ Sha512Crypt ∷ Bcrypt ∷ Yescrypt ∷ ScryptCrypt ∷ BcryptDigest ∷ Sha1Crypt ∷ Scram
+    ∷ Scrypt ∷ Pbkdf2Sha256 ∷ Pbkdf2Sha512 ∷ Argon2d ∷ Argon2i ∷ Argon2id ∷ []
 
 -- the place of a scheme among them
 abbrev pub place : Scheme → ℕ
@@ -107,12 +121,14 @@ place Bcrypt = 3
 place Yescrypt = 4
 place ScryptCrypt = 5
 place BcryptDigest = 6
-place Scrypt = 7
-place Pbkdf2Sha256 = 8
-place Pbkdf2Sha512 = 9
-place Argon2d = 10
-place Argon2i = 11
-place Argon2id = 12
+place Sha1Crypt = 7
+place Scram = 8
+place Scrypt = 9
+place Pbkdf2Sha256 = 10
+place Pbkdf2Sha512 = 11
+place Argon2d = 12
+place Argon2i = 13
+place Argon2id = 14
 
 -- ---- which scheme has an identifier, a name, or a prefix
 

@@ -18,6 +18,10 @@ pub enum Scheme {
     ScryptCrypt,
     /// bcrypt of a digest of the password: texts of passlib's `bcrypt_sha256`, of Django's, and of WordPress.
     BcryptDigest,
+    /// sha1-crypt, NetBSD's `$sha1$`.
+    Sha1Crypt,
+    /// SCRAM-SHA-256 as PostgreSQL and Dovecot store it.
+    Scram,
     /// scrypt as a record in the PHC string format.
     Scrypt,
     /// PBKDF2 with HMAC-SHA-256, as a record.
@@ -31,7 +35,7 @@ pub enum Scheme {
 }
 
 /// How many schemes there are.
-pub const SCHEME_COUNT: usize = 13;
+pub const SCHEME_COUNT: usize = 15;
 
 /// The schemes, in the order in which they are told.
 pub const SCHEMES: [Scheme; SCHEME_COUNT] = [
@@ -42,6 +46,8 @@ pub const SCHEMES: [Scheme; SCHEME_COUNT] = [
     Scheme::Yescrypt,
     Scheme::ScryptCrypt,
     Scheme::BcryptDigest,
+    Scheme::Sha1Crypt,
+    Scheme::Scram,
     Scheme::Scrypt,
     Scheme::Pbkdf2Sha256,
     Scheme::Pbkdf2Sha512,
@@ -102,6 +108,8 @@ impl Scheme {
             Scheme::Yescrypt => "yescrypt",
             Scheme::ScryptCrypt => "scrypt-crypt",
             Scheme::BcryptDigest => "bcrypt-digest",
+            Scheme::Sha1Crypt => "sha1-crypt",
+            Scheme::Scram => "scram-sha-256",
             Scheme::Scrypt => "scrypt",
             Scheme::Pbkdf2Sha256 => "pbkdf2-sha256",
             Scheme::Pbkdf2Sha512 => "pbkdf2-sha512",
@@ -117,11 +125,11 @@ impl Scheme {
     {
         match self {
             Scheme::Md5Crypt => CostFamily::Md5Crypt,
-            Scheme::Sha256Crypt | Scheme::Sha512Crypt => CostFamily::ShaCrypt,
+            Scheme::Sha256Crypt | Scheme::Sha512Crypt | Scheme::Sha1Crypt => CostFamily::ShaCrypt,
             Scheme::Bcrypt | Scheme::BcryptDigest => CostFamily::Bcrypt,
             Scheme::Yescrypt => CostFamily::Yescrypt,
             Scheme::ScryptCrypt | Scheme::Scrypt => CostFamily::Scrypt,
-            Scheme::Pbkdf2Sha256 => CostFamily::Pbkdf2Sha256,
+            Scheme::Pbkdf2Sha256 | Scheme::Scram => CostFamily::Pbkdf2Sha256,
             Scheme::Pbkdf2Sha512 => CostFamily::Pbkdf2Sha512,
             Scheme::Argon2d | Scheme::Argon2i | Scheme::Argon2id => CostFamily::Argon2,
         }
@@ -131,7 +139,7 @@ impl Scheme {
     pub fn is_weak(self) -> bool
         ensures weak { result ≡ (row_of self).is_weak }
     {
-        matches!(self, Scheme::Md5Crypt)
+        matches!(self, Scheme::Md5Crypt | Scheme::Sha1Crypt)
     }
 
     /// Whether texts of it are made of new passwords.
@@ -150,6 +158,8 @@ impl Scheme {
             Scheme::Md5Crypt
             | Scheme::ScryptCrypt
             | Scheme::BcryptDigest
+            | Scheme::Sha1Crypt
+            | Scheme::Scram
             | Scheme::Argon2d
             | Scheme::Argon2i => false,
         }
@@ -158,7 +168,7 @@ impl Scheme {
 
 // The scheme of a record's identifier.
 fn record_named(id: &str) -> Option<Scheme>
-    ensures scheme { result ≡ look_up (has_identifier id.now) (drop 7 schemes) }
+    ensures scheme { result ≡ look_up (has_identifier id.now) (drop 9 schemes) }
 {
     match id {
         "scrypt" => Some(Scheme::Scrypt),
@@ -183,6 +193,8 @@ pub fn scheme_named(id: &str) -> Option<Scheme>
         "y" => Some(Scheme::Yescrypt),
         "7" => Some(Scheme::ScryptCrypt),
         "bcrypt-sha256" | "bcrypt-sha256-hex" | "wp" => Some(Scheme::BcryptDigest),
+        "sha1" => Some(Scheme::Sha1Crypt),
+        "scram-sha-256" | "scram-sha-256-raw" => Some(Scheme::Scram),
         _ => record_named(id),
     }
 }

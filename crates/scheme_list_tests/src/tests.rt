@@ -13,7 +13,7 @@ struct Row {
 
 // A row for each scheme, in their order: an identifier of its texts, its name as `pwtool survey` tells it, the schemes whose
 // texts ask for the same numbers, and whether `pwtool make` makes texts of it.
-const ROWS: [Row; 13] = [
+const ROWS: [Row; 15] = [
     Row {
         id: "1",
         scheme: Scheme::Md5Crypt,
@@ -61,6 +61,20 @@ const ROWS: [Row; 13] = [
         scheme: Scheme::BcryptDigest,
         name: "bcrypt-digest",
         family: CostFamily::Bcrypt,
+        is_made: false,
+    },
+    Row {
+        id: "sha1",
+        scheme: Scheme::Sha1Crypt,
+        name: "sha1-crypt",
+        family: CostFamily::ShaCrypt,
+        is_made: false,
+    },
+    Row {
+        id: "scram-sha-256",
+        scheme: Scheme::Scram,
+        name: "scram-sha-256",
+        family: CostFamily::Pbkdf2Sha256,
         is_made: false,
     },
     Row {
@@ -115,7 +129,11 @@ fn a_row_for_each_scheme(rt: HostRuntime) {
         assert!(rt; scheme_of_name(row.name) == Some(row.scheme), "{}", row.id);
         assert!(rt; row.scheme.family() == row.family, "{}", row.id);
         assert!(rt; row.scheme.is_made() == row.is_made, "{}", row.id);
-        assert!(rt; row.scheme.is_weak() == (row.id == "1"), "{}", row.id);
+        assert!(rt;
+            row.scheme.is_weak() == (row.id == "1" || row.id == "sha1"),
+            "{}",
+            row.id
+        );
     }
 }
 
@@ -140,7 +158,8 @@ fn other_identifiers(rt: HostRuntime) {
     for id in ["bcrypt-sha256-hex", "wp"] {
         assert!(rt; scheme_named(id) == Some(Scheme::BcryptDigest), "{id}");
     }
-    for id in ["", "0", "3", "2c", "55", "Y", "sha1", "argon2", "scrypt "] {
+    assert!(rt; scheme_named("scram-sha-256-raw") == Some(Scheme::Scram));
+    for id in ["", "0", "3", "2c", "55", "Y", "sha2", "argon2", "scrypt "] {
         assert!(rt; scheme_named(id) == None, "{id}");
     }
 }

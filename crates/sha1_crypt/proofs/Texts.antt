@@ -1,33 +1,31 @@
 -- A valid text is the text of its parts, and such a text is read back.
-use Rattle.std.proofs.Common.{◌≡◌, ℕ, suc, ◌^◌, ◌<◌, ◌≤◌, Bool, true, false, List, [], ◌∷◌, length, map, refl, sym, ap, subst}
+use Rattle.std.proofs.Common.{◌≡◌, ℕ, suc, ◌≤◌, true, List, [], ◌∷◌, length, map, refl, sym, ap, subst}
 use Rattle.std.proofs.Common.{◌∙◌, arith, Result, Ok, Err}
-use Rattle.std.specs.Prelude.{◌==◌, ◌&&◌, codes, nat_eq, nat_le, Option, Some, None, if◌then◌else◌}
+use Rattle.std.specs.Prelude.{◌==◌, codes, nat_eq, nat_le, Option, Some, None, if◌then◌else◌}
 use Rattle.std.specs.Cmp.Lexicographic.{pointwise}
 use Rattle.std.specs.Fmt.{decimal}
 use Rattle.std.specs.List.{join_with_byte, list_all}
 use Rattle.std.proofs.lemmas.Bool.{and_parts}
 use Rattle.std.proofs.lemmas.Bool.Decides.{nat_tests}
-use Rattle.std.proofs.lemmas.Option.{none-some, same_Some}
 use Rattle.base64ct.specs.Alphabets.{base64_sha_crypt}
 use Rattle.base64ct.specs.Encoding.{EachBelow, character, encoding, groups}
 use Rattle.base64ct.proofs.DecodingLaws.{decoding_is, same_true}
 use Rattle.base64ct.proofs.Encodings.{groups-below}
 use Rattle.pieces.specs.Characters.{is_crypt_character}
 use Rattle.pieces.specs.Lists.{is_empty}
-use Rattle.pieces.specs.Numbers.{plain_number}
 use Rattle.pieces.specs.Pieces.{LacksByte, pieces_at}
 use Rattle.pieces.proofs.ByteTests.{all_append, lacks, passes_at}
 use Rattle.pieces.proofs.Cuts.{cut_joined, join_pieces, lacks_none}
 use Rattle.pieces.proofs.FaultLaws.{err_ok, where_so}
 use Rattle.pieces.proofs.ListLaws.{nil_of_empty}
-use Rattle.pieces.proofs.PlainNumbers as of_number
+use Rattle.plain_rounds.specs.Rounds.{rounds_of}
+use Rattle.plain_rounds.proofs.Decimals.{IsRounds, rounds_are, rounds_lack_dollar, rounds_read}
 use Rattle.sha_crypt.specs.HashField.{field_bytes, hash_field, in_order, of_length}
-use Rattle.sha_crypt.proofs.Decimals.{decimal_lacks}
 use Rattle.sha_crypt.proofs.HashFields.{below_map}
 use Rattle.sha1_crypt.specs.Check.{AreValid, text_of}
 use Rattle.sha1_crypt.specs.Field.{IsSha1FieldOf, map_sha1, placed_digest, sha1_field, with_first}
 use Rattle.sha1_crypt.specs.Text.{Fields, Parts, by_bytes, by_digest, by_hash, by_rounds, by_salt, from_front, from_identifier}
-use Rattle.sha1_crypt.specs.Text.{has_salt_length, parts_of, rounds_from, rounds_of, split_fields, text_fields, text_parts}
+use Rattle.sha1_crypt.specs.Text.{has_salt_length, parts_of, split_fields, text_fields, text_parts}
 use Rattle.sha1_crypt.specs.declared.error.Sha1Fault.{Sha1Fault}
 use Rattle.sha1_crypt.specs.declared.error.Sha1Fault.TheVariants.{NoDollar, WrongId, NoRounds, NoSalt, NoHash, Trailing}
 use Rattle.sha1_crypt.specs.declared.error.Sha1Fault.TheVariants.{Rounds, SaltLength, SaltCharacter}
@@ -67,29 +65,6 @@ text_joins : (text : List ℕ) (f : Fields) → text_fields text ≡ Ok f
     → join_with_byte 36 ([] ∷ (codes "sha1" ∷ pieces_of f)) ≡ text
 unfolding text_fields
 text_joins text f e = ap (join_with_byte 36) (sym (of_front (pieces_at 36 text) f e)) ∙ join_pieces 36 text
-
--- ---- the rounds
-
-record IsRounds (text : List ℕ) (n : ℕ) : Type 0 where
-  least : 1 ≤ n
-  most : n < 2 ^ 32
-  is : decimal n ≡ text
-
-not_zero : (t : Bool) (m n : ℕ) → (m == 0) ≡ t → (if t then None else Some m) ≡ Some n → (1 ≤ m) × (m ≡ n)
-not_zero true m n is e = absurd (none-some n e)
-not_zero false m n is e = (grind (arith, nat_tests, is), same_Some m n e)
-
-rounds_is : (text : List ℕ) (o : Option ℕ) (n : ℕ) → plain_number (2 ^ 32) text ≡ o → rounds_from o ≡ Some n → IsRounds text n
-rounds_is text None n is e = absurd (none-some n e)
-rounds_is text (Some m) n is e =
-    let some = not_zero (m == 0) m n refl e in
-    let found = of_number.found (2 ^ 32) text m is in
-    let back : decimal m ≡ text = of_number.decimal_back (2 ^ 32) text m (omega arith) is in
-    record {
-      least = omega (arith, some.0, some.1);
-      most = omega (arith, found.below, some.1);
-      is = ap decimal (sym some.1) ∙ back;
-    }
 
 -- ---- the salt and the hash
 
@@ -148,7 +123,7 @@ of_rounds : (text : List ℕ) (f : Fields) (o : Option ℕ) (p : Parts) → text
     → by_rounds o f.salt f.hash ≡ Ok p → IsTextOf text p
 of_rounds text f None p read is e = absurd (err_ok Rounds p e)
 of_rounds text f (Some n) p read is e =
-    of_salt text f n p read (rounds_is f.rounds (plain_number (2 ^ 32) f.rounds) n refl is) e
+    of_salt text f n p read (rounds_are f.rounds n is) e
 
 by_text : (text : List ℕ) (r : Result Fields Sha1Fault) (p : Parts) → text_fields text ≡ r → parts_of r ≡ Ok p
     → IsTextOf text p
@@ -160,11 +135,6 @@ unfolding text_parts
 is_text_of text p h = by_text text (text_fields text) p refl h
 
 -- ---- a text is read back
-
-rounds_read : (n : ℕ) → 1 ≤ n → n < 2 ^ 32 → rounds_of (decimal n) ≡ Some n
-rounds_read n least most =
-    let other : (n == 0) ≡ false = grind (arith, nat_tests, least) in
-    rw (of_number.decimal_read (2 ^ 32) n (omega arith) most, other) refl
 
 values_of : (values : List ℕ) → EachBelow 64 values
     → list_all is_crypt_character (map (character base64_sha_crypt) values) ≡ true
@@ -226,7 +196,7 @@ pub text_read : (rounds : ℕ) (salt digest : List ℕ) → AreValid rounds salt
     → text_parts (text_of rounds salt digest) ≡ Ok (read_parts rounds salt digest)
 unfolding text_parts
 text_read rounds salt digest valid long below =
-    let cut = fields_read (decimal rounds) salt (sha1_field digest) (decimal_lacks rounds (omega (arith, valid.most)))
+    let cut = fields_read (decimal rounds) salt (sha1_field digest) (rounds_lack_dollar rounds valid.most)
     (without_dollar salt valid.characters) (sha1_field_lacks digest below) in
     ap parts_of cut
     ∙ ap (λ (o : Option ℕ). by_rounds o salt (sha1_field digest)) (rounds_read rounds valid.least valid.most)

@@ -6,14 +6,14 @@
 -- a salt above 64 characters are none here. passlib takes three kinds of texts more: those with an empty salt, those whose rounds
 -- have a sign, a blank or a `_` that Python's int takes, and those whose last group writes another byte than the first. The
 -- last kind matches no password there.
-use Rattle.std.specs.Prelude.{ℕ, ◌^◌, ◌==◌, ◌&&◌, Bool, List, [], ◌∷◌, length, nat_eq, nat_le, codes}
+use Rattle.std.specs.Prelude.{ℕ, ◌==◌, ◌&&◌, Bool, List, [], ◌∷◌, length, nat_eq, nat_le, codes}
 use Rattle.std.specs.Prelude.{Option, Some, None, Result, Ok, Err, if◌then◌else◌}
 use Rattle.std.specs.Cmp.Lexicographic.{pointwise}
 use Rattle.std.specs.List.{list_all}
 use Rattle.pieces.specs.Characters.{dollar, is_crypt_character}
 use Rattle.pieces.specs.Lists.{is_empty}
-use Rattle.pieces.specs.Numbers.{plain_number}
 use Rattle.pieces.specs.Pieces.{pieces_at}
+use Rattle.plain_rounds.specs.Rounds.{rounds_of}
 use Rattle.sha_crypt.specs.HashField.{field_bytes}
 use Rattle.sha1_crypt.specs.Field.{placed_digest}
 use Rattle.sha1_crypt.specs.declared.error.Sha1Fault.{Sha1Fault}
@@ -52,14 +52,6 @@ unfoldable pub text_fields : List ℕ → Result Fields Sha1Fault
 text_fields text = from_front (pieces_at dollar text)
 
 -- ---- what they mean
-
--- the rounds that a text writes plainly: 1 to 2 ^ 32 - 1
-abbrev pub rounds_from : Option ℕ → Option ℕ
-rounds_from None = None
-rounds_from (Some n) = if n == 0 then None else Some n
-
-abbrev pub rounds_of : List ℕ → Option ℕ
-rounds_of text = rounds_from (plain_number (2 ^ 32) text)
 
 -- a salt has 1 to 64 characters
 abbrev pub has_salt_length : List ℕ → Bool

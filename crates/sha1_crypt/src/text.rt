@@ -1,19 +1,17 @@
 //! The parts of a text.
 
-ghost use Rattle.std.specs.Prelude.{◌≡◌, ◌≤◌, ◌<◌, ◌+◌, ◌^◌, ◌&&◌, IfOk, IfSome, OnOk, length};
-ghost use Rattle.std.specs.Char.{is_ascii_digit};
-ghost use Rattle.std.specs.List.{list_all};
+ghost use Rattle.std.specs.Prelude.{◌≡◌, ◌≤◌, ◌<◌, ◌+◌, ◌^◌, ◌&&◌, IfOk, OnOk, length};
 ghost use Rattle.pieces.specs.Characters.{dollar};
-ghost use Rattle.pieces.specs.Numbers.{is_plain_number, plain_number};
 ghost use Rattle.pieces.specs.Pieces.{pieces_at, pieces_left};
-ghost use Rattle.sha1_crypt.specs.Text.{by_hash, by_salt, from_identifier, has_salt_length, rounds_of, split_fields, text_fields, text_parts};
+ghost use Rattle.sha1_crypt.specs.Text.{by_hash, by_salt, from_identifier, has_salt_length, split_fields, text_fields, text_parts};
 ghost use Rattle.sha1_crypt.specs.Views.{as_fields, as_parts};
 
 use crate::Sha1Fault;
 use crate::field::{counted_bytes, placed_digest};
 use base64ct::Counts;
 use pieces::characters::are_crypt_characters;
-use pieces::{begins_with, first_piece, is_end};
+use pieces::{first_piece, is_end};
+use plain_rounds::rounds_of;
 
 /// The texts of the rounds, of a salt and of a hash.
 #[derive(Clone, Copy, Debug)]
@@ -70,44 +68,6 @@ fn text_fields(text: &str) -> Result<Sha1Fields<'_>, Sha1Fault>
         return Err(Sha1Fault::WrongId);
     }
     split_fields(pieces)
-}
-
-fn has_digits(bytes: &[u8]) -> bool
-    ensures { result ≡ list_all is_ascii_digit bytes.now }
-{
-    bytes.iter().all(|b| b.is_ascii_digit())
-}
-
-// Whether a text is one digit or more, without a zero in front.
-fn is_plain_number(text: &str) -> bool
-    ensures { result ≡ is_plain_number text.now }
-{
-    has_digits(text.as_bytes()) && !(1 < text.len() && begins_with(text, "0")) && !text.is_empty()
-}
-
-// The number below 2^32 that a text writes plainly.
-fn plain_number(text: &str) -> Option<u32>
-    ensures { result ≡ plain_number (2 ^ 32) text.now }
-{
-    if !is_plain_number(text) {
-        return None;
-    }
-    match text.parse::<u32>() {
-        Ok(number) => Some(number),
-        Err(_) => None,
-    }
-}
-
-// The rounds that a text writes.
-fn rounds_of(text: &str) -> Option<u32>
-    ensures rounds { result ≡ rounds_of text.now }
-    ensures least { IfSome result (λ n. 1 ≤ n) }
-{
-    match plain_number(text) {
-        Some(0) => None,
-        Some(rounds) => Some(rounds),
-        None => None,
-    }
 }
 
 // Whether a salt has as many bytes as it may.

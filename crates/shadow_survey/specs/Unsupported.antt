@@ -26,7 +26,6 @@ row of.Descrypt = form (codes "descrypt") (codes "unsupported-des-crypt")
 row of.Bsdicrypt = form (codes "bsdicrypt") (codes "_")
 row of.Nt = form (codes "nt") (codes "$3$")
 row of.Sunmd5 = form (codes "sunmd5") (codes "$md5")
-row of.Sha1crypt = form (codes "sha1crypt") (codes "$sha1")
 row of.GostYescrypt = form (codes "gost-yescrypt") (codes "$gy$")
 row of.Sm3crypt = form (codes "sm3crypt") (codes "$sm3$")
 row of.Sm3Yescrypt = form (codes "sm3-yescrypt") (codes "$sm3y$")
@@ -56,7 +55,7 @@ row of.Unknown = form (codes "clear text or unknown") []
 
 abbrev pub forms : List UnsupportedForm
 forms =
-    of.Descrypt ∷ of.Bsdicrypt ∷ of.Nt ∷ of.Sunmd5 ∷ of.Sha1crypt ∷ of.GostYescrypt ∷ of.Sm3crypt ∷ of.Sm3Yescrypt
+    of.Descrypt ∷ of.Bsdicrypt ∷ of.Nt ∷ of.Sunmd5 ∷ of.GostYescrypt ∷ of.Sm3crypt ∷ of.Sm3Yescrypt
     ∷ of.Phpass ∷ of.Pbkdf2Sha1 ∷ of.Scram ∷ of.LdapSha ∷ of.LdapSsha ∷ of.LdapMd5 ∷ of.LdapSmd5 ∷ of.Ldap ∷ of.Sha1 ∷ of.Md5 ∷ of.Sha2 ∷ of.ClearText ∷ of.Another ∷ of.Faulty ∷ of.MysqlNative
     ∷ of.Unknown ∷ []
 
@@ -66,26 +65,25 @@ place of.Descrypt = 0
 place of.Bsdicrypt = 1
 place of.Nt = 2
 place of.Sunmd5 = 3
-place of.Sha1crypt = 4
-place of.GostYescrypt = 5
-place of.Sm3crypt = 6
-place of.Sm3Yescrypt = 7
-place of.Phpass = 8
-place of.Pbkdf2Sha1 = 9
-place of.Scram = 10
-place of.LdapSha = 11
-place of.LdapSsha = 12
-place of.LdapMd5 = 13
-place of.LdapSmd5 = 14
-place of.Ldap = 15
-place of.Sha1 = 16
-place of.Md5 = 17
-place of.Sha2 = 18
-place of.ClearText = 19
-place of.Another = 20
-place of.Faulty = 21
-place of.MysqlNative = 22
-place of.Unknown = 23
+place of.GostYescrypt = 4
+place of.Sm3crypt = 5
+place of.Sm3Yescrypt = 6
+place of.Phpass = 7
+place of.Pbkdf2Sha1 = 8
+place of.Scram = 9
+place of.LdapSha = 10
+place of.LdapSsha = 11
+place of.LdapMd5 = 12
+place of.LdapSmd5 = 13
+place of.Ldap = 14
+place of.Sha1 = 15
+place of.Md5 = 16
+place of.Sha2 = 17
+place of.ClearText = 18
+place of.Another = 19
+place of.Faulty = 20
+place of.MysqlNative = 21
+place of.Unknown = 22
 
 -- ---- which form a text has
 

@@ -1,6 +1,7 @@
 //! The lines of a survey, and how many of each judgement there are.
 
-ghost use Rattle.std.specs.Prelude.{◌≡◌, ◌≢◌, ◌≤◌, ◌<◌, ◌^◌, ◌++◌, ◌∷◌, ◌&&◌, [], List, ℕ, decimal, false, true, length, replicate, IfNone, IfSome};
+ghost use Rattle.std.specs.Prelude.{◌≡◌, ◌≢◌, ◌≤◌, ◌<◌, ◌^◌, ◌++◌, ◌∷◌, ◌&&◌, [], List, ℕ, decimal, false, true, length, replicate, slice_index, take, IfNone, IfSome};
+ghost use Rattle.pieces.specs.Places.{LacksBelow};
 ghost use Rattle.std.specs.List.{list_all};
 ghost use Rattle.std.specs.Str.{is_utf8};
 ghost use Rattle.line_io.specs.Output.{Puts};
@@ -14,7 +15,7 @@ use crate::cells::Format;
 use crate::counts::Counts;
 use crate::judgement::{Judgement, judged};
 use crate::least::LeastCosts;
-use crate::rows::{are_plain, is_good, put_counts, put_front, put_row};
+use crate::rows::{are_plain, is_good, is_plain, put_counts, put_front, put_row};
 use line_io::{OutputBuffer, Sink, Source};
 use line_program::{Ending, Responder, run_ended};
 use pieces::text::text_of;
@@ -45,8 +46,36 @@ fn is_name(text: &[u8], all_plain: bool) -> bool
     }
 }
 
-// The user and the text of a line, and whether each form shows the user's bytes as they are; none where it has no user.
-fn user_and_text(line: &[u8]) -> Option<(&[u8], bool, &[u8])>
+// The place of the first colon of a line, where each form shows each byte before it as it is; none else.
+fn plain_colon(line: &[u8]) -> Option<usize>
+    ensures place { IfSome result (λ at. (at < length line.now) × LacksBelow 58 line.now at × (slice_index line.now at ≡ 58)
+        × (list_all is_plain (take at line.now) ≡ true)) }
+{
+    let mut i = 0;
+    while i < line.len() {
+        let b = line[i];
+        if b == b':' {
+            return Some(i);
+        }
+        if !is_plain(b) {
+            return None;
+        }
+        i += 1;
+    }
+    None
+}
+
+// The user and the text of a line whose user each form shows as it is; none of another line.
+fn plain_user_and_text(line: &[u8]) -> Option<(&[u8], &[u8])>
+    ensures some { IfSome result (λ found. (least : LeastCosts) → surveyed least line.now ≡ (found.0.now, judged least found.1.now)) }
+    ensures plain { IfSome result (λ found. list_all is_plain found.0.now ≡ true) }
+{
+    let at = plain_colon(line)?;
+    Some((&line[..at], cut_field(&line[at + 1..])))
+}
+
+// The same of any line, and whether each form shows the user as it is; none where it has no user.
+fn any_user_and_text(line: &[u8]) -> Option<(&[u8], bool, &[u8])>
     ensures some { IfSome result (λ found. (least : LeastCosts) → surveyed least line.now ≡ (found.0.now, judged least found.2.now)) }
     ensures plain { IfSome result (λ found. found.1 ≡ list_all is_plain found.0.now) }
     ensures none { IfNone result ((least : LeastCosts) → surveyed least line.now ≡ ([], Judgement.BadLine)) }
@@ -57,6 +86,19 @@ fn user_and_text(line: &[u8]) -> Option<(&[u8], bool, &[u8])>
         Some((user, all_plain, cut_field(rest)))
     } else {
         None
+    }
+}
+
+// The user and the text of a line, and whether each form shows the user as it is; none where it has no user. Most users are
+// seen to be plain in one step with the search of the colon.
+fn user_and_text(line: &[u8]) -> Option<(&[u8], bool, &[u8])>
+    ensures some { IfSome result (λ found. (least : LeastCosts) → surveyed least line.now ≡ (found.0.now, judged least found.2.now)) }
+    ensures plain { IfSome result (λ found. found.1 ≡ list_all is_plain found.0.now) }
+    ensures none { IfNone result ((least : LeastCosts) → surveyed least line.now ≡ ([], Judgement.BadLine)) }
+{
+    match plain_user_and_text(line) {
+        Some((user, text)) => Some((user, true, text)),
+        None => any_user_and_text(line),
     }
 }
 

@@ -4,13 +4,14 @@ ghost use Rattle.std.specs.Prelude.{◌≡◌, ◌<◌, ◌+◌, ◌*◌, ◌/�
 ghost use Rattle.std.specs.List.{list_all};
 ghost use Rattle.line_io.specs.Output.{Puts};
 ghost use Rattle.scheme_list.specs.Schemes.{row_of};
-ghost use Rattle.shadow_survey.specs.Cells.{cost_cell, costs_in, judgement_cell, name_text, numbers_text, scheme_cell};
+ghost use Rattle.shadow_survey.specs.Cells.{cost_cell, costs_in, judgement_cell, name_text, numbers_text, scheme_cell, weakness_text};
 ghost use Rattle.shadow_survey.specs.Unsupported.{row};
 ghost use Rattle.shadow_survey.specs.Rows.{apostrophe, control, counts_text, csv_row, front_text, header_text, hexadecimal, is_control, is_good, is_plain, json_row, plain, row_text, shown, shown_after, shown_text, tabs_row, weak_end};
 
-use crate::cells::{Format, numbers_text, quoted_name, weakness_text};
+use crate::cells::{Cell, Format, push_numbers, push_weakness, quoted_name};
 use crate::counts::{Counts, put_totals};
 use crate::judgement::Judgement;
+use crate::least::Weakness;
 use crate::unsupported::UnsupportedForm;
 use any_check::{Scheme, TextCosts};
 use line_io::{OutputBuffer, Sink};
@@ -141,7 +142,8 @@ const PLAIN: [bool; 256] = [
     false, false, false, false, false, false,
 ];
 
-fn is_plain(b: u8) -> bool
+/// Whether each form shows a byte as it is.
+pub(crate) fn is_plain(b: u8) -> bool
     ensures { result ≡ is_plain b }
 {
     PLAIN[b as usize]
@@ -220,10 +222,9 @@ fn put_numbers<K: Sink>(format: Format, text: &TextCosts, out: &mut OutputBuffer
     ensures puts { Puts (K.written sink.old) (K.written sink.new) (K.faults sink.old) (K.faults sink.new) out.old out.new
         (numbers_text format (row_of text.now.scheme).family text.now.costs) }
 {
-    out.put(
-        sink,
-        numbers_text(format, text.scheme.family(), &text.costs).as_slice(),
-    );
+    let mut cell = Cell::new();
+    push_numbers(&mut cell, format, text.scheme.family(), &text.costs);
+    out.put(sink, cell.as_slice());
 }
 
 // Puts a judgement's costs.
@@ -247,6 +248,16 @@ fn put_unsupported<K: Sink>(form: UnsupportedForm, out: &mut OutputBuffer, sink:
     out.put(sink, form.name().as_bytes());
 }
 
+// Puts what is weak of a text.
+fn put_weakness<K: Sink>(what: Weakness, text: &TextCosts, out: &mut OutputBuffer, sink: &mut K)
+    ensures puts { Puts (K.written sink.old) (K.written sink.new) (K.faults sink.old) (K.faults sink.new) out.old out.new
+        (weakness_text what text.now) }
+{
+    let mut cell = Cell::new();
+    push_weakness(&mut cell, what, text);
+    out.put(sink, cell.as_slice());
+}
+
 // Puts a judgement in words.
 fn put_words<K: Sink>(judgement: &Judgement, out: &mut OutputBuffer, sink: &mut K)
     ensures puts { Puts (K.written sink.old) (K.written sink.new) (K.faults sink.old) (K.faults sink.new) out.old out.new
@@ -260,7 +271,7 @@ fn put_words<K: Sink>(judgement: &Judgement, out: &mut OutputBuffer, sink: &mut 
         Judgement::Unsupported(form) => put_unsupported(*form, out, sink),
         Judgement::Invalid => out.put(sink, b"invalid"),
         Judgement::Strong(_) => out.put(sink, b"ok"),
-        Judgement::Weak(text, what) => out.put(sink, weakness_text(*what, text).as_slice()),
+        Judgement::Weak(text, what) => put_weakness(*what, text, out, sink),
     }
 }
 

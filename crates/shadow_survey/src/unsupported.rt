@@ -18,8 +18,6 @@ pub enum UnsupportedForm {
     Nt,
     /// Sun's MD5, `$md5` (crypt(5)).
     Sunmd5,
-    /// PBKDF1 with SHA-1, `$sha1` (crypt(5)).
-    Sha1crypt,
     /// yescrypt with GOST's hash, `$gy$` (crypt(5)).
     GostYescrypt,
     /// SHA-crypt's form with SM3, `$sm3$` (crypt(5)).
@@ -61,7 +59,7 @@ pub enum UnsupportedForm {
 }
 
 /// How many forms there are.
-pub(crate) const FORM_COUNT: usize = 24;
+pub(crate) const FORM_COUNT: usize = 23;
 
 // The forms, in the order in which they are tried and told.
 const FORMS: [UnsupportedForm; FORM_COUNT] = [
@@ -69,7 +67,6 @@ const FORMS: [UnsupportedForm; FORM_COUNT] = [
     UnsupportedForm::Bsdicrypt,
     UnsupportedForm::Nt,
     UnsupportedForm::Sunmd5,
-    UnsupportedForm::Sha1crypt,
     UnsupportedForm::GostYescrypt,
     UnsupportedForm::Sm3crypt,
     UnsupportedForm::Sm3Yescrypt,
@@ -141,7 +138,6 @@ impl UnsupportedForm {
             UnsupportedForm::Bsdicrypt => ("bsdicrypt", "_", "_"),
             UnsupportedForm::Nt => ("nt", "$3$", "$3$"),
             UnsupportedForm::Sunmd5 => ("sunmd5", "$md5", "$md5"),
-            UnsupportedForm::Sha1crypt => ("sha1crypt", "$sha1", "$sha1"),
             UnsupportedForm::GostYescrypt => ("gost-yescrypt", "$gy$", "$gy$"),
             UnsupportedForm::Sm3crypt => ("sm3crypt", "$sm3$", "$sm3$"),
             UnsupportedForm::Sm3Yescrypt => ("sm3-yescrypt", "$sm3y$", "$sm3y$"),

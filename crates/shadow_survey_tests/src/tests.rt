@@ -21,7 +21,7 @@ const LEAST: LeastCosts = LeastCosts {
 };
 
 // Texts of other programs, as any_check's tests have them, with their row behind the user.
-const ROWS: [(&str, &str); 31] = [
+const ROWS: [(&str, &str); 37] = [
     (
         "$1$abcdefgh$cHJi5PXp/ki/ktXzqlk6I1",
         "md5-crypt\t-\tweak: md5-crypt",
@@ -67,6 +67,30 @@ const ROWS: [(&str, &str); 31] = [
         "bcrypt-digest\tcost=5\tok",
     ),
     ("$wp$2y$10$x", "-\t-\tinvalid"),
+    (
+        "$sha1$19$abcdefgh$nl4bYNUkvp1kTppWm6kb5cqPQqNG",
+        "sha1-crypt\trounds=19\tweak: sha1-crypt",
+    ),
+    (
+        "$sha1$4294967295$a$nl4bYNUkvp1kTppWm6kb5cqPQqNG",
+        "sha1-crypt\trounds=4294967295\tweak: sha1-crypt",
+    ),
+    (
+        "$sha1$4294967296$a$nl4bYNUkvp1kTppWm6kb5cqPQqNG",
+        "-\t-\tinvalid",
+    ),
+    (
+        "$scram-sha-256$999$c2FsdHNhbHRzYWx0$yKryWWaEJIQZh+JLbGHI0L6CiAe9Z/A045jMaYLvY5Q=$m68IZJjNEbv8HGR356PYAHysNh90ZvhvCDdy6qKIKYw=",
+        "scram-sha-256\trounds=999\tweak: 999 rounds",
+    ),
+    (
+        "$scram-sha-256-raw$1000$c2FsdHNhbHRzYWx0$RdX4ARLvYgtG49yrH5Ad+1cSP6sX3ne7wcvyE05dWd8=$nqZeGYnz3lpZ+Z9cF+fW31+zlAed1+TSM+lgpSCnf7Q=",
+        "scram-sha-256\trounds=1000\tok",
+    ),
+    (
+        "$scram-sha-256$4294967296$c2FsdHNhbHRzYWx0$yKryWWaEJIQZh+JLbGHI0L6CiAe9Z/A045jMaYLvY5Q=$m68IZJjNEbv8HGR356PYAHysNh90ZvhvCDdy6qKIKYw=",
+        "-\t-\tinvalid",
+    ),
     (
         "$scrypt$ln=4,r=8,p=1$c2FsdHNhbHRzYWx0$09/untC+3Bg44eiJQ8bqhTXgE2ali+ykLaojkJZlF9U",
         "scrypt\tln=4,r=8,p=1\tweak: p=1 over 16 KiB",
@@ -284,7 +308,7 @@ fn numbers_as_numbers(rt: HostRuntime) -> Result<(), Fail> {
 
 // Texts of `secret` that libxcrypt 4.4.33 (`crypt`), passlib 1.7.4 and phpass' form of it make, and shapes of those that
 // neither makes, with their form.
-const FORMS: [(&str, UnsupportedForm, &str); 32] = [
+const FORMS: [(&str, UnsupportedForm, &str); 31] = [
     (
         "*14E65567ABDB5135D0CFD9A70B3032C179A49EE7",
         UnsupportedForm::MysqlNative,
@@ -316,11 +340,6 @@ const FORMS: [(&str, UnsupportedForm, &str); 32] = [
         "$md5,rounds=5000$salt$$lkvEZR4zhmpUWLWgqfd7a0",
         UnsupportedForm::Sunmd5,
         "sunmd5",
-    ),
-    (
-        "$sha1$1000$salt$8jAzD0wdO9Nt9BiOxLRcu50VwbnD",
-        UnsupportedForm::Sha1crypt,
-        "sha1crypt",
     ),
     (
         "$gy$j75$0123456789ab$mC3YjagUyvzAJ5CA/Fp0nFqQHGoO82aZKIXoVvjQaT9",

@@ -1,11 +1,12 @@
 -- What an upgrade that says `upgraded` leaves.
 use Rattle.std.proofs.Common.{◌≡◌, ◌⊎◌, inl, inr, ℕ, zero, suc, ◌≤◌, Bool, true, false, List, length, refl, sym, ap, arith, subst}
-use Rattle.std.specs.Prelude.{◌||◌, IfOk, is_ok, is_some, nat_le, nat_lt, not, Option, Some, None, Result, Ok, Err, if◌then◌else◌}
+use Rattle.std.specs.Prelude.{◌&&◌, ◌||◌, IfOk, is_ok, is_some, nat_le, nat_lt, not, Option, Some, None, Result, Ok, Err, if◌then◌else◌}
 use Rattle.std.proofs.lemmas.Bool.{and_parts, or_parts, false≢true}
 use Rattle.std.proofs.lemmas.Bool.Decides.{nat_tests}
 use Rattle.phc.specs.declared.error.Error as phc_error
 use Rattle.std.specs.Str.{IsUtf8}
 use Rattle.pieces.specs.Faults.{unless}
+use Rattle.scheme_list.specs.Schemes.{row_of}
 use Rattle.any_make.specs.Made.{made}
 use Rattle.any_check.specs.Cost.{is_costly, verdict_within}
 use Rattle.any_check.specs.Given.{given_verdict}
@@ -36,20 +37,27 @@ no_fewer : (new old : ℕ) → is_fewer new old ≡ false → (new ≡ 0) ⊎ (o
 no_fewer zero old h = inl refl
 no_fewer (suc n) old h = inr (grind (arith, nat_tests, h))
 
+-- what counts only where something isn't weak
+unless_weak : (weak t : Bool) → not weak && t ≡ false → weak ≡ false → t ≡ false
+unless_weak false t h is = h
+unless_weak true t h is = absurd (false≢true (sym is))
+
 no_weaker : (new old : TextCosts) → is_weaker new old ≡ false → IsNoWeaker old new
 no_weaker new old h =
     let memory = nat_lt (costs_memory new) (costs_memory old) in
     let work = nat_lt (costs_work new) (costs_work old) in
     let a = or_parts (memory || work) (has_less new old) h in
     let b = or_parts memory work a.0 in
-    let c = or_parts (is_fewer new.costs.rounds old.costs.rounds) (is_fewer new.costs.cost old.costs.cost) a.1 in
+    let rounds = is_fewer new.costs.rounds old.costs.rounds in
+    let cost = is_fewer new.costs.cost old.costs.cost in
+    let less = unless_weak (row_of old.scheme).is_weak (rounds || cost) a.1 in
     let first = b.0 in
     let second = b.1 in
     record {
       memory = grind (arith, nat_tests, first);
       work = grind (arith, nat_tests, second);
-      rounds = no_fewer new.costs.rounds old.costs.rounds c.0;
-      cost = no_fewer new.costs.cost old.costs.cost c.1;
+      rounds = λ strong. no_fewer new.costs.rounds old.costs.rounds (or_parts rounds cost (less strong)).0;
+      cost = λ strong. no_fewer new.costs.cost old.costs.cost (or_parts rounds cost (less strong)).1;
     }
 
 -- ---- texts with a verdict

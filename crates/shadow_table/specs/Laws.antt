@@ -8,19 +8,20 @@ use Rattle.any_check.specs.declared.kinds.TextKind.TheVariants.{Valid}
 use Rattle.any_check.specs.declared.numbers.SchemeCosts.{SchemeCosts}
 use Rattle.any_check.specs.declared.numbers.TextCosts.{TextCosts}
 use Rattle.pw_file.specs.Answers.{check_answer, upgrade_answer}
-use Rattle.std.specs.Prelude.{Some, true}
+use Rattle.std.specs.Prelude.{Some, false, true}
+use Rattle.scheme_list.specs.Schemes.{row_of}
 use Rattle.shadow_table.specs.AnyTexts.{any_texts}
 use Rattle.shadow_table.specs.Rules.{is_too_costly}
 use Rattle.shadow_table.specs.Strength.{costs_memory, costs_work}
 use Rattle.shadow_table.specs.declared.rules.TableRules.{TableRules}
 
 -- what a text asked for, and what the text in its place asks for: no less memory and no less work; and where both ask for rounds or
--- for a cost, no fewer and no lower
+-- for a cost, and the old one isn't weak by its scheme, no fewer and no lower
 pub record IsNoWeaker (old fresh : TextCosts) : Type 0 where
   pub memory : costs_memory old ≤ costs_memory fresh
   pub work : costs_work old ≤ costs_work fresh
-  pub rounds : (fresh.costs.rounds ≡ 0) ⊎ (old.costs.rounds ≤ fresh.costs.rounds)
-  pub cost : (fresh.costs.cost ≡ 0) ⊎ (old.costs.cost ≤ fresh.costs.cost)
+  pub rounds : (row_of old.scheme).is_weak ≡ false → (fresh.costs.rounds ≡ 0) ⊎ (old.costs.rounds ≤ fresh.costs.rounds)
+  pub cost : (row_of old.scheme).is_weak ≡ false → (fresh.costs.cost ≡ 0) ⊎ (old.costs.cost ≤ fresh.costs.cost)
 
 -- An upgrade that puts a fresh text in the place of a user's was asked for by a password that matched the old text. What both texts
 -- ask for is known: the fresh one is no weaker. A check of the password by the fresh text is a match.

@@ -31,11 +31,14 @@ costs_work text = family_work (row_of text.scheme).family text.costs
 abbrev pub is_fewer : ℕ → ℕ → Bool
 is_fewer new old = nat_lt 0 new && nat_lt new old
 
--- the same of their rounds or costs: the numbers of schemes that take no memory
+-- The same of their rounds or costs: the numbers of schemes that take no memory. Those of an old text whose scheme is weak by itself
+-- don't count.
 abbrev pub has_less : TextCosts → TextCosts → Bool
-has_less new old = is_fewer new.costs.rounds old.costs.rounds || is_fewer new.costs.cost old.costs.cost
+has_less new old =
+    not (row_of old.scheme).is_weak
+    && (is_fewer new.costs.rounds old.costs.rounds || is_fewer new.costs.cost old.costs.cost)
 
--- the first has less memory or less work than the second, or fewer rounds or a lower cost
+-- the first has less memory or less work than the second, or fewer rounds or a lower cost than one that isn't weak by its scheme
 abbrev pub is_weaker : TextCosts → TextCosts → Bool
 is_weaker new old =
     nat_lt (costs_memory new) (costs_memory old) || nat_lt (costs_work new) (costs_work old) || has_less new old

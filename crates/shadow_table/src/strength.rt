@@ -38,11 +38,13 @@ fn is_fewer(new: u64, old: u64) -> bool
     0 < new && new < old
 }
 
-// The same of rounds or costs.
+// The same of rounds or costs, where the old text isn't weak by its scheme.
 fn has_less(new: &TextCosts, old: &TextCosts) -> bool
     ensures { result ≡ has_less new.now old.now }
 {
-    is_fewer(new.costs.rounds, old.costs.rounds) || is_fewer(new.costs.cost, old.costs.cost)
+    !old.scheme.is_weak()
+        && (is_fewer(new.costs.rounds, old.costs.rounds)
+            || is_fewer(new.costs.cost, old.costs.cost))
 }
 
 // Whether the first has less memory or less work than the second, or fewer rounds or a lower cost.

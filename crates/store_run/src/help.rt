@@ -13,7 +13,8 @@ The commands, a line each, with one tab between their parts:
   remove USER                 the user is taken away
   list                        each user with its text, as the command that sets it
 A user is a name of 1 to 64 bytes of UTF-8 without control characters and colons, a text one of
-a shadow or htpasswd file. A salt is 16 bytes in Base64 without padding, 22 characters.
+a shadow or htpasswd file. A salt is 16 bytes in Base64 without padding, 22 characters; with
+--upgrade-to sha256-crypt or sha512-crypt it is 12 bytes, 16 characters.
 The replies are ok, match, mismatch, upgraded, kept, a listing, or a word for what is refused;
 pwstore(1) has them all.
 

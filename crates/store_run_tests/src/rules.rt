@@ -5,7 +5,7 @@ ghost use Rattle.std.specs.Prelude.{◌≡◌};
 
 use crate::helpers::{EMPTY, NONE_FAILS, opened_by};
 use any_check::{Costs, NO_COSTS, SchemeCosts};
-use any_make::MakeCost;
+use any_make::{MakeCost, Pbkdf2Hash};
 use line_io::{MemorySink, MemorySource};
 use shadow_table::{PLAIN_RULES, TableRuled, TableRules, laws};
 use std::alloc::{AllocError, Global};
@@ -49,6 +49,10 @@ const SCRYPT_ZERO: &str =
 // What an upgrade of `secret` makes with the salt `saltsaltsaltsalt`.
 const FRESH: &str =
     "$scrypt$ln=6,r=8,p=1$c2FsdHNhbHRzYWx0c2FsdA$xOzFsbpSI1fB3hBh4zAO2h/Sl2gsByfo5K2wIEPSQoM";
+
+// The same with 18 rounds of PBKDF2.
+const OF_PBKDF2: &str =
+    "$pbkdf2-sha256$i=18,l=32$c2FsdHNhbHRzYWx0c2FsdA$l+7FIFHD/vw8Ajqcv56Q+m6Ez07n8HqjDDrQzqpGOU0";
 
 // Rules by which upgrades make a scrypt text of 64 KiB.
 fn to_scrypt() -> TableRules {
@@ -132,6 +136,40 @@ fn upgrades_never_weaken(rt: HostRuntime) {
             "of {text}"
         );
         assert!(rt; parts.next() == Some("match"), "of {text}");
+        let row = parts.next().unwrap_or("");
+        assert!(rt; row.strip_prefix("set\tann\t") == Some(after), "of {text}");
+    }
+}
+
+// More rounds than the fresh text's, of a scheme that isn't weak by itself and of one that is.
+const ROUNDS: [(&str, &str); 2] = [
+    (
+        "$5$rounds=1500$abcdefgh$qXUmNmbLEOn5YPWvewYoPCAAHp5vzLn73xcpCUC256C",
+        "kept",
+    ),
+    ("$sha1$19$abcdefgh$nl4bYNUkvp1kTppWm6kb5cqPQqNG", "upgraded"),
+];
+
+#[test]
+fn rounds_of_a_weak_scheme_do_not_count(rt: HostRuntime) {
+    let rules = TableRules {
+        upgrade_to: MakeCost::Pbkdf2(Pbkdf2Hash::Sha256, 18),
+        ..PLAIN_RULES
+    };
+    for (text, word) in ROUNDS {
+        let Ok(lines) = joined(rt.alloc(), SET_ANN, text, UPGRADE) else {
+            panic!(rt; "memory is wanting")
+        };
+        let Ok(found) = replies(rt.alloc(), &rules, lines.as_str(), 0) else {
+            panic!(rt; "memory is wanting")
+        };
+        let mut parts = found.as_str().lines();
+        assert!(rt;
+            parts.next() == Some("ok") && parts.next() == Some(word),
+            "of {text}"
+        );
+        assert!(rt; parts.next() == Some("match"), "of {text}");
+        let after = if word == "kept" { text } else { OF_PBKDF2 };
         let row = parts.next().unwrap_or("");
         assert!(rt; row.strip_prefix("set\tann\t") == Some(after), "of {text}");
     }

@@ -50,17 +50,25 @@ const KEYS: [(u32, u32, u32, [u8; 32]); 6] = [
     ),
 ];
 
+fn keys_of_numbers() -> &'static [(u32, u32, u32, [u8; 32])] {
+    &KEYS
+}
+
 const PASSWORD: &[u8] = b"pleaseletmein";
 
 const SALT: &[u8] = b"\xb8\x19\xe7\xb8\x19\xe7";
 
 #[test]
 fn keys(rt: HostRuntime) -> Result<(), Fail> {
-    for (ln, r, t, key) in KEYS {
-        let params = YescryptParams { ln, r, t };
+    for (ln, r, t, key) in keys_of_numbers() {
+        let params = YescryptParams {
+            ln: *ln,
+            r: *r,
+            t: *t,
+        };
         assert!(rt; in_bounds(params), "{ln} {r} {t}");
         let key_found = yescrypt(rt.alloc(), PASSWORD, SALT, params)?;
-        assert!(rt; key_found == key, "{ln} {r} {t}");
+        assert!(rt; key_found == *key, "{ln} {r} {t}");
     }
     Ok(())
 }
@@ -70,11 +78,15 @@ fn keys(rt: HostRuntime) -> Result<(), Fail> {
 #[test]
 fn takes_9_for_keys_in_kept_tables(rt: HostRuntime) -> Result<(), Fail> {
     let kept = CryptKept::new(rt.alloc());
-    for (ln, r, t, key) in KEYS {
-        let params = YescryptParams { ln, r, t };
+    for (ln, r, t, key) in keys_of_numbers() {
+        let params = YescryptParams {
+            ln: *ln,
+            r: *r,
+            t: *t,
+        };
         assert!(rt; in_bounds(params), "{ln} {r} {t}");
         let key_found = kept.yescrypt(rt.alloc(), PASSWORD, SALT, params)?;
-        assert!(rt; key_found == key, "{ln} {r} {t}");
+        assert!(rt; key_found == *key, "{ln} {r} {t}");
     }
     Ok(())
 }
@@ -82,7 +94,7 @@ fn takes_9_for_keys_in_kept_tables(rt: HostRuntime) -> Result<(), Fail> {
 // Two requests, as bench/refused_memory.py tells: what is refused is not asked for again.
 #[test]
 fn takes_2_for_a_key(rt: HostRuntime) -> Result<(), Fail> {
-    let found = yescrypt_check(rt.alloc(), "", YESCRYPT[1].1);
+    let found = yescrypt_check(rt.alloc(), "", yescrypt_of_nothing());
     if found == Err(CheckError::OutOfMemory) {
         return Err("want of memory".into());
     }
@@ -116,7 +128,7 @@ fn takes_0_before_the_text_is_read(rt: HostRuntime) {
         panic!(rt; "letters are text")
     };
     assert!(rt;
-        yescrypt_check(rt.alloc(), long, YESCRYPT[1].1) == Err(CheckError::PasswordTooLong)
+        yescrypt_check(rt.alloc(), long, yescrypt_of_nothing()) == Err(CheckError::PasswordTooLong)
     );
     assert!(rt; scrypt_check(rt.alloc(), long, SCRYPT[1].1) == Err(CheckError::PasswordTooLong));
     assert!(rt;
@@ -189,10 +201,19 @@ const YESCRYPT: [(&str, &str); 10] = [
     ),
 ];
 
+fn yescrypt_rows() -> &'static [(&'static str, &'static str)] {
+    &YESCRYPT
+}
+
+// The text of no password.
+fn yescrypt_of_nothing() -> &'static str {
+    YESCRYPT[1].1
+}
+
 #[test]
 fn yescrypt_texts(rt: HostRuntime) -> Result<(), Fail> {
     let kept = CryptKept::new(rt.alloc());
-    for (password, stored) in YESCRYPT {
+    for (password, stored) in yescrypt_rows() {
         let found = yescrypt_check(rt.alloc(), password, stored);
         assert!(rt; found == Ok(()), "{stored}");
         let found = yescrypt_check(rt.alloc(), "another", stored);
@@ -220,10 +241,14 @@ const SCRYPT: [(&str, &str); 3] = [
     ),
 ];
 
+fn scrypt_rows() -> &'static [(&'static str, &'static str)] {
+    &SCRYPT
+}
+
 #[test]
 fn scrypt_texts(rt: HostRuntime) -> Result<(), Fail> {
     let kept = CryptKept::new(rt.alloc());
-    for (password, stored) in SCRYPT {
+    for (password, stored) in scrypt_rows() {
         let found = scrypt_check(rt.alloc(), password, stored);
         assert!(rt; found == Ok(()), "{stored}");
         let found = scrypt_check(rt.alloc(), "another", stored);
@@ -336,11 +361,15 @@ const YESCRYPT_FAULTS: [(&str, TextFault); 27] = [
     ),
 ];
 
+fn yescrypt_fault_rows() -> &'static [(&'static str, TextFault)] {
+    &YESCRYPT_FAULTS
+}
+
 #[test]
 fn yescrypt_faults(rt: HostRuntime) -> Result<(), Fail> {
-    for (stored, fault) in YESCRYPT_FAULTS {
+    for (stored, fault) in yescrypt_fault_rows() {
         let found = yescrypt_check(rt.alloc(), "pw", stored);
-        assert!(rt; found == Err(CheckError::InvalidFormat(fault)), "{stored}");
+        assert!(rt; found == Err(CheckError::InvalidFormat(*fault)), "{stored}");
     }
     Ok(())
 }
@@ -398,11 +427,15 @@ const SCRYPT_FAULTS: [(&str, TextFault); 14] = [
     ),
 ];
 
+fn scrypt_fault_rows() -> &'static [(&'static str, TextFault)] {
+    &SCRYPT_FAULTS
+}
+
 #[test]
 fn scrypt_faults(rt: HostRuntime) -> Result<(), Fail> {
-    for (stored, fault) in SCRYPT_FAULTS {
+    for (stored, fault) in scrypt_fault_rows() {
         let found = scrypt_check(rt.alloc(), "pw", stored);
-        assert!(rt; found == Err(CheckError::InvalidFormat(fault)), "{stored}");
+        assert!(rt; found == Err(CheckError::InvalidFormat(*fault)), "{stored}");
     }
     Ok(())
 }
@@ -414,11 +447,11 @@ fn long_passwords(rt: HostRuntime) -> Result<(), Fail> {
     let Ok(long) = str::from_utf8(bytes.as_slice()) else {
         return Ok(assert!(rt; false));
     };
-    for (_, stored) in YESCRYPT {
+    for (_, stored) in yescrypt_rows() {
         let found = yescrypt_check(rt.alloc(), long, stored);
         assert!(rt; found == Err(CheckError::PasswordTooLong), "{stored}");
     }
-    let found = yescrypt_check(rt.alloc(), &long[1..], YESCRYPT[1].1);
+    let found = yescrypt_check(rt.alloc(), &long[1..], yescrypt_of_nothing());
     assert!(rt; found == Err(CheckError::HashMismatch));
     let found = scrypt_check(rt.alloc(), long, SCRYPT[1].1);
     assert!(rt; found == Err(CheckError::PasswordTooLong));
@@ -541,8 +574,8 @@ fn costs(rt: HostRuntime) {
         yescrypt_costs("$y$j2.//$./$id/pr9M1.HIRSLIKXB/WJRDDnOU3bUkk089O.c4L1C/")
             == Ok(YescryptParams { ln: 5, r: 1, t: 2 })
     );
-    for (stored, fault) in YESCRYPT_FAULTS {
-        assert!(rt; yescrypt_costs(stored) == Err(fault), "{stored}");
+    for (stored, fault) in yescrypt_fault_rows() {
+        assert!(rt; yescrypt_costs(stored) == Err(*fault), "{stored}");
     }
 }
 
@@ -552,7 +585,7 @@ fn costs_of_scrypt(rt: HostRuntime) {
         scrypt_costs("$7$41....0....SodiumChloride$i79Z2Io0yuEUnAEV0Z2t4r.guoEXBFEWthY/nUn9u//")
             == Ok(ScryptParams { ln: 6, r: 3, p: 2 })
     );
-    for (stored, fault) in SCRYPT_FAULTS {
-        assert!(rt; scrypt_costs(stored) == Err(fault), "{stored}");
+    for (stored, fault) in scrypt_fault_rows() {
+        assert!(rt; scrypt_costs(stored) == Err(*fault), "{stored}");
     }
 }

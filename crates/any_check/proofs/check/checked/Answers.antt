@@ -1,6 +1,8 @@
-use Rattle.std.proofs.Common.{rules, ◌≡◌, true, Some, ap, inl, inr}
+use Rattle.std.proofs.Common.{rules, ◌≡◌, ◌∙◌, ℕ, List, true, Some, ap, inl, inr}
 use Rattle.sha_crypt.specs.declared.errors.Family.TheVariants.{Sha256, Sha512}
-use Rattle.any_check.specs.Table.{is_record, of_bcrypt_check, of_scrypt_check, of_yescrypt_check}
+use Rattle.scram_plain.specs.Check.{scram_answer}
+use Rattle.sha1_crypt.specs.Check.{sha1_answer}
+use Rattle.any_check.specs.Table.{is_record, of_bcrypt_check, of_scram, of_scrypt_check, of_sha1, of_yescrypt_check}
 use Rattle.any_check.proofs.Rows.{record_row, sha_row}
 use Rattle.any_check.proofs.check.checked.Goals as goal
 
@@ -30,6 +32,18 @@ returns-in-ScryptCrypt g c =
 pub returns-in-BcryptDigest : goal.returns-in-BcryptDigest
 returns-in-BcryptDigest g c =
     rw (c.in-BcryptDigest.is, c.of_bcrypt_check-in-BcryptDigest.ensures) (inl (ap of_bcrypt_check c.digest_check.ensures.answer))
+
+pub returns-in-Sha1Crypt : goal.returns-in-Sha1Crypt
+returns-in-Sha1Crypt g c =
+    rw (c.in-Sha1Crypt.is, c.of_sha1.ensures)
+    (inl (ap of_sha1
+    (c.sha1_check.ensures.answer ∙ ap (λ (p : List ℕ). sha1_answer p c.args.stored.now) c.as_bytes.ensures.value)))
+
+pub returns-in-Scram : goal.returns-in-Scram
+returns-in-Scram g c =
+    rw (c.in-Scram.is, c.of_scram.ensures)
+    (inl (ap of_scram
+    (c.scram_check.ensures.answer ∙ ap (λ (p : List ℕ). scram_answer p c.args.stored.now) c.as_bytes-in-Scram.ensures.value)))
 
 pub returns-in-Sha256Crypt : goal.returns-in-Sha256Crypt
 returns-in-Sha256Crypt g c = elim c.in-Sha256Crypt.is [

@@ -1,0 +1,32 @@
+-- The text of SCRAM: how long a field is, and how the text is put together.
+use Rattle.std.proofs.Common.{◌≡◌, ℕ, ◌+◌, ◌*◌, ◌/◌, ◌≤◌, ◌<◌, ◌⊎◌, List, ◌∷◌, ◌++◌, length, ◌∙◌, arith, inl, inr, append_assoc}
+use Rattle.std.specs.Prelude.{codes}
+use Rattle.std.specs.Fmt.{decimal}
+use Rattle.base64ct.specs.Alphabets.{base64}
+use Rattle.base64ct.specs.Encoding.{EachBelow, encoding, longest_input}
+use Rattle.base64ct.proofs.Padding.{length-encoding}
+use Rattle.scram_plain.specs.Text.{identifier}
+use Rattle.scram_plain.specs.declared.preparation.Preparation.{Preparation}
+use Rattle.scram_plain.specs.declared.preparation.Preparation.TheVariants.{Raw, SaslPrep}
+use Rattle.foreign_text.specs.Scram.{scram_text}
+
+pub field_fits : (bytes : List ℕ) (n : ℕ) → EachBelow 256 bytes → length bytes ≤ 48 → (length bytes + 2) / 3 * 4 ≤ n
+    → ((longest_input < length bytes) ⊎ (n < length (encoding base64 bytes))) → ⊥
+field_fits bytes n below few room (inl long) = omega (arith, long, few)
+field_fits bytes n below few room (inr short) =
+    let size = length-encoding base64 bytes below in omega (arith, size, short, few, room)
+
+apart : (a b c d e : List ℕ) → (((a ++ b) ++ c) ++ d) ++ e ≡ a ++ (b ++ (c ++ (d ++ e)))
+apart a b c d e = append_assoc ((a ++ b) ++ c) d e ∙ append_assoc (a ++ b) c (d ++ e) ∙ append_assoc a b (c ++ (d ++ e))
+
+pub joined : (p : Preparation) (rounds : ℕ) (salt stored server : List ℕ)
+    → ((((36 ∷ (identifier p ++ codes "$")) ++ decimal rounds) ++ 36 ∷ encoding base64 salt) ++ 36 ∷ encoding base64 stored)
+    ++ 36 ∷ encoding base64 server
+    ≡ scram_text p rounds salt stored server
+unfolding scram_text
+joined SaslPrep rounds salt stored server =
+    apart (codes "$scram-sha-256$") (decimal rounds) (36 ∷ encoding base64 salt) (36 ∷ encoding base64 stored)
+    (36 ∷ encoding base64 server)
+joined Raw rounds salt stored server =
+    apart (codes "$scram-sha-256-raw$") (decimal rounds) (36 ∷ encoding base64 salt) (36 ∷ encoding base64 stored)
+    (36 ∷ encoding base64 server)
