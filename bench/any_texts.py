@@ -177,10 +177,10 @@ def of_passlib():
         return
     rows = [("md5_crypt", {}, VERDICT), ("apr_md5_crypt", {}, VERDICT), ("sha256_crypt", {"rounds": 1000}, VERDICT),
             ("sha512_crypt", {"rounds": 5000}, VERDICT), ("bcrypt", {"rounds": 5}, VERDICT), ("bcrypt_sha256", {"rounds": 5}, VERDICT),
-            ("bcrypt_sha256", {"rounds": 4, "version": 1}, VERDICT), ("scrypt", {"rounds": 6}, VERDICT),
+            ("bcrypt_sha256", {"rounds": 4, "version": 1}, VERDICT), ("sha1_crypt", {"rounds": 1000}, VERDICT), ("scrypt", {"rounds": 6}, VERDICT),
             ("pbkdf2_sha256", {"rounds": 1000}, "phc-salt-short"), ("pbkdf2_sha512", {"rounds": 1000}, "phc-salt-short")]
     rows += [(name, {}, NO_SCHEME) for name in (
-        "des_crypt", "bsdi_crypt", "bigcrypt", "sun_md5_crypt", "sha1_crypt", "phpass", "nthash", "bsd_nthash", "ldap_sha1",
+        "des_crypt", "bsdi_crypt", "bigcrypt", "sun_md5_crypt", "phpass", "nthash", "bsd_nthash", "ldap_sha1",
         "ldap_salted_sha1", "ldap_md5", "pbkdf2_sha1", "cta_pbkdf2_sha1", "grub_pbkdf2_sha512",
         "django_pbkdf2_sha256", "fshp", "mysql41", "hex_sha256", "unix_disabled")]
     for name, settings, wanted in rows:
@@ -244,6 +244,9 @@ def costs(text):
     found = re.match(r"\$[56]\$(?:rounds=(\d+)\$)?", text)
     if found:
         return {"--max-sha-rounds": int(found[1] or 5000)}
+    found = re.match(r"\$sha1\$(\d+)\$", text)
+    if found:
+        return {"--max-sha-rounds": int(found[1])}
     found = re.match(r"\$2[aby]\$(\d\d)\$", text)
     if found:
         return {"--max-bcrypt-cost": int(found[1])}

@@ -1,5 +1,5 @@
 #!/usr/bin/env python3
-"""Asks `pwtool --from` about texts of twelve makers: those of their own programs (corpus/maker_texts.tsv), and the same with damage.
+"""Asks `pwtool --from` about texts of thirteen makers: those of their own programs (corpus/maker_texts.tsv), and the same with damage.
 
 Each text that is read gets `match` for its password and `mismatch` for another by `check`, `match` by `join`, and its scheme by `survey`;
 each other one gets the word of its first fault as makers.py, a transcription in Python, has it. Then 1,000 damaged texts of each maker:
@@ -37,7 +37,7 @@ BOUNDS = ["--max-pbkdf2-rounds", "2000", "--max-scrypt-ln", "10", "--max-scrypt-
 
 # Identifiers that are read. passlib keeps others too, `$P$` and `$scram$`: such a text is kept as it is, and has no scheme here.
 READ = {"1", "5", "6", "7", "2a", "2b", "2y", "bcrypt-sha256", "bcrypt-sha256-hex", "wp", "y", "scrypt", "argon2i", "argon2d", "argon2id", "pbkdf2-sha256",
-        "pbkdf2-sha512"}
+        "pbkdf2-sha512", "sha1", "scram-sha-256", "scram-sha-256-raw"}
 
 
 def ask(words, lines):
@@ -65,9 +65,11 @@ def vectors(count, faults):
             scheme = answer.split("$")[1] if kind == "text" else None
             if kind == "text" and scheme not in READ:
                 scheme, answer = None, "no-scheme"
-            wanted += ["match", "mismatch"] if scheme in READ else [answer]
+            # PostgreSQL prepares a password that isn't ASCII, which isn't done here.
+            verdicts = ("not-ascii", "not-ascii") if scheme == "scram-sha-256" and not password.isascii() else ("match", "mismatch")
+            wanted += verdicts if scheme in READ else [answer]
             lines += [password + b"\t" + text.encode(), b"~" + password + b"\t" + text.encode()] if scheme in READ else [password + b"\t" + text.encode()]
-            told.append((password, text, scheme, answer))
+            told.append((password, text, scheme, verdicts[0] if scheme in READ else answer))
         compare(maker, "check", lines, wanted, ask(["check", "--quiet", "--from", maker], lines), count, faults)
         users = [f"user{at}" for at in range(len(told))]
         with tempfile.TemporaryDirectory() as folder:
@@ -75,12 +77,12 @@ def vectors(count, faults):
             with open(passwords, "wb") as file:
                 file.write(b"".join(user.encode() + b":" + password + b"\n" for user, (password, *_) in zip(users, told)))
             texts = [f"{user}:{text}".encode() for user, (_, text, *_) in zip(users, told)]
-            wanted = [f"{user}\t{'locked' if text[:1] in '!*' else 'match' if scheme in READ else answer}"
+            wanted = [f"{user}\t{'locked' if text[:1] in '!*' else answer}"
                       for user, (_, text, scheme, answer) in zip(users, told)]
             compare(maker, "join", texts, wanted, ask(["join", "--quiet", "--from", maker, "-", passwords], texts), count, faults)
         got = [row[1] for row in csv.reader(ask(["survey", "--quiet", "--csv", "--from", maker], texts))][1:]
         names = {"1": "md5-crypt", "5": "sha256-crypt", "6": "sha512-crypt", "2a": "bcrypt", "2b": "bcrypt", "2y": "bcrypt",
-                 "bcrypt-sha256": "bcrypt-digest", "bcrypt-sha256-hex": "bcrypt-digest", "wp": "bcrypt-digest", "y": "yescrypt", None: ""}
+                 "bcrypt-sha256": "bcrypt-digest", "bcrypt-sha256-hex": "bcrypt-digest", "wp": "bcrypt-digest", "y": "yescrypt", "sha1": "sha1-crypt", "scram-sha-256-raw": "scram-sha-256", None: ""}
         compare(maker, "survey", texts, [names.get(scheme, scheme) for _, _, scheme, _ in told], got, count, faults)
 
 

@@ -209,6 +209,32 @@ def elasticsearch(text):
     return digest(text)
 
 
+def read_as(field, word):
+    try:
+        return padded(field)
+    except Fault:
+        raise Fault(word) from None
+
+
+def scram(identifier, rounds, salt, stored, server):
+    need(number(rounds, "foreign-rounds") > 0, "foreign-rounds")
+    salt = read_as(salt, "foreign-salt")
+    need(1 <= len(salt) <= 48, "foreign-salt-length")
+    keys = [read_as(key, "foreign-hash") for key in (stored, server)]
+    need(all(len(key) == 32 for key in keys), "foreign-hash-length")
+    return "$".join(["", identifier, rounds, *(base64.b64encode(part).decode() for part in (salt, *keys))])
+
+
+def postgres(text):
+    if (rest := after(text, "SCRAM-SHA-256$")) is not None:
+        cost, keys = cut(rest, "$", 2)
+        rounds, salt = cut(cost, ":", 2)
+        return scram("scram-sha-256", rounds, salt, *cut(keys, ":", 2))
+    need(not text.startswith("md5"), "unsupported-md5")
+    need(text.startswith("$"), "unsupported-scheme")
+    return text
+
+
 DOVECOT = {"SHA512-CRYPT": "$6$", "SHA256-CRYPT": "$5$", "MD5-CRYPT": "$1$", "BLF-CRYPT": "$2", "ARGON2I": "$argon2i$", "ARGON2ID": "$argon2id$"}
 
 
@@ -218,7 +244,9 @@ def dovecot(text):
             return as_it_is(rest, sign)
     if (rest := tagged(text, "CRYPT")) is not None:
         return crypts(rest)
-    for word, tags in (("scram", ("SCRAM-SHA-256", "SCRAM-SHA-1")), ("des-crypt", ("DES-CRYPT",)), ("cleartext", ("PLAIN", "CLEAR", "PLAIN-TRUNC")),
+    if (rest := tagged(text, "SCRAM-SHA-256")) is not None:
+        return scram("scram-sha-256-raw", *cut(rest, ",", 4))
+    for word, tags in (("scram", ("SCRAM-SHA-1",)), ("des-crypt", ("DES-CRYPT",)), ("cleartext", ("PLAIN", "CLEAR", "PLAIN-TRUNC")),
                        ("md5", ("PLAIN-MD5", "LDAP-MD5", "CRAM-MD5", "HMAC-MD5", "DIGEST-MD5"))):
         need(tagged(text, *tags) is None, "unsupported-" + word)
     return digest(text)
@@ -295,7 +323,7 @@ def grub(text):
     return record(pbkdf2("sha512", rounds), salt, small_or_capital, key, small_or_capital)
 
 
-MAKERS = {maker.__name__: maker for maker in (django, werkzeug, passlib, ldap, elasticsearch, dovecot, spring, aspnet, cisco, mosquitto, mediawiki, grub)}
+MAKERS = {maker.__name__: maker for maker in (django, werkzeug, passlib, ldap, elasticsearch, dovecot, spring, aspnet, cisco, mosquitto, mediawiki, grub, postgres)}
 OWN_DOLLAR = ("passlib", "cisco", "mosquitto")
 
 

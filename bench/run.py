@@ -58,6 +58,7 @@ ROWS = [Row(*row) for row in (
     ("made_texts.py", "compare", "rt", 3, None, "texts of SHA-crypt and scrypt, asked of others"),
     ("maker_texts.py", "compare", "", 2, None, "texts of 21 makers, asked of `pwtool --from`, and damaged ones by their first fault"),
     ("normal_texts.py", "compare", "", 1, None, "`pwcheck normalize` beside its definition"),
+    ("scram.py", "compare", "pg_ctlcluster", 1, None, "the definitions of SCRAM in Python beside a server of PostgreSQL"),
     ("sha1_crypt.py", "compare", "", 1, None, "the definitions of sha1-crypt in Python beside libxcrypt and passlib"),
     ("welch.py", "compare", "gcc", 5, None, "the time of coders and comparisons on two classes of bytes"),
     ("wrapped_texts.py", "compare", "", 1, "1 20", "`wrapstream unwrap` beside its definition"),

@@ -103,6 +103,9 @@ static const struct any_row {
     {"$1$abcdefgh$cHJi5PXp/ki/ktXzqlk6I1", PWCHECK_MISMATCH, 12, 0},
     {"$5$rounds=1500$abcdefgh$qXUmNmbLEOn5YPWvewYoPCAAHp5vzLn73xcpCUC256C", PWCHECK_MISMATCH, 0, 1499},
     {"$2b$04$abcdefghijklmnopqrstuu2r9OfJnfCsdneAXAGHnS4UpFFP8WIrW", PWCHECK_MISMATCH, 1, 3},
+    {"$sha1$19$abcdefgh$nl4bYNUkvp1kTppWm6kb5cqPQqNG", PWCHECK_MISMATCH, 0, 18},
+    {"$scram-sha-256$19$c2FsdHNhbHRzYWx0$yKryWWaEJIQZh+JLbGHI0L6CiAe9Z/A045j"
+     "MaYLvY5Q=$m68IZJjNEbv8HGR356PYAHysNh90ZvhvCDdy6qKIKYw=", PWCHECK_MISMATCH, 5, 18},
     {"$pbkdf2-sha256$i=1000,l=32$c2FsdHNhbHRzYWx0$sVaWem31qy3rw+Ldi3plA/XzhMSNi9/XHnnD1Ytj05o", PWCHECK_MISMATCH, 5, 999},
     {"$pbkdf2-sha512$i=1000,l=64$c2FsdHNhbHRzYWx0$bePzWo/796SGZ2lB"
      "KpZcU2FQhQXnjiEADnvU8yLzaxu1BwlSR076rTWeGRrvgBz757DxNPmtAZpVls5xSi9daw",
@@ -115,6 +118,12 @@ static const struct any_row {
     {"$2x$04$abcdefghijklmnopqrstuu2r9OfJnfCsdneAXAGHnS4UpFFP8WIrW", PWCHECK_BCRYPT_OBSOLETE, 12, 0},
     {"$y$j75$0123456789ab", PWCHECK_YESCRYPT_FORMAT, 12, 0},
     {"$7$4/..../....SodiumChloride", PWCHECK_SCRYPT_FORMAT, 12, 0},
+    {"$sha1$0$salt$x", PWCHECK_SHA1_COST, 12, 0},
+    {"$sha1$19$abcdefgh$nl4bYNUkvp1kTppWm6kb5cqPQqN-", PWCHECK_SHA1_B64, 12, 0},
+    {"$sha1$19$abcdefgh", PWCHECK_SHA1_FORMAT, 12, 0},
+    {"$scram-sha-256$0$c2FsdA==$x$x", PWCHECK_SCRAM_COST, 12, 0},
+    {"$scram-sha-256$19$c2FsdA$x$x", PWCHECK_SCRAM_B64, 12, 0},
+    {"$scram-sha-256$19$c2FsdA==", PWCHECK_SCRAM_FORMAT, 12, 0},
 };
 
 /* The limits of a program that was compiled with a shorter or a longer struct, in memory of exactly that size. */
@@ -459,7 +468,7 @@ static void words(void)
     int32_t count = 0; /* of answers: after the first number without a word, none has one */
     uint8_t none;
     while (pwcheck_word(count, &none, 0)) count++;
-    NEED(count > PWCHECK_ZERO_BYTE);
+    NEED(count > PWCHECK_NOT_ASCII);
     for (int32_t k = -5; k < 300; k++)
         for (size_t n = 0; n <= PWCHECK_WORD_SIZE; n++) {
             uint8_t *out = room(n);

@@ -114,6 +114,8 @@ MAKERS = [
     ("mediawiki", f":pbkdf2:sha512:1000:64:{padded(b'saltsalt')}:{padded(pbkdf2('sha512', b'secret', 1000))}", "pbkdf2-sha512", "rounds=1000"),
     ("mediawiki", f":pbkdf2:sha256:1000:32:{padded(b'saltsalt')}:{padded(pbkdf2('sha256', b'secret', 1000))}", "pbkdf2-sha256", "rounds=1000"),
     ("grub", f"grub.pbkdf2.sha512.1000.{b'saltsalt'.hex().upper()}.{pbkdf2('sha512', b'secret', 1000).hex().upper()}", "pbkdf2-sha512", "rounds=1000"),
+    ("postgres", "SCRAM-SHA-256$4096:KKuwZV6QTiARVwYpYRdEYA==$mzeyc9wh1vO3fszeKs/ZRrWSBYkiSD6EsahtoLJMark=:ARZ3AEQM7sKRkXahGQ6nE9PZKKhYG/fuFpDLcFlPaO4=", "scram-sha-256", "rounds=4096"),
+    ("dovecot", "{SCRAM-SHA-256}4096,eT2ALwn9J59lS3e95d5cLA==,j/FIwttGABb6lm2Kv4iqJL899KAtCC0OrWnpsjzb6Pg=,MTJUwcrMkj9kd8P1ZtdphHl8Zd/6MgTytFkP1bRsy94=", "scram-sha-256", "rounds=4096"),
 ]
 
 # Texts that aren't converted, and the words.
@@ -122,7 +124,8 @@ REFUSED = [
     ("django", "bcrypt_sha256$$2b$04$x", "foreign-form"), ("werkzeug", "pbkdf2:sha1:1$saltsalt$00", "unsupported-pbkdf2-sha1"),
     ("werkzeug", "scrypt$saltsalt$00", "foreign-form"), ("ldap", "{PBKDF2}1$c2FsdHNhbHQ$x", "unsupported-pbkdf2-sha1"),
     ("elasticsearch", "{PBKDF2_STRETCH}1$x$y", "unsupported-scheme"), ("dovecot", "{SHA512-CRYPT.HEX}24", "unsupported-scheme"),
-    ("dovecot", "{SCRAM-SHA-256}4096,x,y,z", "unsupported-scram"), ("spring", "{pbkdf2}00", "unsupported-pbkdf2-sha1"),
+    ("dovecot", "{SCRAM-SHA-1}4096,x,y,z", "unsupported-scram"), ("dovecot", "{SCRAM-SHA-256}4096,x,y,z", "foreign-salt"),
+    ("postgres", "SCRAM-SHA-256$4096:c2FsdA==", "foreign-form"), ("postgres", "md5a3556571e93b0d20722ba62be61e8c2d", "unsupported-md5"), ("spring", "{pbkdf2}00", "unsupported-pbkdf2-sha1"),
     ("aspnet", "AAAA", "unsupported-pbkdf2-sha1"), ("cisco", "$8$short$short", "foreign-form"), ("mosquitto", "$6$x$y", "unsupported-sha2"),
     ("mediawiki", f":pbkdf2:sha512:1:64:{padded(b'saltsalt')}:{padded(bytes(32))}", "foreign-hash-length"),
     ("grub", "grub.pbkdf2.sha512.1." + "00" * 64 + ".00", "foreign-salt-length"),
@@ -130,12 +133,13 @@ REFUSED = [
 
 ARGON2ID_16 = "$argon2id$v=19$m=16,t=2,p=2$c2FsdHNhbHQ$cYIhcX/yw9+Fe/LRiNi1ZfO+iCwlvV9r7DJCySU9t5M"
 YESCRYPT_T = "$y$j51/.$Pho4B8xrvPqs2jN78cthf.$MazTksSjZ2bYrNS7y2f2IFAh67IlkliYGHXrIJU/KE2"
+SHA1_1001 = "$sha1$1001$abcdefgh$JsPQDjLVlZTj1P/EQe/58nGhl7Zb"
 BCRYPT_5 = "$2b$05$abcdefghijklmnopqrstuuOQiyCxlgf/oeuTqixKmWdcYUh4Hjl0a"
 
 # An option of `check` and `join`, the number of a text and the text: the number itself is allowed, one below is too-costly. The least
 # number that an option takes has no row.
 BOUNDS = [
-    ("--max-sha-rounds", 1500, SHA256_1500), ("--max-sha-rounds", 5000, SHA512), ("--max-bcrypt-cost", 5, BCRYPT_5),
+    ("--max-sha-rounds", 1500, SHA256_1500), ("--max-sha-rounds", 5000, SHA512), ("--max-sha-rounds", 1001, SHA1_1001), ("--max-bcrypt-cost", 5, BCRYPT_5),
     ("--max-yescrypt-ln", 10, YESCRYPT), ("--max-yescrypt-r", 8, YESCRYPT), ("--max-yescrypt-t", 1, YESCRYPT_T),
     ("--max-pbkdf2-rounds", 1000, PBKDF2_SHA256), ("--max-pbkdf2-rounds", 999, PBKDF2_SHA512),
     ("--max-scrypt-ln", 4, SCRYPT), ("--max-scrypt-r", 8, SCRYPT), ("--max-scrypt-p", 2, SCRYPT), ("--max-scrypt-ln", 6, SCRYPT_CRYPT),
@@ -175,7 +179,6 @@ EQUAL_ARGON2 = [(47104, 1), (19456, 2), (12288, 3), (9216, 4), (7168, 5)]
 UNSUPPORTED = [
     ("abNANd1rDfiNc", "descrypt"), ("q7R9hlXwfgnuE", "descrypt"), ("_J9..saltLXKE4peqNCg", "bsdicrypt"), ("_N...Fqh7PJqM0RZJtI6", "bsdicrypt"),
     ("$3$$878d8014606cda29677a44efa1353fc7", "nt"), ("$md5,rounds=5000$salt$$lkvEZR4zhmpUWLWgqfd7a0", "sunmd5"),
-    ("$sha1$1000$salt$8jAzD0wdO9Nt9BiOxLRcu50VwbnD", "sha1crypt"),
     ("$gy$j75$0123456789ab$mC3YjagUyvzAJ5CA/Fp0nFqQHGoO82aZKIXoVvjQaT9", "gost-yescrypt"),
     ("$sm3$salt$x", "sm3crypt"), ("$sm3y$j9T$salt$x", "sm3-yescrypt"),
     ("$P$6XoURWQxCkhkHhRVPCpro.6nTk2alE/", "phpass"), ("$H$6IWVjS43Lh/tjrTLy3sQt1i7cKhnE4/", "phpass"),
@@ -238,7 +241,7 @@ class Tool:
 def scheme_of(text):
     """The scheme for which an option bounds a text."""
     name = text.split("$")[1]
-    return {"1": "md5", "apr1": "md5", "5": "sha", "6": "sha", "7": "scrypt"}.get(name) or name[:6].rstrip("aby")
+    return {"1": "md5", "apr1": "md5", "5": "sha", "6": "sha", "sha1": "sha", "7": "scrypt"}.get(name) or name[:6].rstrip("aby")
 
 
 def checks(tool):
@@ -366,6 +369,20 @@ def brought(tool):
     tool.case(["check", "--crlf"], lines, "badline\nbadline\nmatch\nmismatch\nmatch\n", 1)
     tool.case(["check", "--htpasswd"], lines, "badline\nbadline\nmcf-encoding\nmcf-encoding\nmatch\n", 1, both)
     tool.case(["check", "--crlf", "--htpasswd", tool.file("lines", lines)], "", "match\nmismatch\nmatch\n", 1)
+    comments = f"# old\n\nann:{MD5}\n#bob:x\n"
+    tool.case(["survey"], comments, lambda got: got.count("badline") == 3, 1, "pwtool: standard input: 3 lines are empty or begin with #: try --htpasswd")
+    tool.case(["survey"], f"ann:{MD5}\n\n", lambda got: got.count("badline") == 2, 1, "pwtool: standard input: 1 line is empty or begins with #: try --htpasswd")
+    tool.case(["survey", "--crlf"], "#\n" + comments, lambda got: got.count("badline") == 4, 1, "4 lines are empty or begin with #: try --htpasswd")
+    tool.case(["survey"], f"ann:{MD5}\r\n#bob:x", lambda got: True, 1,
+              "pwtool: standard input: 1 line ends with a carriage return: try --crlf; 1 line is empty or begins with #: try --htpasswd")
+    tool.case(["normalize"], f"\n{MD5}\n#x", lambda got: True, 0, "2 lines are empty or begin with #: try --htpasswd")
+    tool.case(["check", "--users"], f"#ann:secret\t{MD5}\n", lambda got: True, 0, "1 line is empty or begins with #: try --htpasswd")
+    for words, given in ((["check"], f"#secret\t{MD5}\n\n"), (["survey", "--htpasswd"], comments), (["survey", "--quiet"], comments),
+                         (["survey"], f"ann#:{MD5}\nbob:#{MD5}\n")):
+        tool.count += 1
+        told = tool.run(words, given.encode())[2]
+        if "try --htpasswd" in told:
+            tool.faults.append(f"pwtool {' '.join(words)}: {told!r} though nothing is to be told")
     tool.case(["check"], f"secret\t{MD5}\r\n", "mcf-encoding\n", 1, "standard input: 1 line ends with a carriage return: try --crlf")
     tool.case(["check"], mark + f"secret\t{MD5}\n".encode(), "mismatch\n", 1, "the first line begins with a byte order mark: try --crlf")
     for words, given in ((["check", "--quiet"], lines), (["check", "--crlf"], lines), (["check"], f"secret\t{MD5}\n"),
@@ -382,7 +399,8 @@ def brought(tool):
         tool.case(["join", "--crlf", texts, passwords], "", "badline\nbadline\nann\tmatch\nbob\tempty\n#zoe\tno-password\n", 1)
         for name, met in (("windows.t", 5), (passwords, count)):
             tool.case(["join", texts, passwords], "", lambda got: "ann\tmcf-encoding\n" in got, 1,
-                      f"pwtool: {name}: the first line begins with a byte order mark, {met} lines end with a carriage return: try --crlf")
+                      f"pwtool: {name}: the first line begins with a byte order mark, {met} lines end with a carriage return: try --crlf"
+                      + ("; 1 line is empty or begins with #: try --htpasswd" if name == "windows.t" else ""))
     tool.case(["join", "--crlf", "--htpasswd", texts, "-"], "#c\nann:secret\r\n", "ann\tmatch\nbob\tempty\n", 1)
     tool.case(["join", "--no-text", "--crlf", "--htpasswd", texts, few], "", "", 0)
     tool.case(["join", "--no-text", "--crlf", texts, few], "", "#ann\tno-text\n", 1)

@@ -101,13 +101,13 @@ def row_of(variant):
     return own.group(1) if own else row
 
 
-def forms(name):
-    """The ways in which code and pages write a name, and the fronts of its texts, where scheme_list has them."""
+def forms(name, own):
+    """The ways in which code and pages write a name, its variant and its crates, and the fronts of its texts, where scheme_list has them."""
     words = re.split(r"[-_ ]", name)
     camel = "".join(word.capitalize() for word in words)
     variant = variants().get(name)
     fronts = [f"${identifier}$" for identifier in re.findall(r'codes "([a-z0-9-]+)"', row_of(variant) if variant else "") if identifier != name]
-    return "|".join(map(re.escape, [name, "-".join(words), "_".join(words), "_".join(words).upper(), camel, "".join(words), "$" + name + "$", *fronts]))
+    return "|".join(map(re.escape, [name, *own, *([f"::{variant}", f"of.{variant}", f"{{{variant}", f" {variant} ", f"in-{variant}"] if variant else []), "-".join(words), "_".join(words), "_".join(words).upper(), camel, "".join(words), "$" + name + "$", *fronts]))
 
 
 def files():
@@ -141,7 +141,7 @@ def kind_of(path, text, name):
 
 def places(name, own):
     """The places that don't name the scheme, by what they are for."""
-    pattern, found = re.compile(SCHEMES[name][0] if name in SCHEMES else forms(name)), {}
+    pattern, found = re.compile(SCHEMES[name][0] if name in SCHEMES else forms(name, own)), {}
     for path, text in files():
         parts = path.split("/")
         if parts[0] == "crates" and parts[1].removesuffix("_tests") in own or pattern.search(text):

@@ -67,6 +67,13 @@ class Answer(enum.IntEnum):
     SCRYPT_COST = 40
     SCRYPT_FORMAT = 41
     ZERO_BYTE = 42
+    SHA1_COST = 43
+    SHA1_B64 = 44
+    SHA1_FORMAT = 45
+    SCRAM_COST = 46
+    SCRAM_B64 = 47
+    SCRAM_FORMAT = 48
+    NOT_ASCII = 49
 
 
 class Alphabet(enum.IntEnum):

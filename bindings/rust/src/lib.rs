@@ -84,12 +84,19 @@ pub enum Answer {
     ScryptCost,
     ScryptFormat,
     ZeroByte,
+    Sha1Cost,
+    Sha1B64,
+    Sha1Format,
+    ScramCost,
+    ScramB64,
+    ScramFormat,
+    NotAscii,
     /// The answer of a later library.
     Unknown(i32),
 }
 
 /// The answers by their numbers.
-pub const ANSWERS: [Answer; 43] = [
+pub const ANSWERS: [Answer; 50] = [
     Answer::Match,
     Answer::Mismatch,
     Answer::NotUtf8,
@@ -133,6 +140,13 @@ pub const ANSWERS: [Answer; 43] = [
     Answer::ScryptCost,
     Answer::ScryptFormat,
     Answer::ZeroByte,
+    Answer::Sha1Cost,
+    Answer::Sha1B64,
+    Answer::Sha1Format,
+    Answer::ScramCost,
+    Answer::ScramB64,
+    Answer::ScramFormat,
+    Answer::NotAscii,
 ];
 
 impl Answer {
