@@ -118,7 +118,7 @@ enum pwcheck_answer {
     PWCHECK_OVER_COST = 30,         /* no verdict: the text is valid, and its cost is above the bound;
                                      * pwcheck_check_limited and pwcheck_check_any alone */
 
-    /* 31 to 42, from version 1.1 on: pwcheck_check_any alone */
+    /* 31 to 49, from version 1.1 on: pwcheck_check_any alone */
     PWCHECK_NO_SCHEME = 31,         /* no scheme has the identifier of the text */
     PWCHECK_MD5_FORMAT = 32,        /* the text of md5-crypt has a fault */
     PWCHECK_BCRYPT_OBSOLETE = 33,   /* $2$ or $2x$, which are obsolete */
@@ -130,7 +130,14 @@ enum pwcheck_answer {
     PWCHECK_YESCRYPT_FORMAT = 39,   /* the text $y$ has another fault */
     PWCHECK_SCRYPT_COST = 40,       /* a number of a text $7$ is outside what is taken */
     PWCHECK_SCRYPT_FORMAT = 41,     /* the text $7$ has another fault */
-    PWCHECK_ZERO_BYTE = 42          /* the password has a zero byte, which bcrypt can't hash */
+    PWCHECK_ZERO_BYTE = 42,         /* the password has a zero byte, which bcrypt can't hash */
+    PWCHECK_SHA1_COST = 43,         /* the rounds of a text $sha1$ are none of 1 to 4,294,967,295, plainly written */
+    PWCHECK_SHA1_B64 = 44,          /* the hash of a text $sha1$ is that of no digest */
+    PWCHECK_SHA1_FORMAT = 45,       /* the text $sha1$ has another fault */
+    PWCHECK_SCRAM_COST = 46,        /* the rounds of a text of SCRAM are none of 1 to 4,294,967,295, plainly written */
+    PWCHECK_SCRAM_B64 = 47,         /* the salt or a key of a text of SCRAM is no Base64 with padding */
+    PWCHECK_SCRAM_FORMAT = 48,      /* the text of SCRAM has another fault */
+    PWCHECK_NOT_ASCII = 49          /* the password isn't ASCII, and the text of SCRAM is of prepared passwords */
 };
 
 /* What the other calls answer. */
@@ -213,7 +220,7 @@ int32_t pwcheck_check_limited(const uint8_t *password, size_t password_len, cons
  * add numbers at the end: the library bounds nothing by a number that a shorter struct hasn't. */
 struct pwcheck_limits {
     uint32_t size;                  /* sizeof(struct pwcheck_limits) */
-    uint32_t sha_rounds;            /* rounds of SHA-crypt, 1,000 to 999,999,999 */
+    uint32_t sha_rounds;            /* rounds of SHA-crypt, 1,000 to 999,999,999, and of sha1-crypt, 1 to 4,294,967,295 */
     uint32_t bcrypt_cost;           /* cost of bcrypt, 4 to 31: 2^cost turns */
     uint32_t yescrypt_ln;           /* yescrypt: the binary logarithm of N, 2 to 23; the table takes 128 r N bytes */
     uint32_t yescrypt_r;
@@ -240,12 +247,12 @@ struct pwcheck_limits {
 #define PWCHECK_LIMITS_LOGIN                                                                                      \
     {sizeof(struct pwcheck_limits), 5248000, 15, 15, 32, 0, 4800000, 17, 32, 10, 262144, 8, 8}
 
-/* Checks a password against a stored text of every scheme: SHA-crypt ($5$, $6$), md5-crypt ($1$, $apr1$), bcrypt ($2a$,
- * $2b$, $2y$), bcrypt of a digest ($bcrypt-sha256$, $bcrypt-sha256-hex$, $wp$), yescrypt ($y$), scrypt ($7$), or a PHC
- * record of scrypt, PBKDF2 (with SHA-256 or SHA-512) or Argon2. A valid text that asks for more than a limit is
- * answered by PWCHECK_OVER_COST, and nothing is hashed for it. Compare the answer with PWCHECK_MATCH, and with nothing
- * less. Limits whose size is no multiple of 4 from 4 to 1,024, or that bound a number which this version doesn't know,
- * are PWCHECK_OUT_OF_RANGE, and nothing is read of the text. From version 1.1 on. */
+/* Checks a password against a stored text of every scheme: SHA-crypt ($5$, $6$), md5-crypt ($1$, $apr1$), bcrypt
+ * ($2a$, $2b$, $2y$), bcrypt of a digest ($bcrypt-sha256$, $bcrypt-sha256-hex$, $wp$), sha1-crypt ($sha1$), SCRAM
+ * ($scram-sha-256$, $scram-sha-256-raw$), yescrypt ($y$), scrypt ($7$), or a PHC record of scrypt, PBKDF2 (with SHA-256 or SHA-512) or Argon2. A valid text that asks
+ * for more than a limit is answered by PWCHECK_OVER_COST, and nothing is hashed for it. Compare the answer with
+ * PWCHECK_MATCH, and with nothing less. Limits whose size is no multiple of 4 from 4 to 1,024, or that bound a number
+ * which this version doesn't know, are PWCHECK_OUT_OF_RANGE, and nothing is read of the text. From version 1.1 on. */
 PWCHECK_MUST_USE PWCHECK_NONNULL
 int32_t pwcheck_check_any(const uint8_t *password, size_t password_len, const uint8_t *stored, size_t stored_len,
                           const struct pwcheck_limits *limits);
