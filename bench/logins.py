@@ -110,10 +110,15 @@ def measured(library, rounds):
         yield {"scheme": scheme, "cost": cost, "ours": f"{own:.1f}", "peer": name, "theirs": f"{other:.1f}"}
 
 
-def drawn(rows, said):
+def rows():
+    with open(ROWS, newline="", encoding="utf-8") as source:
+        return list(csv.DictReader(source))
+
+
+def drawn(rows):
     """Two bars a scheme: ours, and below it that of the peer."""
     left, unit = 230, 480 / max(float(row[key]) for row in rows for key in ("ours", "theirs"))
-    parts = [text(10, 20, "The time of a login in milliseconds: shorter is faster"), text(10, 38, said, "small")]
+    parts = [text(10, 20, "The time of a login in milliseconds: shorter is faster"), text(10, 38, f"{rows[0]['machine']}; commit {rows[0]['commit']}", "small")]
     for place, row in enumerate(rows):
         y = 54 + 50 * place
         parts.append(text(10, y + 13, row["scheme"]))
@@ -126,22 +131,20 @@ def drawn(rows, said):
 
 
 def draw():
-    with open(ROWS, newline="", encoding="utf-8") as source:
-        rows = list(csv.DictReader(source))
     with open(os.path.join(TOP, "docs", "logins.svg"), "w", encoding="utf-8") as out:
-        out.write(drawn(rows, f"{rows[0]['machine']}; commit {rows[0]['commit']}"))
+        out.write(drawn(rows()))
 
 
 def main(words):
     if words != ["--picture"]:
         library = os.path.abspath(words[0] if words else os.path.join(TOP, "dist", "libpwcheck.so.1.1"))
         commit = subprocess.run(["git", "-C", TOP, "rev-parse", "--short", "HEAD"], capture_output=True, text=True, check=False).stdout.strip()
-        rows = [{**row, "machine": machine(), "commit": commit, "load": f"{os.getloadavg()[0]:.1f}"}
+        told = [{**row, "machine": machine(), "commit": commit, "load": f"{os.getloadavg()[0]:.1f}"}
                 for row in measured(library, int(words[1]) if len(words) > 1 else 7)]
         with open(ROWS, "w", newline="", encoding="utf-8") as out:
-            writer = csv.DictWriter(out, list(rows[0]))
+            writer = csv.DictWriter(out, list(told[0]))
             writer.writeheader()
-            writer.writerows(rows)
+            writer.writerows(told)
     draw()
 
 

@@ -1,8 +1,9 @@
 #!/usr/bin/env python3
-"""Draws docs/parts.svg, the crates in the layers of crates.txt with what each uses, and docs/speeds.svg, our time beside others', from
-bench/speeds.csv; and writes the table of docs/SPEED.md from the same rows. The pictures have a ground of their own, for light and for dark viewers.
+"""Draws docs/parts.svg, the crates in the layers of crates.txt with what each uses, docs/line.svg, how a line gets its word, docs/speeds.svg, our
+time beside others', from bench/speeds.csv, and docs/logins.svg from bench/logins.csv; and writes the table of docs/SPEED.md from the rows of
+bench/speeds.csv. The pictures have a ground of their own, for light and for dark viewers.
 
-usage: bench/pictures.py         (it writes all three)
+usage: bench/pictures.py         (it writes all five)
        bench/pictures.py check   (it ends with 1 where one of them isn't what it would write)
 """
 import csv
@@ -22,6 +23,10 @@ STYLE = (
     "@media(prefers-color-scheme:dark){text{fill:#f0f6fc}.small{fill:#9198a1}.ground{fill:#0d1117}.band{fill:#151b23}"
     ".line{stroke:#656c76}.tip{fill:#656c76}.box{fill:#0c2d6b;stroke:#4493f8}.bar{fill:#4493f8}}</style>"
 )
+# The end of an arrow.
+TIP = '<defs><marker id="tip" viewBox="0 0 8 8" refX="7" refY="4" markerWidth="7" markerHeight="7" orient="auto"><path class="tip" d="M0 0 8 4 0 8z"/></marker></defs>'
+
+
 def picture(width, height, parts):
     head = f'<svg xmlns="http://www.w3.org/2000/svg" viewBox="0 0 {width} {height}" width="{width}" height="{height}">'
     ground = f'<rect class="ground" width="{width}" height="{height}"/>'
@@ -143,8 +148,34 @@ def parts_picture():
         end = ' marker-end="url(#tip)"' if isinstance(b, str) else ""
         lines.append(f'<line class="line" x1="{left + drawing.place[a]:.0f}" y1="{tops[drawing.row[a]] + 32}" '
                      f'x2="{left + drawing.place[b]:.0f}" y2="{tops[drawing.row[b]]}"{end}/>')
-    tip = '<defs><marker id="tip" viewBox="0 0 8 8" refX="7" refY="4" markerWidth="7" markerHeight="7" orient="auto"><path class="tip" d="M0 0 8 4 0 8z"/></marker></defs>'
-    return picture(round(width), y, [tip, *bands, *lines, *boxes])
+    return picture(round(width), y, [TIP, *bands, *lines, *boxes])
+
+
+# How a line gets its word: what is done, what is taken, what may come out already there.
+STEPS = (
+    ("line", "correct horse<tab>$2b$12$..", "toolong"),
+    ("password and text", "cut at the last tab", "badline, password-too-long"),
+    ("scheme", "by the text's identifier: bcrypt", "no-scheme"),
+    ("cost and salt", "read, and held to the bounds: cost 12", "too-costly, or a fault of the text, as bcrypt-cost"),
+    ("hash", "computed of password, cost and salt", "none: out of memory ends the run with status 5"),
+    ("word", "the hash is compared with that of the text", "match, mismatch"),
+)
+
+
+def line_picture():
+    """The way of a line through `pwtool check`, from top to bottom: a step, what it does, and the words that may end the way there."""
+    left, wide = 10, 190
+    parts = [text(left, 20, "How a line gets its word"), text(left + wide + 340, 20, "words with which the way may end here", "small")]
+    for place, (step, done, words) in enumerate(STEPS):
+        y = 34 + 54 * place
+        parts.append(f'<rect class="box" x="{left}" y="{y}" width="{wide}" height="32" rx="5"/>')
+        parts.append(text(left + wide // 2, y + 21, step, anchor="middle"))
+        parts.append(text(left + wide + 16, y + 21, done))
+        parts.append(text(left + wide + 340, y + 21, words, "small"))
+        if place + 1 < len(STEPS):
+            x = left + wide // 2
+            parts.append(f'<line class="line" x1="{x}" y1="{y + 32}" x2="{x}" y2="{y + 54}" marker-end="url(#tip)"/>')
+    return picture(820, 40 + 54 * len(STEPS), [TIP, *parts])
 
 
 def speeds():
@@ -195,16 +226,19 @@ def speeds_page(page):
 
 
 def main():
+    # logins.py draws by this file.
+    import logins
     with open(os.path.join(TOP, "docs", "SPEED.md"), encoding="utf-8") as file:
         page = file.read()
-    files = {"parts.svg": parts_picture(), "speeds.svg": speeds_picture(), "SPEED.md": speeds_page(page)}
+    files = {"parts.svg": parts_picture(), "line.svg": line_picture(), "speeds.svg": speeds_picture(), "logins.svg": logins.drawn(logins.rows()),
+             "SPEED.md": speeds_page(page)}
     other = 0
     for name, made in files.items():
         path = os.path.join(TOP, "docs", name)
         if sys.argv[1:] == ["check"]:
             with open(path, encoding="utf-8") as file:
                 if file.read() != made:
-                    print(f"pictures.py: docs/{name} isn't what bench/speeds.csv and crates.txt give: run bench/pictures.py")
+                    print(f"pictures.py: docs/{name} isn't what crates.txt, bench/speeds.csv and bench/logins.csv give: run bench/pictures.py")
                     other = 1
         else:
             with open(path, "w", encoding="utf-8") as file:

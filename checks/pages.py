@@ -13,7 +13,7 @@ import sys
 from page_texts import TOP, end, page_texts
 
 # The pages that are held to sentences of at most LONG words. The others are reported by `sentences`.
-PLAIN = ("README.md", "SECURITY.md", "CONTRIBUTING.md", "CHANGELOG.md", "docs/DEFINITIONS.md", "docs/DIFFERENCES.md", "docs/FORMAT.md", "docs/GUIDE.md",
+PLAIN = ("README.md", "SECURITY.md", "CONTRIBUTING.md", "CHANGELOG.md", "docs/COMPATIBILITY.md", "docs/DEFINITIONS.md", "docs/DIFFERENCES.md", "docs/FORMAT.md", "docs/GUIDE.md",
          "docs/PROGRAMS.md", "docs/PROMISES.md", "docs/PROOF.md", "docs/README.md", "docs/SPEED.md", "docs/internals/ARCHITECTURE.md",
          "docs/internals/DECISIONS.md", "docs/internals/HOSTILE.md", "bench/README.md")
 LONG = 40

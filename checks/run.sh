@@ -3,7 +3,7 @@
 #
 #     checks/run.sh quick    the numbers of the header and of the bindings, what the pages name, the blocks of README and GUIDE, the examples of the manual pages, the layers, the places of a scheme, the pictures, dist/ and its
 #                            comparison; and of what the gate built (dist/ where nothing is built) the faces in C, their binary interface, a release and its README, pwtool over each form and
-#                            option, and what crashes leave of a table of pwstore. In a minute or two, without any proof: for each push; it
+#                            option, what the quick comparisons of bench/ find, and what crashes leave of a table of pwstore. In two or three minutes, without any proof: for each push; it
 #                            needs strace
 #     checks/run.sh          that, and the C library, its callers, runs under sanitizers and valgrind, the installation, the packages of Python and
 #                            Rust, the programs of README.md and GUIDE
@@ -57,6 +57,7 @@ checks/release_try.sh "$made"
 python3 checks/pwtool_cases.py "$tried/pwtool"
 python3 checks/blocks.py "$tried"
 python3 checks/man_examples.py "$tried"
+PWCHECK=$tried/pwcheck PWTOOL=$tried/pwtool WRAPSTREAM=$tried/wrapstream python3 bench/run.py compare --quick
 command -v strace >/dev/null 2>&1 || apt-get install -y strace >/dev/null 2>&1 || true
 PWSTORE=$tried/pwstore python3 bench/crashes.py quick
 PWCHECK_DIST=1 ./install.sh "$work/dist" >/dev/null
