@@ -23,7 +23,7 @@ fn word_of(answer: &Result<bool, AnyError>) -> &'static str {
 }
 
 // Texts of the password `secret`.
-pub const TEXTS: [&str; 30] = [
+pub const TEXTS: [&str; 31] = [
     "$1$abcdefgh$cHJi5PXp/ki/ktXzqlk6I1",
     "$apr1$abcdefgh$h9FWgUz3n9YxylKLlR5SQ/",
     "$5$abcdefgh$gruCpC7VkOTspMQTTSAR8mtlO9Upms.fwqE5y16JVM.",
@@ -54,10 +54,11 @@ pub const TEXTS: [&str; 30] = [
     "$ssha$$5en6G6MezRroT3XKqkdPOmY/BfQ=",
     "$ssha256$3xme0w==$ROfTnljnyvDpXJG9tjcgy5mIhpPVTOREnfMvABPrZb8=",
     "$ssha512$GvCtCYhcG9k=$J37XHP+ir/NHsU3KWxpsW1E5qI1JbYSCLMsvRp8JLWp9qGsZFRUt+FzVtKiQcbF+wArqqKP0sW6Cuqjg/K97LQ==",
+    "$pbkdf2-sha1$i=998$c2FsdHNhbHRzYWx0$dfthYyTIsPBB/GS86Ihv/tqCRr0",
 ];
 
 // Texts without a verdict, and their words.
-pub const FAULTS: [(&str, &str); 53] = [
+pub const FAULTS: [(&str, &str); 54] = [
     ("$1$abcdefgh", "md5-format"),
     ("$1$abcdefghi$cHJi5PXp/ki/ktXzqlk6I1", "md5-format"),
     ("$apr1$", "mcf-delimiter"),
@@ -99,7 +100,11 @@ pub const FAULTS: [(&str, &str); 53] = [
         "kdf",
     ),
     (
-        "$pbkdf2-sha1$i=1000$c2FsdHNhbHRzYWx0$KoeIRlhBTyFrU8q8BApSMIIhObk",
+        "$pbkdf2-sha1$i=0$c2FsdHNhbHRzYWx0$KoeIRlhBTyFrU8q8BApSMIIhObk",
+        "kdf",
+    ),
+    (
+        "$pbkdf2-sha384$i=1000$c2FsdHNhbHRzYWx0$KoeIRlhBTyFrU8q8BApSMIIhObk",
         "no-scheme",
     ),
     ("$y$j75$0123456789ab", "yescrypt-format"),
@@ -387,6 +392,16 @@ const PASSED: &[(&[usize], SchemeCosts)] = &[
         },
     ),
     (
+        &[8, 30],
+        SchemeCosts {
+            pbkdf2_sha256: Costs {
+                rounds: 997,
+                ..NO_COSTS
+            },
+            ..LEAST
+        },
+    ),
+    (
         &[15],
         SchemeCosts {
             pbkdf2_sha512: Costs {
@@ -577,7 +592,7 @@ fn no_scheme(rt: HostRuntime) {
 
 // Valid texts of which each digest takes a tenth of a second and more: of each variant and type, and where its texts have several
 // lengths, another one of more than 140 bytes or the shortest.
-pub const DEAR: [&str; 33] = [
+pub const DEAR: [&str; 35] = [
     "$5$rounds=999999999$abcdefgh$gruCpC7VkOTspMQTTSAR8mtlO9Upms.fwqE5y16JVM.",
     "$5$rounds=999999999$a$gruCpC7VkOTspMQTTSAR8mtlO9Upms.fwqE5y16JVM.",
     "$6$rounds=999999999$abcdefgh$ltjgWl6579NluT/Vi1nwEvcil.G5Nbc4NiXZaNGStk8PSwGfQv72N2CKPPrVACtLtip/cZ/1GM/O6IND4WQhG.",
@@ -605,6 +620,8 @@ pub const DEAR: [&str; 33] = [
     "$pbkdf2-sha256$i=10000000$c2FsdHNhbHRzYWx0c2FsdHNhbHRzYWx0c2FsdHNhbHRzYWx0c2FsdHNhbHRzYWx0$GK6ZfhTx3pI28IQ6HYQzaUek5XduggVQ0zhLSF6WB1ROBlCW2ybd4hR7tgTVg/2i//vv5K7hcJGgBedoUEO6ag",
     "$pbkdf2-sha512$i=10000000$c2FsdHNhbHRzYWx0$GK6ZfhTx3pI28IQ6HYQzaUek5XduggVQ0zhLSF6WB1ROBlCW2ybd4hR7tgTVg/2i//vv5K7hcJGgBedoUEO6ag",
     "$pbkdf2-sha512$i=10000000$c2FsdHNhbHRzYWx0c2FsdHNhbHRzYWx0c2FsdHNhbHRzYWx0c2FsdHNhbHRzYWx0$GK6ZfhTx3pI28IQ6HYQzaUek5XduggVQ0zhLSF6WB1ROBlCW2ybd4hR7tgTVg/2i//vv5K7hcJGgBedoUEO6ag",
+    "$pbkdf2-sha1$i=10000000$c2FsdHNhbHRzYWx0$KoeIRlhBTyFrU8q8BApSMIIhObk",
+    "$pbkdf2-sha1$i=10000000$c2FsdHNhbHRzYWx0c2FsdHNhbHRzYWx0c2FsdHNhbHRzYWx0c2FsdHNhbHRzYWx0$GK6ZfhTx3pI28IQ6HYQzaUek5XduggVQ0zhLSF6WB1ROBlCW2ybd4hR7tgTVg/2i//vv5K7hcJGgBedoUEO6ag",
     "$argon2id$v=19$m=2097152,t=1,p=1$c2FsdHNhbHRzYWx0$Sm3MnLdCFk0Af+croKgebRoqqmhbKd88iiW3yUOXn78",
     "$argon2id$v=19$m=2097152,t=1,p=1$c2FsdHNhbHRzYWx0c2FsdHNhbHRzYWx0c2FsdHNhbHRzYWx0c2FsdHNhbHRzYWx0$GK6ZfhTx3pI28IQ6HYQzaUek5XduggVQ0zhLSF6WB1ROBlCW2ybd4hR7tgTVg/2i//vv5K7hcJGgBedoUEO6ag",
     "$argon2i$v=19$m=2097152,t=1,p=1$c2FsdHNhbHRzYWx0$Sm3MnLdCFk0Af+croKgebRoqqmhbKd88iiW3yUOXn78",
