@@ -7,6 +7,9 @@ import base64
 import re
 
 SALT, KEY, FIELD = range(8, 49), range(10, 65), 128
+# The bytes of a digest by its tag; of the salt of a salted one; and the characters of a field that has both, for the longest digest.
+DIGESTS = {"smd5": 16, "ssha": 20, "ssha256": 32, "ssha512": 64}
+DIGEST_SALT, DIGEST_FIELD = range(1, 49), 152
 PLAIN = "ABCDEFGHIJKLMNOPQRSTUVWXYZabcdefghijklmnopqrstuvwxyz0123456789+/"
 CRYPT = "./0123456789ABCDEFGHIJKLMNOPQRSTUVWXYZabcdefghijklmnopqrstuvwxyz"
 
@@ -27,8 +30,8 @@ def number(field, word):
     return int(field)
 
 
-def base64_of(field, padded):
-    need(len(field) <= FIELD and re.fullmatch("[A-Za-z0-9+/]*" + ("={0,2}" if padded else ""), field, re.ASCII), None)
+def base64_of(field, padded, most=FIELD):
+    need(len(field) <= most and re.fullmatch("[A-Za-z0-9+/]*" + ("={0,2}" if padded else ""), field, re.ASCII), None)
     whole = field if padded else field + "=" * (-len(field) % 4)
     try:
         got = base64.b64decode(whole, validate=True)
@@ -139,9 +142,10 @@ def tagged(text, *tags):
 # ---- makers
 
 def django(text):
-    if (rest := after(text, "pbkdf2_sha256$")) is not None:
-        rounds, salt, key = cut(rest, "$", 3)
-        return record(pbkdf2("sha256", rounds), salt, characters, key, padded)
+    for name in ("sha256", "sha1"):
+        if (rest := after(text, f"pbkdf2_{name}$")) is not None:
+            rounds, salt, key = cut(rest, "$", 3)
+            return record(pbkdf2(name, rounds), salt, characters, key, padded)
     if (rest := after(text, "scrypt$")) is not None:
         n, salt, r, p, key = cut(rest, "$", 5)
         return record(scrypt(n, r, p), salt, characters, key, padded)
@@ -152,7 +156,7 @@ def django(text):
     if (rest := after(text, "bcrypt_sha256$")) is not None:
         need(rest.startswith("$2") and len(rest.encode()) == 60, "foreign-form")
         return "$bcrypt-sha256-hex" + rest
-    return unread(text, [("pbkdf2-sha1", "pbkdf2_sha1$"), ("sha1", "sha1$", "unsalted_sha1$"), ("md5", "md5$", "unsalted_md5$"), ("des-crypt", "crypt$")])
+    return unread(text, [("sha1", "sha1$", "unsalted_sha1$"), ("md5", "md5$", "unsalted_md5$"), ("des-crypt", "crypt$")])
 
 
 def werkzeug(text):
@@ -160,12 +164,11 @@ def werkzeug(text):
     words = method.split(":")
     if words[0] == "scrypt" and len(words) > 1:
         cost = scrypt(*cut(":".join(words[1:]), ":", 3))
-    elif words[0] == "pbkdf2" and len(words) > 2 and words[1] in ("sha256", "sha512"):
+    elif words[0] == "pbkdf2" and len(words) > 2 and words[1] in ("sha1", "sha256", "sha512"):
         need(len(words) == 3, "foreign-form")
         cost = pbkdf2(words[1], words[2])
     else:
-        unread(method, [("pbkdf2-sha1", "pbkdf2:sha1"), ("foreign-form", "pbkdf2", "scrypt"), ("sha1", "sha1"), ("sha2", "sha"),
-                        ("md5", "md5"), ("cleartext", "plain")])
+        unread(method, [("foreign-form", "pbkdf2", "scrypt"), ("sha1", "sha1"), ("sha2", "sha"), ("md5", "md5"), ("cleartext", "plain")])
     return record(cost, salt, characters, key, small)
 
 
@@ -175,14 +178,47 @@ def passlib(text):
         if rest is not None and re.match("[0-9]", rest, re.ASCII):
             rounds, salt, key = cut(rest, "$", 3)
             return record(pbkdf2(name, rounds), salt, adapted, key, adapted)
-    if text.startswith("$") and not text.startswith("$pbkdf2$"):
-        return text
-    return unread(text, [("pbkdf2-sha1", "$pbkdf2$")])
+    if (rest := after(text, "$pbkdf2$")) is not None:
+        rounds, salt, key = cut(rest, "$", 3)
+        return record(pbkdf2("sha1", rounds), salt, adapted, key, adapted)
+    need(text.startswith("$"), "unsupported-scheme")
+    return text
 
 
-def digest(text):
+def salted(name, field):
+    """A digest and the salt after it, in one field."""
+    size = DIGESTS[name]
+    need(len(field) <= DIGEST_FIELD, "foreign-salt-length")
+    got = read(lambda given: base64_of(given, True, DIGEST_FIELD), field, "foreign-hash")
+    need(len(got) >= size, "foreign-hash-length")
+    need(len(got) - size in DIGEST_SALT, "foreign-salt-length")
+    return digest_text(name, got[size:], got[:size])
+
+
+def bare_digest(name, field):
+    """A digest alone, which is one with an empty salt."""
+    need(len(field) <= DIGEST_FIELD, "foreign-hash-length")
+    got = read(lambda given: base64_of(given, True, DIGEST_FIELD), field, "foreign-hash")
+    need(len(got) == DIGESTS[name], "foreign-hash-length")
+    return digest_text(name, b"", got)
+
+
+def digest_text(name, salt, got):
+    return "$".join(["", name, *(base64.b64encode(part).decode() for part in (salt, got))])
+
+
+def digest_of(text, *more):
+    """The text of a digest by its tag, of those that LDAP and Dovecot have and of more; None where it has another."""
+    for tag, reader, name in (*more, ("SHA", bare_digest, "ssha"), ("SHA256", bare_digest, "ssha256"), ("SHA512", bare_digest, "ssha512"),
+                              ("SMD5", salted, "smd5"), ("SSHA", salted, "ssha"), ("SSHA256", salted, "ssha256"), ("SSHA512", salted, "ssha512")):
+        if (field := tagged(text, tag)) is not None:
+            return reader(name, field)
+    return None
+
+
+def unread_tag(text):
     need(text.startswith("{"), "unsupported-cleartext")
-    rows = [("cleartext", "CLEARTEXT"), ("pbkdf2-sha1", "PBKDF2-SHA1", "PBKDF2"), ("sha2", "SSHA256", "SSHA384", "SSHA512", "SHA256", "SHA384", "SHA512"),
+    rows = [("cleartext", "CLEARTEXT"), ("sha2", "SSHA256", "SSHA384", "SSHA512", "SHA256", "SHA384", "SHA512"),
             ("sha1", "SSHA", "SHA"), ("md5", "SMD5", "MD5")]
     return unread(text, [(word, *(form for tag in tags for form in ("{" + tag + "}", "{" + tag.lower() + "}"))) for word, *tags in rows])
 
@@ -194,19 +230,19 @@ def ldap(text):
         return as_it_is(rest, "$argon2")
     if (rest := tagged(text, "BCRYPT")) is not None:
         return as_it_is(rest, "$2")
-    for name in ("sha256", "sha512"):
-        if (rest := tagged(text, f"PBKDF2-{name.upper()}")) is not None:
+    for name, *tags in (("sha256", "PBKDF2-SHA256"), ("sha512", "PBKDF2-SHA512"), ("sha1", "PBKDF2-SHA1", "PBKDF2")):
+        if (rest := tagged(text, *tags)) is not None:
             rounds, salt, key = cut(rest, "$", 3)
             reader = padded if key.endswith("=") else adapted
             return record(pbkdf2(name, rounds), salt, reader, key, reader)
-    return digest(text)
+    return digest_of(text, ("MD5", bare_digest, "smd5")) or unread_tag(text)
 
 
 def elasticsearch(text):
     if (rest := after(text, "{PBKDF2}")) is not None:
         rounds, salt, key = cut(rest, "$", 3)
         return record(pbkdf2("sha512", rounds), salt, padded, key, padded)
-    return digest(text)
+    return unread_tag(text)
 
 
 def read_as(field, word):
@@ -246,10 +282,19 @@ def dovecot(text):
         return crypts(rest)
     if (rest := tagged(text, "SCRAM-SHA-256")) is not None:
         return scram("scram-sha-256-raw", *cut(rest, ",", 4))
+    if (rest := tagged(text, "PBKDF2")) is not None:
+        need(rest.startswith("$1$"), "foreign-form")
+        salt, rounds, key = cut(rest[3:], "$", 3)
+        made = record(pbkdf2("sha1", rounds), salt, characters, key, small)
+        need(len(key) == 40, "foreign-hash-length")
+        return made
+    made = digest_of(text, ("LDAP-MD5", bare_digest, "smd5"), ("SHA1", bare_digest, "ssha"))
+    if made is not None:
+        return made
     for word, tags in (("scram", ("SCRAM-SHA-1",)), ("des-crypt", ("DES-CRYPT",)), ("cleartext", ("PLAIN", "CLEAR", "PLAIN-TRUNC")),
-                       ("md5", ("PLAIN-MD5", "LDAP-MD5", "CRAM-MD5", "HMAC-MD5", "DIGEST-MD5"))):
+                       ("md5", ("PLAIN-MD5", "CRAM-MD5", "HMAC-MD5", "DIGEST-MD5"))):
         need(tagged(text, *tags) is None, "unsupported-" + word)
-    return digest(text)
+    return unread_tag(text)
 
 
 def spring_cost(field):
@@ -267,23 +312,25 @@ def spring(text):
         front, cost, salt, key = cut(rest, "$", 4)
         need(not front, "foreign-form")
         return record(spring_cost(cost), salt, padded, key, padded)
-    if (rest := after(text, "{pbkdf2@SpringSecurity_v5_8}")) is not None:
-        need(len(rest.encode()) == 96, "foreign-form")
-        salt, key = rest.encode()[:32].decode("latin-1"), rest.encode()[32:].decode("latin-1")
-        return record("pbkdf2-sha256$i=310000", salt, small, key, small)
+    for tag, cost, size in (("{pbkdf2@SpringSecurity_v5_8}", "pbkdf2-sha256$i=310000", 32), ("{pbkdf2}", "pbkdf2-sha1$i=185000", 16)):
+        if (rest := after(text, tag)) is not None:
+            need(len(rest.encode()) == size + 64, "foreign-form")
+            salt, key = rest.encode()[:size].decode("latin-1"), rest.encode()[size:].decode("latin-1")
+            return record(cost, salt, small, key, small)
     need(text.startswith("{"), "foreign-form")
-    return unread(text, [("pbkdf2-sha1", "{pbkdf2}"), ("sha1", "{SHA-1}"), ("sha2", "{SHA-256}", "{sha256}"), ("md5", "{MD5}"), ("cleartext", "{noop}")])
+    return unread(text, [("sha1", "{SHA-1}"), ("sha2", "{SHA-256}", "{sha256}"), ("md5", "{MD5}"), ("cleartext", "{noop}")])
 
 
 def aspnet(text):
     data = read(padded, text, "foreign-form")
-    need(data[:1] != b"\0", "unsupported-pbkdf2-sha1")
+    if data[:1] == b"\0":
+        need(len(data) == 49, "foreign-form")
+        return record("pbkdf2-sha1$i=1000", data[1:17], bytes, data[17:], bytes)
     need(data[:1] == b"\1" and len(data) >= 13, "foreign-form")
     prf, rounds, size = (int.from_bytes(data[at:at + 4], "big") for at in (1, 5, 9))
-    need(prf != 0, "unsupported-pbkdf2-sha1")
-    need(prf in (1, 2) and size <= len(data) - 13, "foreign-form")
+    need(prf in (0, 1, 2) and size <= len(data) - 13, "foreign-form")
     need(rounds != 0, "foreign-rounds")
-    return record(f"pbkdf2-sha{256 * prf}$i={rounds}", data[13:13 + size], bytes, data[13 + size:], bytes)
+    return record(f"pbkdf2-{('sha1', 'sha256', 'sha512')[prf]}$i={rounds}", data[13:13 + size], bytes, data[13 + size:], bytes)
 
 
 def cisco(text):
@@ -309,8 +356,7 @@ def mediawiki(text):
     if rest is None:
         return unread(text, [("md5", ":A:", ":B:")])
     name, rounds, size, salt, key = cut(rest, ":", 5)
-    need(name != "sha1", "unsupported-pbkdf2-sha1")
-    need(name in ("sha256", "sha512"), "unsupported-scheme")
+    need(name in ("sha1", "sha256", "sha512"), "unsupported-scheme")
     made = record(pbkdf2(name, rounds), salt, padded, key, padded)
     need(number(size, "foreign-hash-length") == len(padded(key)), "foreign-hash-length")
     return made

@@ -1,32 +1,38 @@
 -- What a converter gives converts to itself.
-use Rattle.std.proofs.Common.{◌≡◌, ◌⊎◌, ℕ, Bool, true, false, List, [], ◌∷◌, length, refl, ap, ◌∙◌, sym, inl, inr, Ok, Err}
-use Rattle.std.specs.Prelude.{nat_le, ◌++◌, take, drop, codes, ◌==◌, ◌&&◌, Option, Some, None, Result, if◌then◌else◌}
+use Rattle.std.proofs.Common.{◌≡◌, ◌⊎◌, ℕ, ◌+◌, Bool, true, false, List, [], ◌∷◌, length, refl, ap, ◌∙◌, sym, inl, inr, Ok, Err}
+use Rattle.std.specs.Prelude.{nat_le, nat_lt, ◌++◌, take, drop, codes, ◌==◌, ◌&&◌, Option, Some, None, Result, if◌then◌else◌}
 use Rattle.std.specs.List.{list_any}
 use Rattle.base64ct.specs.Alphabets.{base64, base64_crypt, base64_pbkdf2}
+use Rattle.base64ct.specs.Decoding.{decoding}
 use Rattle.phc.specs.Record.{record_text}
 use Rattle.pieces.specs.Pieces.{behind, pieces_at}
 use Rattle.foreign_text.specs.Answers.{Answer, as_it_is, stored_or_unread}
-use Rattle.foreign_text.specs.AspNet.{aspnet, aspnet_bytes, aspnet_hash, aspnet_sized, aspnet_v3, aspnet_with, by_format, first_of, number_at}
+use Rattle.foreign_text.specs.AspNet.{aspnet, aspnet_bytes, aspnet_hash, aspnet_sized, aspnet_v2, aspnet_v3, aspnet_with, by_format, first_of, number_at}
 use Rattle.foreign_text.specs.Cisco.{cisco, cisco_fields, cisco_type, is_crypt_field}
 use Rattle.foreign_text.specs.Converted.{converted}
 use Rattle.foreign_text.specs.Django.{django, django_argon2, django_bcrypt, django_digest_text, django_pbkdf2, django_pbkdf2_fields}
 use Rattle.foreign_text.specs.Django.{django_scrypt, django_scrypt_fields}
-use Rattle.foreign_text.specs.Dovecot.{dovecot, dovecot_scram}
+use Rattle.foreign_text.specs.Digests.{bare_bytes, bare_field, digest_tags, digest_text, or_field, or_unread, salted_bytes, salted_field, salted_tags}
+use Rattle.foreign_text.specs.Digests.{with_digest}
+use Rattle.foreign_text.specs.Dovecot.{dovecot, dovecot_digests, dovecot_fields, dovecot_key, dovecot_pbkdf2, dovecot_scram, dovecot_unread}
 use Rattle.foreign_text.specs.Elasticsearch.{elasticsearch}
 use Rattle.foreign_text.specs.Encoded.{either_pbkdf2, encoded_pbkdf2}
 use Rattle.foreign_text.specs.Fields.{Four, Two, field_bytes, five_of, four_of, in_four, in_two, number_of, pbkdf2_cost, plain_hex, scrypt_cost, small_hex, three_of, two_of}
 use Rattle.foreign_text.specs.Grub.{grub, grub_fields, grub_pbkdf2}
-use Rattle.foreign_text.specs.Ldap.{crypt_fault, is_colon, ldap, ldap_argon2, ldap_bcrypt, ldap_crypt, ldif, whole_text}
-use Rattle.foreign_text.specs.MediaWiki.{if_sized, is_size, mediawiki, mediawiki_cost, mediawiki_fields, mediawiki_pbkdf2}
+use Rattle.foreign_text.specs.Ldap.{crypt_fault, is_colon, ldap, ldap_argon2, ldap_bcrypt, ldap_crypt, ldap_digests, ldif, whole_text}
+use Rattle.foreign_text.specs.MediaWiki.{mediawiki, mediawiki_cost, mediawiki_fields, mediawiki_pbkdf2}
 use Rattle.foreign_text.specs.Mosquitto.{mosquitto}
-use Rattle.foreign_text.specs.Names.{begins, behind_tag, passlib_unread}
+use Rattle.foreign_text.specs.Names.{begins, behind_tag, ldap_unread}
+use Rattle.salted_digest.specs.Digest.{digest_size}
+use Rattle.salted_digest.specs.declared.hash.DigestHash.{DigestHash}
+use Rattle.salted_digest.specs.declared.hash.DigestHash.TheVariants as digest
 use Rattle.scram_plain.specs.declared.preparation.Preparation.{Preparation}
 use Rattle.scram_plain.specs.declared.preparation.Preparation.TheVariants.{Raw, SaslPrep}
 use Rattle.foreign_text.specs.Postgres.{postgres, postgres_halves, postgres_scram}
 use Rattle.foreign_text.specs.Scram.{scram_by_keys, scram_by_rounds, scram_by_salt, scram_fields, scram_text}
-use Rattle.foreign_text.specs.Passlib.{begins_with_digit, passlib, passlib_other, passlib_pbkdf2}
-use Rattle.foreign_text.specs.Records.{made_text, with_kdf}
-use Rattle.foreign_text.specs.Spring.{spring, spring_cost, spring_fields, spring_pbkdf2, spring_scrypt, spring_scrypt_fields}
+use Rattle.foreign_text.specs.Passlib.{begins_with_digit, passlib, passlib_pbkdf2}
+use Rattle.foreign_text.specs.Records.{if_sized, is_size, made_text, with_kdf}
+use Rattle.foreign_text.specs.Spring.{spring, spring_cost, spring_fields, spring_newer, spring_older, spring_pbkdf2, spring_scrypt, spring_scrypt_fields}
 use Rattle.foreign_text.specs.Werkzeug.{werkzeug, werkzeug_fields, werkzeug_method}
 use Rattle.foreign_text.specs.declared.converted.Foreign.{Foreign}
 use Rattle.foreign_text.specs.declared.converted.Foreign.TheVariants as of
@@ -37,7 +43,7 @@ use Rattle.foreign_text.specs.declared.fault.Unread as unread
 use Rattle.foreign_text.specs.declared.kdf.Kdf.{Kdf}
 use Rattle.foreign_text.specs.declared.kdf.Kdf.TheVariants.{Pbkdf2, Scrypt}
 use Rattle.foreign_text.specs.declared.kdf.Pbkdf2Hash.{Pbkdf2Hash}
-use Rattle.foreign_text.specs.declared.kdf.Pbkdf2Hash.TheVariants.{Sha256, Sha512}
+use Rattle.foreign_text.specs.declared.kdf.Pbkdf2Hash.TheVariants.{Sha1, Sha256, Sha512}
 use Rattle.foreign_text.proofs.Made.{First, IsMade, by_front, by_test, either_made, encoded_made, five_made, given, held}
 use Rattle.foreign_text.proofs.Made.{made_first, no_ok, same_ok, signed, stays, three_made, with_kdf_made}
 
@@ -50,12 +56,16 @@ module _ (text stored : List ℕ) where
       (λ t h. held (codes "$bcrypt-sha256-hex" ++ rest) stored refl h)
       (λ h. no_ok _ stored h)
 
+  django_made : (hash : Pbkdf2Hash) (rest : List ℕ) → django_pbkdf2 hash rest ≡ Ok stored → First stored
+  django_made hash rest h =
+      made_first stored (three_made (django_pbkdf2_fields hash) (three_of (pieces_at 36 rest)) stored
+      (λ r s k. with_kdf_made (pbkdf2_cost hash r) (Some s) (field_bytes base64 k) stored) h)
+
   django_first : django text ≡ Ok stored → First stored
   unfolding django
   django_first =
-      by_front django_pbkdf2 (behind text (codes "pbkdf2_sha256$")) _ stored
-      (λ rest h. made_first stored (three_made django_pbkdf2_fields (three_of (pieces_at 36 rest)) stored
-      (λ r s k. with_kdf_made (pbkdf2_cost Sha256 r) (Some s) (field_bytes base64 k) stored) h))
+      by_front (django_pbkdf2 Sha256) (behind text (codes "pbkdf2_sha256$")) _ stored (django_made Sha256)
+      (by_front (django_pbkdf2 Sha1) (behind text (codes "pbkdf2_sha1$")) _ stored (django_made Sha1)
       (by_front django_scrypt (behind text (codes "scrypt$")) _ stored
       (λ rest h. made_first stored (five_made django_scrypt_fields (five_of (pieces_at 36 rest)) stored
       (λ n s r p k. with_kdf_made (scrypt_cost n r p) (Some s) (field_bytes base64 k) stored) h))
@@ -64,13 +74,72 @@ module _ (text stored : List ℕ) where
       (by_front django_bcrypt (behind text (codes "bcrypt$")) _ stored
       (λ rest h. signed (codes "2") rest stored Form h)
       (by_front django_digest_text (behind text (codes "bcrypt_sha256$")) _ stored digest_first
-      (λ h. no_ok _ stored h)))))
+      (λ h. no_ok _ stored h))))))
 
   werkzeug_first : werkzeug text ≡ Ok stored → First stored
   unfolding werkzeug
   werkzeug_first h =
       made_first stored (three_made werkzeug_fields (three_of (pieces_at 36 text)) stored
       (λ m s k. with_kdf_made (werkzeug_method m) (Some s) (small_hex k) stored) h)
+
+  -- ---- the text of a digest begins with `$`
+
+  text_first : (hash : DigestHash) (salt hashed : List ℕ) → given (digest_text hash salt hashed) ≡ Ok stored → First stored
+  unfolding digest_text
+  text_first hash salt hashed h = held (digest_text hash salt hashed) stored refl h
+
+  salted_bytes_first : (hash : DigestHash) (bytes : Option (List ℕ)) → salted_bytes hash bytes ≡ Ok stored → First stored
+  salted_bytes_first hash None h = no_ok _ stored h
+  salted_bytes_first hash (Some bytes) h =
+      let hashed : List ℕ = take (digest_size hash) bytes in
+      let salt : List ℕ = drop (digest_size hash) bytes in
+      by_test (nat_lt (length bytes) (digest_size hash)) _ (with_digest hash hashed salt) stored (λ t i. no_ok _ stored i)
+      (by_test (nat_le 1 (length salt) && nat_le (length salt) 48) _ _ stored (λ t i. text_first hash salt hashed i)
+      (λ i. no_ok _ stored i)) h
+
+  salted_first : (hash : DigestHash) (field : List ℕ) → salted_field hash field ≡ Ok stored → First stored
+  unfolding salted_field
+  salted_first hash field =
+      by_test (nat_le (length field) 152) (salted_bytes hash (decoding base64 field)) _ stored
+      (λ t h. salted_bytes_first hash (decoding base64 field) h) (λ h. no_ok _ stored h)
+
+  bare_bytes_first : (hash : DigestHash) (bytes : Option (List ℕ)) → bare_bytes hash bytes ≡ Ok stored → First stored
+  bare_bytes_first hash None h = no_ok _ stored h
+  bare_bytes_first hash (Some bytes) h =
+      by_test (length bytes == digest_size hash) _ _ stored (λ t i. text_first hash [] bytes i) (λ i. no_ok _ stored i) h
+
+  bare_first : (hash : DigestHash) (field : List ℕ) → bare_field hash field ≡ Ok stored → First stored
+  unfolding bare_field
+  bare_first hash field =
+      by_test (nat_le (length field) 152) (bare_bytes hash (decoding base64 field)) _ stored
+      (λ t h. bare_bytes_first hash (decoding base64 field) h) (λ h. no_ok _ stored h)
+
+  by_field : (name : unread.Unread) (read : List ℕ → Answer) (o : Option (List ℕ)) (other : Option Answer)
+      → ((field : List ℕ) → read field ≡ Ok stored → First stored) → (or_unread other name ≡ Ok stored → First stored)
+      → or_unread (or_field read o other) name ≡ Ok stored → First stored
+  by_field name read None other f g h = g h
+  by_field name read (Some field) other f g h = f field h
+
+  salted_tags_first : (name : unread.Unread) → or_unread (salted_tags text) name ≡ Ok stored → First stored
+  salted_tags_first name =
+      by_field name (salted_field digest.Md5) (behind_tag text (codes "{SMD5}") (codes "{smd5}")) _ (salted_first digest.Md5)
+      (by_field name (salted_field digest.Sha1) (behind_tag text (codes "{SSHA}") (codes "{ssha}")) _ (salted_first digest.Sha1)
+      (by_field name (salted_field digest.Sha256) (behind_tag text (codes "{SSHA256}") (codes "{ssha256}")) _
+      (salted_first digest.Sha256)
+      (by_field name (salted_field digest.Sha512) (behind_tag text (codes "{SSHA512}") (codes "{ssha512}")) None
+      (salted_first digest.Sha512) (λ h. no_ok _ stored h))))
+
+  tags_first : (name : unread.Unread) → or_unread (digest_tags text) name ≡ Ok stored → First stored
+  tags_first name =
+      by_field name (bare_field digest.Sha1) (behind_tag text (codes "{SHA}") (codes "{sha}")) _ (bare_first digest.Sha1)
+      (by_field name (bare_field digest.Sha256) (behind_tag text (codes "{SHA256}") (codes "{sha256}")) _ (bare_first digest.Sha256)
+      (by_field name (bare_field digest.Sha512) (behind_tag text (codes "{SHA512}") (codes "{sha512}")) _ (bare_first digest.Sha512)
+      (salted_tags_first name)))
+
+  ldap_made_first : (name : unread.Unread) → or_unread (ldap_digests text) name ≡ Ok stored → First stored
+  ldap_made_first name =
+      by_field name (bare_field digest.Md5) (behind_tag text (codes "{MD5}") (codes "{md5}")) _ (bare_first digest.Md5)
+      (tags_first name)
 
   ldap_first : ldap text ≡ Ok stored → First stored
   unfolding ldap
@@ -85,7 +154,11 @@ module _ (text stored : List ℕ) where
       (λ rest h. made_first stored (either_made Sha256 rest stored h))
       (by_front (either_pbkdf2 Sha512) (behind_tag text (codes "{PBKDF2-SHA512}") (codes "{pbkdf2-sha512}")) _ stored
       (λ rest h. made_first stored (either_made Sha512 rest stored h))
-      (λ h. no_ok _ stored h)))))
+      (by_front (either_pbkdf2 Sha1) (behind_tag text (codes "{PBKDF2-SHA1}") (codes "{pbkdf2-sha1}")) _ stored
+      (λ rest h. made_first stored (either_made Sha1 rest stored h))
+      (by_front (either_pbkdf2 Sha1) (behind_tag text (codes "{PBKDF2}") (codes "{pbkdf2}")) _ stored
+      (λ rest h. made_first stored (either_made Sha1 rest stored h))
+      (ldap_made_first (ldap_unread text))))))))
 
   -- ---- a text of SCRAM begins with `$`
 
@@ -140,6 +213,23 @@ module _ (text stored : List ℕ) where
   unread_first : stored_or_unread text ≡ Ok stored → First stored
   unread_first h = signed [] text stored (Unread unread_other) h
 
+  sized_made : (t : Bool) (answer : Answer) → if_sized t answer ≡ Ok stored → answer ≡ Ok stored
+  sized_made true answer h = h
+  sized_made false (Err e) h = no_ok _ stored h
+  sized_made false (Ok text) h = no_ok _ stored h
+
+  key_first : (rest : List ℕ) → dovecot_fields rest ≡ Ok stored → First stored
+  key_first rest h =
+      made_first stored (three_made dovecot_key (three_of (pieces_at 36 rest)) stored
+      (λ s r k i. with_kdf_made (pbkdf2_cost Sha1 r) (Some s) (small_hex k) stored
+      (sized_made (is_size (Some 20) (small_hex k)) (with_kdf (pbkdf2_cost Sha1 r) (Some s) (small_hex k)) i)) h)
+
+  dovecot_digests_first : (name : unread.Unread) → or_unread (dovecot_digests text) name ≡ Ok stored → First stored
+  dovecot_digests_first name =
+      by_field name (bare_field digest.Md5) (behind_tag text (codes "{LDAP-MD5}") (codes "{ldap-md5}")) _ (bare_first digest.Md5)
+      (by_field name (bare_field digest.Sha1) (behind_tag text (codes "{SHA1}") (codes "{sha1}")) _ (bare_first digest.Sha1)
+      (tags_first name))
+
   dovecot_first : dovecot text ≡ Ok stored → First stored
   unfolding dovecot
   dovecot_first =
@@ -159,7 +249,9 @@ module _ (text stored : List ℕ) where
       (λ rest h. signed [] rest stored (crypt_fault rest) h)
       (by_front dovecot_scram (behind_tag text (codes "{SCRAM-SHA-256}") (codes "{scram-sha-256}")) _ stored
       (λ rest h. four_first (four_of (pieces_at 44 rest)) h)
-      (λ h. no_ok _ stored h))))))))
+      (by_front dovecot_pbkdf2 (behind_tag text (codes "{PBKDF2}") (codes "{pbkdf2}")) _ stored
+      (λ rest. by_front dovecot_fields (behind rest (codes "$1$")) _ stored key_first (λ h. no_ok _ stored h))
+      (dovecot_digests_first (dovecot_unread text))))))))))
 
   postgres_first : postgres text ≡ Ok stored → First stored
   unfolding postgres
@@ -174,12 +266,10 @@ module _ (text stored : List ℕ) where
       made_first stored (three_made spring_scrypt_fields (three_of (pieces_at 36 rest)) stored
       (λ c s k. with_kdf_made (spring_cost c) (field_bytes base64 s) (field_bytes base64 k) stored) h)
 
-  spring_digits_made : (rest : List ℕ) → spring_pbkdf2 rest ≡ Ok stored → First stored
-  spring_digits_made rest =
-      by_test (length rest == 96)
-      (with_kdf (Ok (Pbkdf2 Sha256 310000)) (small_hex (take 32 rest)) (small_hex (drop 32 rest))) _ stored
-      (λ t h. made_first stored (with_kdf_made (Ok (Pbkdf2 Sha256 310000)) (small_hex (take 32 rest))
-      (small_hex (drop 32 rest)) stored h))
+  spring_digits_made : (kdf : Kdf) (size : ℕ) (rest : List ℕ) → spring_pbkdf2 kdf size rest ≡ Ok stored → First stored
+  spring_digits_made kdf size rest =
+      by_test (length rest == size + 64) (with_kdf (Ok kdf) (small_hex (take size rest)) (small_hex (drop size rest))) _ stored
+      (λ t h. made_first stored (with_kdf_made (Ok kdf) (small_hex (take size rest)) (small_hex (drop size rest)) stored h))
       (λ h. no_ok _ stored h)
 
   spring_first : spring text ≡ Ok stored → First stored
@@ -192,19 +282,16 @@ module _ (text stored : List ℕ) where
       (λ rest h. signed (codes "argon2") rest stored Form h)
       (by_front spring_scrypt (behind_tag text (codes "{scrypt@SpringSecurity_v5_8}") (codes "{scrypt}")) _ stored
       (λ rest. by_front spring_fields (behind rest (codes "$")) _ stored spring_fields_made (λ h. no_ok _ stored h))
-      (by_front spring_pbkdf2 (behind text (codes "{pbkdf2@SpringSecurity_v5_8}")) _ stored spring_digits_made
-      (λ h. no_ok _ stored h))))
+      (by_front spring_newer (behind text (codes "{pbkdf2@SpringSecurity_v5_8}")) _ stored
+      (spring_digits_made (Pbkdf2 Sha256 310000) 32)
+      (by_front spring_older (behind text (codes "{pbkdf2}")) _ stored (spring_digits_made (Pbkdf2 Sha1 185000) 16)
+      (λ h. no_ok _ stored h)))))
 
   elasticsearch_first : elasticsearch text ≡ Ok stored → First stored
   unfolding elasticsearch
   elasticsearch_first =
       by_front (encoded_pbkdf2 base64 Sha512) (behind text (codes "{PBKDF2}")) _ stored
       (λ rest h. made_first stored (encoded_made base64 Sha512 rest stored h)) (λ h. no_ok _ stored h)
-
-  sized_made : (t : Bool) (answer : Answer) → if_sized t answer ≡ Ok stored → answer ≡ Ok stored
-  sized_made true answer h = h
-  sized_made false (Err e) h = no_ok _ stored h
-  sized_made false (Ok text) h = no_ok _ stored h
 
   mediawiki_first : mediawiki text ≡ Ok stored → First stored
   unfolding mediawiki
@@ -241,7 +328,7 @@ module _ (text stored : List ℕ) where
   by_format_first None b h = no_ok _ stored h
   by_format_first (Some format) b h =
       by_test (format == 0) _ (if (format == 1) && nat_le 13 (length b) then aspnet_v3 b else Err Form) stored
-      (λ z i. no_ok _ stored i)
+      (λ z. by_test (length b == 49) _ _ stored (λ t. aspnet_sized_first Sha1 1000 16 (drop 1 b)) (λ i. no_ok _ stored i))
       (by_test ((format == 1) && nat_le 13 (length b)) (aspnet_v3 b) _ stored
       (λ t. aspnet_with_first (aspnet_hash (number_at b 1)) (number_at b 5) (number_at b 9) (drop 13 b))
       (λ i. no_ok _ stored i)) h
@@ -257,10 +344,6 @@ module _ (text stored : List ℕ) where
 -- ---- makers whose own texts begin with `$`: the text stays, or one is made
 
 module _ (text stored : List ℕ) where
-  other_kept : (o : Option unread.Unread) → passlib_other text o ≡ Ok stored → text ≡ stored
-  other_kept None h = same_ok text stored h
-  other_kept (Some name) h = no_ok _ stored h
-
   of_pbkdf2 : (hash : Pbkdf2Hash) (rest : List ℕ) → passlib_pbkdf2 hash text rest ≡ Ok stored
       → (text ≡ stored) ⊎ IsMade stored
   of_pbkdf2 hash rest =
@@ -273,7 +356,9 @@ module _ (text stored : List ℕ) where
   passlib_gives =
       by_front (passlib_pbkdf2 Sha256 text) (behind text (codes "$pbkdf2-sha256$")) _ stored (of_pbkdf2 Sha256)
       (by_front (passlib_pbkdf2 Sha512 text) (behind text (codes "$pbkdf2-sha512$")) _ stored (of_pbkdf2 Sha512)
-      (λ h. inl (other_kept (passlib_unread text) h)))
+      (by_front (encoded_pbkdf2 base64_pbkdf2 Sha1) (behind text (codes "$pbkdf2$")) _ stored
+      (λ rest h. inr (encoded_made base64_pbkdf2 Sha1 rest stored h))
+      (λ h. inl (stays text stored h))))
 
   cisco_fields_made : (kdf : Kdf) (pieces : List (List ℕ)) → cisco_fields kdf pieces ≡ Ok stored → IsMade stored
   cisco_fields_made kdf [] h = no_ok _ stored h
@@ -304,18 +389,21 @@ module _ (text stored : List ℕ) where
 
 passlib_made : (kdf : Kdf) (salt key : List ℕ) → passlib (made_text kdf salt key) ≡ Ok (made_text kdf salt key)
 unfolding passlib made_text record_text
+passlib_made (Pbkdf2 Sha1 rounds) salt key = refl
 passlib_made (Pbkdf2 Sha256 rounds) salt key = refl
 passlib_made (Pbkdf2 Sha512 rounds) salt key = refl
 passlib_made (Scrypt ln r p) salt key = refl
 
 cisco_made : (kdf : Kdf) (salt key : List ℕ) → cisco (made_text kdf salt key) ≡ Ok (made_text kdf salt key)
 unfolding cisco made_text record_text
+cisco_made (Pbkdf2 Sha1 rounds) salt key = refl
 cisco_made (Pbkdf2 Sha256 rounds) salt key = refl
 cisco_made (Pbkdf2 Sha512 rounds) salt key = refl
 cisco_made (Scrypt ln r p) salt key = refl
 
 mosquitto_made : (kdf : Kdf) (salt key : List ℕ) → mosquitto (made_text kdf salt key) ≡ Ok (made_text kdf salt key)
 unfolding mosquitto made_text record_text
+mosquitto_made (Pbkdf2 Sha1 rounds) salt key = refl
 mosquitto_made (Pbkdf2 Sha256 rounds) salt key = refl
 mosquitto_made (Pbkdf2 Sha512 rounds) salt key = refl
 mosquitto_made (Scrypt ln r p) salt key = refl

@@ -1,5 +1,5 @@
 mod Lengths
-mod ScramTexts
+mod PaddedTexts
 pub mod Records
 mod Made
 mod Spelled

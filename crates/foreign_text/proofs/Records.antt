@@ -18,12 +18,13 @@ use Rattle.foreign_text.specs.Records.{identifier, made_text, params_of, record_
 use Rattle.foreign_text.specs.declared.kdf.Kdf.{Kdf}
 use Rattle.foreign_text.specs.declared.kdf.Kdf.TheVariants.{Pbkdf2, Scrypt}
 use Rattle.foreign_text.specs.declared.kdf.Pbkdf2Hash.{Pbkdf2Hash}
-use Rattle.foreign_text.specs.declared.kdf.Pbkdf2Hash.TheVariants.{Sha256, Sha512}
+use Rattle.foreign_text.specs.declared.kdf.Pbkdf2Hash.TheVariants.{Sha1, Sha256, Sha512}
 
 -- ---- the front
 
 pub pbkdf2_front_is : (hash : Pbkdf2Hash) (rounds : ℕ) → pbkdf2_sign hash ++ decimal rounds ≡ front_text (Pbkdf2 hash rounds)
 unfolding front_text
+pbkdf2_front_is Sha1 rounds = refl
 pbkdf2_front_is Sha256 rounds = refl
 pbkdf2_front_is Sha512 rounds = refl
 
@@ -40,6 +41,7 @@ scrypt_front_is ln r p =
 made_is : (kdf : Kdf) (salt key : List ℕ)
     → front_text kdf ++ 36 ∷ encoding salt ++ 36 ∷ encoding key ≡ made_text kdf salt key
 unfolding made_text record_text front_text
+made_is (Pbkdf2 Sha1 rounds) salt key = refl
 made_is (Pbkdf2 Sha256 rounds) salt key = refl
 made_is (Pbkdf2 Sha512 rounds) salt key = refl
 made_is (Scrypt ln r p) salt key = refl
@@ -58,6 +60,7 @@ joined_is kdf salt key text is =
 -- ---- the record
 
 is_named : (kdf : Kdf) → is_name (identifier kdf) ≡ true
+is_named (Pbkdf2 Sha1 rounds) = refl
 is_named (Pbkdf2 Sha256 rounds) = refl
 is_named (Pbkdf2 Sha512 rounds) = refl
 is_named (Scrypt ln r p) = refl

@@ -1,7 +1,7 @@
--- What Django, Werkzeug, OpenLDAP and passlib write is converted to the text of the record.
+-- What Django, Werkzeug, OpenLDAP and passlib write is converted to the text of the record, or of the digest and its salt.
 use Rattle.std.proofs.Common.{◌≡◌, ℕ, zero, suc, ◌+◌, ◌-◌, ◌*◌, ◌%◌, ◌/◌, ◌^◌, ◌<◌, ◌≤◌, Bool, true, false, List, [], ◌∷◌, ◌++◌, length, map}
-use Rattle.std.proofs.Common.{refl, ap, ◌∙◌, arith, Ok}
-use Rattle.std.specs.Prelude.{◌==◌, not, replicate, Some, None, codes, drop, nat_eq, nat_le}
+use Rattle.std.proofs.Common.{refl, sym, ap, ◌∙◌, arith, Ok}
+use Rattle.std.specs.Prelude.{◌==◌, not, replicate, Some, None, codes, take, drop, nat_eq, nat_le, nat_lt}
 use Rattle.std.specs.Cmp.Lexicographic.{pointwise}
 use Rattle.std.specs.List.{ends_with}
 use Rattle.std.proofs.lemmas.Bool.Decides.{nat_tests}
@@ -10,6 +10,9 @@ use Rattle.std.specs.Fmt.{decimal}
 use Rattle.std.specs.List.{list_all}
 use Rattle.std.proofs.lemmas.Bool.{and_parts}
 use Rattle.std.proofs.lemmas.Fmt.{decimal_nonempty}
+use Rattle.std.proofs.lemmas.List.{length-append}
+use Rattle.std.proofs.lemmas.Option.{none-some, same_Some}
+use Rattle.std.proofs.Math.Seq.{drop-append_seam, take-append_seam}
 use Rattle.pieces.specs.Pieces.{LacksByte, pieces_at}
 use Rattle.pieces.proofs.ByteTests.{all_append, all_weaker, lacks, passes_at}
 use Rattle.pieces.proofs.Cuts.{first_cut, one_piece}
@@ -18,6 +21,7 @@ use Rattle.base64ct.specs.Alphabets.{base64, base64_pbkdf2}
 use Rattle.base64ct.specs.Encoding.{Alphabet, EachBelow, character, encoding, groups, is_alphabet, padding}
 use Rattle.base64ct.proofs.DecodingLaws.{decoding-encoding}
 use Rattle.base64ct.proofs.Encodings.{groups-below}
+use Rattle.base64ct.proofs.GoodBlocks.{below-append}
 use Rattle.base64ct.proofs.Padding.{length-encoding, padding_count}
 use Rattle.phc.specs.Grammar.{value_fault}
 use Rattle.phc.proofs.Characters.{decimal_digits}
@@ -26,18 +30,23 @@ use Rattle.hex.specs.Hex.{encode_lower, encode_with, lower_digits}
 use Rattle.hex.proofs.HexLemmas.{decode_of-encode_lower, length-encode_with}
 use Rattle.foreign_text.specs.Converted.{converted}
 use Rattle.foreign_text.specs.Django.{django, django_pbkdf2_fields}
+use Rattle.salted_digest.specs.Digest.{digest_size}
+use Rattle.salted_digest.specs.declared.hash.DigestHash.{DigestHash}
+use Rattle.salted_digest.specs.declared.hash.DigestHash.TheVariants as digest
+use Rattle.foreign_text.specs.Digests.{bare_field, digest_text, salted_field}
 use Rattle.foreign_text.specs.Encoded.{either_fields, encoded_fields}
 use Rattle.foreign_text.specs.Fields.{field_bytes, in_three, is_small_digit, number_of, small_hex, three_of}
 use Rattle.foreign_text.specs.Laws.{AreHeld}
 use Rattle.foreign_text.specs.Ldap.{ldap}
 use Rattle.foreign_text.specs.Passlib.{begins_with_digit, passlib}
 use Rattle.foreign_text.specs.Records.{made_text}
-use Rattle.foreign_text.specs.Spellings.{django_spelling, ldap_spelling, passlib_spelling, three, werkzeug_hash, werkzeug_spelling}
+use Rattle.foreign_text.specs.Spellings.{bare_spelling, django_front, django_spelling, ldap_spelling, passlib_spelling, salted_spelling, three}
+use Rattle.foreign_text.specs.Spellings.{werkzeug_hash, werkzeug_spelling}
 use Rattle.foreign_text.specs.Werkzeug.{werkzeug, werkzeug_fields, werkzeug_method}
 use Rattle.foreign_text.specs.declared.converted.Foreign.TheVariants.{Django, Ldap, Passlib, Werkzeug}
 use Rattle.foreign_text.specs.declared.kdf.Kdf.TheVariants.{Pbkdf2}
 use Rattle.foreign_text.specs.declared.kdf.Pbkdf2Hash.{Pbkdf2Hash}
-use Rattle.foreign_text.specs.declared.kdf.Pbkdf2Hash.TheVariants.{Sha256, Sha512}
+use Rattle.foreign_text.specs.declared.kdf.Pbkdf2Hash.TheVariants.{Sha1, Sha256, Sha512}
 use Rattle.foreign_text.proofs.Lengths.{key_held, salt_held, taken}
 use Rattle.phc.proofs.ValueBytes.{values}
 
@@ -161,10 +170,10 @@ unpadded_end key below =
 -- ---- the fields
 
 module _ (rounds : ℕ) (salt key : List ℕ) where
-  django_read : AreHeld (Pbkdf2 Sha256 rounds) salt key → LacksByte 36 salt
-      → in_three django_pbkdf2_fields (three_of (pieces_at 36 (three (decimal rounds) salt (encoding base64 key))))
-      ≡ Ok (made_text (Pbkdf2 Sha256 rounds) salt key)
-  django_read held plain =
+  django_read : (hash : Pbkdf2Hash) → AreHeld (Pbkdf2 hash rounds) salt key → LacksByte 36 salt
+      → in_three (django_pbkdf2_fields hash) (three_of (pieces_at 36 (three (decimal rounds) salt (encoding base64 key))))
+      ≡ Ok (made_text (Pbkdf2 hash rounds) salt key)
+  django_read hash held plain =
       let cut = three_cut (decimal rounds) salt (encoding base64 key) (decimal_lacks rounds held.cost_fits) plain
       (encoding_lacks base64 key refl refl held.key_bytes) in
       rw (
@@ -225,14 +234,22 @@ module _ (rounds : ℕ) (salt key : List ℕ) where
 
 -- ---- the laws
 
-pub django_kept : (rounds : ℕ) (salt key : List ℕ) → AreHeld (Pbkdf2 Sha256 rounds) salt key → LacksByte 36 salt
-    → converted Django (django_spelling rounds salt key) ≡ Ok (made_text (Pbkdf2 Sha256 rounds) salt key)
+pub django_kept : (hash : Pbkdf2Hash) (front : List ℕ) (rounds : ℕ) (salt key : List ℕ) → django_front hash ≡ Some front
+    → AreHeld (Pbkdf2 hash rounds) salt key → LacksByte 36 salt
+    → converted Django (django_spelling front rounds salt key) ≡ Ok (made_text (Pbkdf2 hash rounds) salt key)
 unfolding converted django
-django_kept rounds salt key held plain = django_read rounds salt key held plain
+django_kept Sha1 front rounds salt key named held plain =
+    ap (λ (f : List ℕ). converted Django (django_spelling f rounds salt key)) (sym (same_Some (codes "pbkdf2_sha1$") front named))
+    ∙ django_read rounds salt key Sha1 held plain
+django_kept Sha256 front rounds salt key named held plain =
+    ap (λ (f : List ℕ). converted Django (django_spelling f rounds salt key)) (sym (same_Some (codes "pbkdf2_sha256$") front named))
+    ∙ django_read rounds salt key Sha256 held plain
+django_kept Sha512 front rounds salt key named held plain = absurd (none-some front named)
 
 pub ldap_kept : (hash : Pbkdf2Hash) (rounds : ℕ) (salt key : List ℕ) → AreHeld (Pbkdf2 hash rounds) salt key
     → converted Ldap (ldap_spelling hash rounds salt key) ≡ Ok (made_text (Pbkdf2 hash rounds) salt key)
 unfolding converted ldap
+ldap_kept Sha1 rounds salt key held = either_read rounds salt key Sha1 held
 ldap_kept Sha256 rounds salt key held = either_read rounds salt key Sha256 held
 ldap_kept Sha512 rounds salt key held = either_read rounds salt key Sha512 held
 
@@ -243,6 +260,7 @@ no_colon n small = lacks is_ascii_digit 58 refl (decimal n) (decimal_digits n sm
 method_read : (hash : Pbkdf2Hash) (rounds : ℕ) → rounds < 2 ^ 32
     → werkzeug_method (werkzeug_hash hash ++ decimal rounds) ≡ Ok (Pbkdf2 hash rounds)
 unfolding werkzeug_method
+method_read Sha1 rounds small = rw (one_piece 58 (decimal rounds) (no_colon rounds small), rounds_read rounds small) refl
 method_read Sha256 rounds small = rw (one_piece 58 (decimal rounds) (no_colon rounds small), rounds_read rounds small) refl
 method_read Sha512 rounds small = rw (one_piece 58 (decimal rounds) (no_colon rounds small), rounds_read rounds small) refl
 
@@ -250,6 +268,10 @@ digit_is_plain : (b : ℕ) → is_ascii_digit b ≡ true → no_dollar b ≡ tru
 digit_is_plain b h = grind (arith, nat_tests)
 
 method_lacks : (hash : Pbkdf2Hash) (rounds : ℕ) → rounds < 2 ^ 32 → LacksByte 36 (werkzeug_hash hash ++ decimal rounds)
+method_lacks Sha1 rounds small =
+    lacks no_dollar 36 refl (codes "pbkdf2:sha1:" ++ decimal rounds)
+    (all_append no_dollar (codes "pbkdf2:sha1:") (decimal rounds) refl
+    (all_weaker is_ascii_digit no_dollar digit_is_plain (decimal rounds) (decimal_digits rounds small)))
 method_lacks Sha256 rounds small =
     lacks no_dollar 36 refl (codes "pbkdf2:sha256:" ++ decimal rounds)
     (all_append no_dollar (codes "pbkdf2:sha256:") (decimal rounds) refl
@@ -263,6 +285,9 @@ pub werkzeug_kept : (hash : Pbkdf2Hash) (rounds : ℕ) (salt key : List ℕ) →
     → LacksByte 36 salt
     → converted Werkzeug (werkzeug_spelling hash rounds salt key) ≡ Ok (made_text (Pbkdf2 hash rounds) salt key)
 unfolding converted werkzeug
+werkzeug_kept Sha1 rounds salt key held plain =
+    werkzeug_read rounds salt key Sha1 held plain (method_lacks Sha1 rounds held.cost_fits)
+    (method_read Sha1 rounds held.cost_fits)
 werkzeug_kept Sha256 rounds salt key held plain =
     werkzeug_read rounds salt key Sha256 held plain (method_lacks Sha256 rounds held.cost_fits)
     (method_read Sha256 rounds held.cost_fits)
@@ -287,7 +312,59 @@ digit_held rounds salt key small =
 pub passlib_kept : (hash : Pbkdf2Hash) (rounds : ℕ) (salt key : List ℕ) → AreHeld (Pbkdf2 hash rounds) salt key
     → converted Passlib (passlib_spelling hash rounds salt key) ≡ Ok (made_text (Pbkdf2 hash rounds) salt key)
 unfolding converted passlib
+passlib_kept Sha1 rounds salt key held = adapted_read rounds salt key Sha1 held
 passlib_kept Sha256 rounds salt key held =
     rw (digit_held rounds salt key held.cost_fits) (adapted_read rounds salt key Sha256 held)
 passlib_kept Sha512 rounds salt key held =
     rw (digit_held rounds salt key held.cost_fits) (adapted_read rounds salt key Sha512 held)
+
+-- ---- digests
+
+size_most : (hash : DigestHash) → digest_size hash ≤ 64
+size_most digest.Md5 = omega arith
+size_most digest.Sha1 = omega arith
+size_most digest.Sha256 = omega arith
+size_most digest.Sha512 = omega arith
+
+module _ (hash : DigestHash) (hashed : List ℕ) (below : EachBelow 256 hashed) (size : length hashed ≡ digest_size hash) where
+  salted_read : (salt : List ℕ) → EachBelow 256 salt → 1 ≤ length salt → length salt ≤ 48
+      → salted_field hash (encoding base64 (hashed ++ salt)) ≡ Ok (digest_text hash salt hashed)
+  unfolding salted_field
+  salted_read salt bytes least most =
+      let all : List ℕ = hashed ++ salt in
+      let whole : EachBelow 256 all = below-append hashed salt below bytes in
+      let long : length all ≡ length hashed + length salt = length-append hashed salt in
+      let count = length-encoding base64 all whole in
+      let short : nat_le (length (encoding base64 all)) 152 ≡ true =
+      grind (arith, nat_tests, count, long, size, size_most hash, most) in
+      let enough : nat_lt (length all) (digest_size hash) ≡ false = grind (arith, nat_tests, long, size) in
+      let first : take (digest_size hash) all ≡ hashed = ap (λ n. take n all) (sym size) ∙ take-append_seam hashed salt in
+      let others : drop (digest_size hash) all ≡ salt = ap (λ n. drop n all) (sym size) ∙ drop-append_seam hashed salt in
+      let some : nat_le 1 (length salt) ≡ true = grind (arith, nat_tests, least) in
+      let few : nat_le (length salt) 48 ≡ true = grind (arith, nat_tests, most) in
+      rw (short, decoding-encoding base64 all refl whole, enough, first, others, some, few) refl
+
+  bare_read : bare_field hash (encoding base64 hashed) ≡ Ok (digest_text hash [] hashed)
+  unfolding bare_field
+  bare_read =
+      let count = length-encoding base64 hashed below in
+      let short : nat_le (length (encoding base64 hashed)) 152 ≡ true = grind (arith, nat_tests, count, size, size_most hash) in
+      let same : (length hashed == digest_size hash) ≡ true = grind (arith, nat_tests, size) in
+      rw (short, decoding-encoding base64 hashed refl below, same) refl
+
+pub salted_kept : (hash : DigestHash) (salt hashed : List ℕ) → EachBelow 256 salt → 1 ≤ length salt → length salt ≤ 48
+    → EachBelow 256 hashed → length hashed ≡ digest_size hash
+    → converted Ldap (salted_spelling hash salt hashed) ≡ Ok (digest_text hash salt hashed)
+unfolding converted ldap
+salted_kept digest.Md5 salt hashed bytes least most below size = salted_read digest.Md5 hashed below size salt bytes least most
+salted_kept digest.Sha1 salt hashed bytes least most below size = salted_read digest.Sha1 hashed below size salt bytes least most
+salted_kept digest.Sha256 salt hashed bytes least most below size = salted_read digest.Sha256 hashed below size salt bytes least most
+salted_kept digest.Sha512 salt hashed bytes least most below size = salted_read digest.Sha512 hashed below size salt bytes least most
+
+pub bare_kept : (hash : DigestHash) (hashed : List ℕ) → EachBelow 256 hashed → length hashed ≡ digest_size hash
+    → converted Ldap (bare_spelling hash hashed) ≡ Ok (digest_text hash [] hashed)
+unfolding converted ldap
+bare_kept digest.Md5 hashed below size = bare_read digest.Md5 hashed below size
+bare_kept digest.Sha1 hashed below size = bare_read digest.Sha1 hashed below size
+bare_kept digest.Sha256 hashed below size = bare_read digest.Sha256 hashed below size
+bare_kept digest.Sha512 hashed below size = bare_read digest.Sha512 hashed below size

@@ -7,11 +7,10 @@ use Rattle.foreign_text.specs.Answers.{Answer}
 use Rattle.foreign_text.specs.Fields.{field_bytes}
 use Rattle.foreign_text.specs.Records.{with_kdf}
 use Rattle.foreign_text.specs.declared.fault.ForeignFault.{ForeignFault}
-use Rattle.foreign_text.specs.declared.fault.ForeignFault.TheVariants.{Form, Rounds, Unread}
-use Rattle.foreign_text.specs.declared.fault.Unread.TheVariants.{Pbkdf2Sha1}
+use Rattle.foreign_text.specs.declared.fault.ForeignFault.TheVariants.{Form, Rounds}
 use Rattle.foreign_text.specs.declared.kdf.Kdf.TheVariants.{Pbkdf2}
 use Rattle.foreign_text.specs.declared.kdf.Pbkdf2Hash.{Pbkdf2Hash}
-use Rattle.foreign_text.specs.declared.kdf.Pbkdf2Hash.TheVariants.{Sha256, Sha512}
+use Rattle.foreign_text.specs.declared.kdf.Pbkdf2Hash.TheVariants.{Sha1, Sha256, Sha512}
 
 -- the number in four bytes from k on, the big end first
 abbrev pub number_at : List ℕ → ℕ → ℕ
@@ -21,7 +20,7 @@ number_at b k =
 -- KeyDerivationPrf: 0 is HMAC-SHA1, 1 HMAC-SHA256 and 2 HMAC-SHA512
 abbrev pub aspnet_hash : ℕ → Result Pbkdf2Hash ForeignFault
 aspnet_hash prf =
-    if prf == 0 then Err (Unread Pbkdf2Sha1)
+    if prf == 0 then Ok Sha1
     else (if prf == 1 then Ok Sha256 else (if prf == 2 then Ok Sha512 else Err Form))
 
 -- a salt of so many bytes, and the key
@@ -39,11 +38,15 @@ aspnet_with (Ok hash) rounds size rest = aspnet_sized hash rounds size rest
 abbrev pub aspnet_v3 : List ℕ → Answer
 aspnet_v3 b = aspnet_with (aspnet_hash (number_at b 1)) (number_at b 5) (number_at b 9) (drop 13 b)
 
--- by the first byte; format 2, with a byte 0, is of SHA-1
+-- format 2: a byte 0, a salt of 16 bytes, and a key of 32 bytes of 1,000 rounds of SHA-1
+abbrev pub aspnet_v2 : List ℕ → Answer
+aspnet_v2 b = if length b == 49 then aspnet_sized Sha1 1000 16 (drop 1 b) else Err Form
+
+-- by the first byte
 abbrev pub by_format : Option ℕ → List ℕ → Answer
 by_format None b = Err Form
 by_format (Some format) b =
-    if format == 0 then Err (Unread Pbkdf2Sha1)
+    if format == 0 then aspnet_v2 b
     else (if (format == 1) && nat_le 13 (length b) then aspnet_v3 b else Err Form)
 
 abbrev pub first_of : List ℕ → Option ℕ

@@ -8,15 +8,16 @@ use Rattle.foreign_text.specs.Fields.{field_bytes, five_of, in_five, in_three, p
 use Rattle.foreign_text.specs.Names.{begins, django_unread}
 use Rattle.foreign_text.specs.Records.{with_kdf}
 use Rattle.foreign_text.specs.declared.fault.ForeignFault.TheVariants.{Form, Unread}
-use Rattle.foreign_text.specs.declared.kdf.Pbkdf2Hash.TheVariants.{Sha256}
+use Rattle.foreign_text.specs.declared.kdf.Pbkdf2Hash.{Pbkdf2Hash}
+use Rattle.foreign_text.specs.declared.kdf.Pbkdf2Hash.TheVariants.{Sha1, Sha256}
 
--- PBKDF2 with SHA-256: of the salt its characters count, and the key is in Base64 with padding (RFC 4648, table 1)
-abbrev pub django_pbkdf2_fields : List ℕ → List ℕ → List ℕ → Answer
-django_pbkdf2_fields rounds salt key = with_kdf (pbkdf2_cost Sha256 rounds) (Some salt) (field_bytes base64 key)
+-- PBKDF2: of the salt its characters count, and the key is in Base64 with padding (RFC 4648, table 1)
+abbrev pub django_pbkdf2_fields : Pbkdf2Hash → List ℕ → List ℕ → List ℕ → Answer
+django_pbkdf2_fields hash rounds salt key = with_kdf (pbkdf2_cost hash rounds) (Some salt) (field_bytes base64 key)
 
--- `pbkdf2_sha256$ROUNDS$SALT$KEY`
-abbrev pub django_pbkdf2 : List ℕ → Answer
-django_pbkdf2 rest = in_three django_pbkdf2_fields (three_of (pieces_at dollar rest))
+-- `pbkdf2_sha256$ROUNDS$SALT$KEY`, and the same with `pbkdf2_sha1`
+abbrev pub django_pbkdf2 : Pbkdf2Hash → List ℕ → Answer
+django_pbkdf2 hash rest = in_three (django_pbkdf2_fields hash) (three_of (pieces_at dollar rest))
 
 -- scrypt: the same of salt and key
 abbrev pub django_scrypt_fields : List ℕ → List ℕ → List ℕ → List ℕ → List ℕ → Answer
@@ -42,8 +43,9 @@ django_digest_text rest =
 
 unfoldable pub django : List ℕ → Answer
 django text =
-    or_behind django_pbkdf2 (behind text (codes "pbkdf2_sha256$"))
+    or_behind (django_pbkdf2 Sha256) (behind text (codes "pbkdf2_sha256$"))
+    (or_behind (django_pbkdf2 Sha1) (behind text (codes "pbkdf2_sha1$"))
     (or_behind django_scrypt (behind text (codes "scrypt$"))
     (or_behind django_argon2 (behind text (codes "argon2"))
     (or_behind django_bcrypt (behind text (codes "bcrypt$"))
-    (or_behind django_digest_text (behind text (codes "bcrypt_sha256$")) (Err (Unread (django_unread text)))))))
+    (or_behind django_digest_text (behind text (codes "bcrypt_sha256$")) (Err (Unread (django_unread text))))))))

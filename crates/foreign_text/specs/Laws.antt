@@ -1,19 +1,22 @@
 -- Laws over the definitions.
-use Rattle.std.specs.Prelude.{◌≡◌, ℕ, ◌^◌, ◌<◌, ◌≤◌, List, length, Ok}
+use Rattle.std.specs.Prelude.{◌≡◌, ℕ, ◌^◌, ◌<◌, ◌≤◌, List, [], length, Ok, Some}
 use Rattle.base64ct.specs.Encoding.{EachBelow}
 use Rattle.pieces.specs.Characters.{dollar}
 use Rattle.pieces.specs.Pieces.{LacksByte}
 use Rattle.phc.specs.Limits.{output_max, output_min, salt_max, salt_min}
 use Rattle.phc.specs.Record.{phc_text}
+use Rattle.salted_digest.specs.Digest.{digest_size}
+use Rattle.salted_digest.specs.declared.hash.DigestHash.{DigestHash}
 use Rattle.foreign_text.specs.Converted.{converted}
+use Rattle.foreign_text.specs.Digests.{digest_text}
 use Rattle.foreign_text.specs.Records.{made_text, record_of}
-use Rattle.foreign_text.specs.Spellings.{django_spelling, ldap_spelling, passlib_spelling, werkzeug_spelling}
+use Rattle.foreign_text.specs.Spellings.{bare_spelling, django_front, django_spelling, ldap_spelling, passlib_spelling, salted_spelling}
+use Rattle.foreign_text.specs.Spellings.{werkzeug_spelling}
 use Rattle.foreign_text.specs.declared.converted.Foreign.{Foreign}
 use Rattle.foreign_text.specs.declared.converted.Foreign.TheVariants.{Django, Ldap, Passlib, Werkzeug}
 use Rattle.foreign_text.specs.declared.kdf.Kdf.{Kdf}
 use Rattle.foreign_text.specs.declared.kdf.Kdf.TheVariants.{Pbkdf2, Scrypt}
 use Rattle.foreign_text.specs.declared.kdf.Pbkdf2Hash.{Pbkdf2Hash}
-use Rattle.foreign_text.specs.declared.kdf.Pbkdf2Hash.TheVariants.{Sha256}
 
 -- what a converter gives is in the one spelling: it converts to itself
 abbrev pub ConvertsToItself : Type 0
@@ -34,12 +37,13 @@ pub record AreHeld (kdf : Kdf) (salt key : List ℕ) : Type 0 where
   pub key_least : output_min ≤ length key
   pub key_most : length key ≤ output_max
 
--- What Django writes for rounds, a salt without a `$` and a key is converted to the text of their record with SHA-256.
+-- What Django writes for a hash, rounds, a salt without a `$` and a key is converted to the text of their record.
 abbrev pub DjangoKept : Type 0
-DjangoKept = (rounds : ℕ) (salt key : List ℕ) → AreHeld (Pbkdf2 Sha256 rounds) salt key → LacksByte dollar salt
-    → converted Django (django_spelling rounds salt key) ≡ Ok (made_text (Pbkdf2 Sha256 rounds) salt key)
+DjangoKept = (hash : Pbkdf2Hash) (front : List ℕ) (rounds : ℕ) (salt key : List ℕ) → django_front hash ≡ Some front
+    → AreHeld (Pbkdf2 hash rounds) salt key → LacksByte dollar salt
+    → converted Django (django_spelling front rounds salt key) ≡ Ok (made_text (Pbkdf2 hash rounds) salt key)
 
--- The same of what Werkzeug writes for a hash, too.
+-- The same of what Werkzeug writes.
 abbrev pub WerkzeugKept : Type 0
 WerkzeugKept = (hash : Pbkdf2Hash) (rounds : ℕ) (salt key : List ℕ) → AreHeld (Pbkdf2 hash rounds) salt key → LacksByte dollar salt
     → converted Werkzeug (werkzeug_spelling hash rounds salt key) ≡ Ok (made_text (Pbkdf2 hash rounds) salt key)
@@ -53,7 +57,17 @@ abbrev pub PasslibKept : Type 0
 PasslibKept = (hash : Pbkdf2Hash) (rounds : ℕ) (salt key : List ℕ) → AreHeld (Pbkdf2 hash rounds) salt key
     → converted Passlib (passlib_spelling hash rounds salt key) ≡ Ok (made_text (Pbkdf2 hash rounds) salt key)
 
--- That text is read as the record again, with the same derivation, cost, salt and key.
+-- What LDAP's servers write for a digest and a salt, in one field, is converted to the text of the hash function, the salt and the digest.
+abbrev pub SaltedKept : Type 0
+SaltedKept = (hash : DigestHash) (salt digest : List ℕ) → EachBelow 256 salt → 1 ≤ length salt → length salt ≤ 48 → EachBelow 256 digest
+    → length digest ≡ digest_size hash → converted Ldap (salted_spelling hash salt digest) ≡ Ok (digest_text hash salt digest)
+
+-- The same of a digest without a salt, which is an empty one.
+abbrev pub BareKept : Type 0
+BareKept = (hash : DigestHash) (digest : List ℕ) → EachBelow 256 digest → length digest ≡ digest_size hash
+    → converted Ldap (bare_spelling hash digest) ≡ Ok (digest_text hash [] digest)
+
+-- The text of a record is read as the record again, with the same derivation, cost, salt and key.
 abbrev pub ReadAgain : Type 0
 ReadAgain = (kdf : Kdf) (salt key : List ℕ) → AreHeld kdf salt key
     → phc_text (made_text kdf salt key) ≡ Ok (record_of kdf salt key)

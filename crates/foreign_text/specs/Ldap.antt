@@ -1,15 +1,17 @@
 -- Texts of LDAP's `userPassword`: a tag, and what the module of that name writes.
-use Rattle.std.specs.Prelude.{ℕ, Bool, ◌||◌, ◌==◌, List, length, nat_lt, Ok, Err, if◌then◌else◌, codes}
+use Rattle.std.specs.Prelude.{ℕ, Bool, ◌||◌, ◌==◌, List, length, nat_lt, Option, Ok, Err, if◌then◌else◌, codes}
 use Rattle.std.specs.List.{list_any}
 use Rattle.pieces.specs.Pieces.{or_behind}
 use Rattle.foreign_text.specs.Answers.{Answer, as_it_is}
 use Rattle.foreign_text.specs.Characters.{colon}
+use Rattle.foreign_text.specs.Digests.{bare_field, digest_tags, or_field, or_unread}
 use Rattle.foreign_text.specs.Encoded.{either_pbkdf2}
 use Rattle.foreign_text.specs.Names.{begins, behind_tag, ldap_unread}
 use Rattle.foreign_text.specs.declared.fault.ForeignFault.{ForeignFault}
 use Rattle.foreign_text.specs.declared.fault.ForeignFault.TheVariants.{Form, Locked, Unread}
 use Rattle.foreign_text.specs.declared.fault.Unread.TheVariants.{DesCrypt}
-use Rattle.foreign_text.specs.declared.kdf.Pbkdf2Hash.TheVariants.{Sha256, Sha512}
+use Rattle.foreign_text.specs.declared.kdf.Pbkdf2Hash.TheVariants.{Sha1, Sha256, Sha512}
+use Rattle.salted_digest.specs.declared.hash.DigestHash.TheVariants.{Md5}
 
 -- What is in the place of crypt(3)'s text is of a locked account: it begins with `*` or `!`, as in shadow(5); or it has fewer than two
 -- characters, as the `x` of passwd(5), and then slapd takes no password (OpenLDAP, libraries/liblutil/passwd.c, chk_crypt).
@@ -32,8 +34,16 @@ ldap_argon2 rest = as_it_is (codes "$argon2") rest
 abbrev pub ldap_bcrypt : List ℕ → Answer
 ldap_bcrypt rest = as_it_is (codes "$2") rest
 
--- `{PBKDF2-SHA256}ROUNDS$SALT$KEY` and `{PBKDF2-SHA512}..`: 389 Directory Server (2.3, pwdhash) pads its fields, OpenLDAP (pw-pbkdf2)
--- and passlib don't
+-- the digests (RFC 2307, section 5.3; slapd.conf(5) and slapd-pw-sha2(5)), of which Dovecot has another tag for one of MD5 without a salt
+abbrev pub ldap_digests : List ℕ → Option Answer
+ldap_digests text = or_field (bare_field Md5) (behind_tag text (codes "{MD5}") (codes "{md5}")) (digest_tags text)
+
+-- a digest, or why another text isn't read
+abbrev pub ldap_made : List ℕ → Answer
+ldap_made text = or_unread (ldap_digests text) (ldap_unread text)
+
+-- `{PBKDF2-SHA256}ROUNDS$SALT$KEY` and `{PBKDF2-SHA512}..`, and with SHA-1 `{PBKDF2}..` and `{PBKDF2-SHA1}..`: 389 Directory Server
+-- (2.3, pwdhash) pads its fields, OpenLDAP (pw-pbkdf2) and passlib don't
 unfoldable pub ldap : List ℕ → Answer
 ldap text =
     or_behind ldap_crypt (behind_tag text (codes "{CRYPT}") (codes "{crypt}"))
@@ -41,7 +51,9 @@ ldap text =
     (or_behind ldap_bcrypt (behind_tag text (codes "{BCRYPT}") (codes "{bcrypt}"))
     (or_behind (either_pbkdf2 Sha256) (behind_tag text (codes "{PBKDF2-SHA256}") (codes "{pbkdf2-sha256}"))
     (or_behind (either_pbkdf2 Sha512) (behind_tag text (codes "{PBKDF2-SHA512}") (codes "{pbkdf2-sha512}"))
-    (Err (Unread (ldap_unread text)))))))
+    (or_behind (either_pbkdf2 Sha1) (behind_tag text (codes "{PBKDF2-SHA1}") (codes "{pbkdf2-sha1}"))
+    (or_behind (either_pbkdf2 Sha1) (behind_tag text (codes "{PBKDF2}") (codes "{pbkdf2}"))
+    (ldap_made text)))))))
 
 -- a colon
 abbrev pub is_colon : ℕ → Bool

@@ -6,6 +6,7 @@ pub mod Fronts
 pub mod Answers
 pub mod Encoded
 pub mod Scram
+pub mod Digests
 pub mod Django
 pub mod Werkzeug
 pub mod Ldap

@@ -1,5 +1,5 @@
 -- The record that foreign fields are read as: a key derivation with its cost, a salt and a key.
-use Rattle.std.specs.Prelude.{ℕ, List, [], ◌∷◌, Option, Some, None, Result, Ok, Err, codes}
+use Rattle.std.specs.Prelude.{ℕ, Bool, true, false, ◌==◌, List, [], ◌∷◌, length, Option, Some, None, Result, Ok, Err, codes}
 use Rattle.std.specs.Fmt.{decimal}
 use Rattle.phc.specs.Params.{Pairs}
 use Rattle.phc.specs.Parts.{output_of_bytes, salt_of_bytes}
@@ -14,12 +14,13 @@ use Rattle.foreign_text.specs.declared.fault.ForeignFault.TheVariants.{Hash, Has
 use Rattle.foreign_text.specs.declared.kdf.Kdf.{Kdf}
 use Rattle.foreign_text.specs.declared.kdf.Kdf.TheVariants.{Pbkdf2, Scrypt}
 use Rattle.foreign_text.specs.declared.kdf.Pbkdf2Hash.{Pbkdf2Hash}
-use Rattle.foreign_text.specs.declared.kdf.Pbkdf2Hash.TheVariants.{Sha256, Sha512}
+use Rattle.foreign_text.specs.declared.kdf.Pbkdf2Hash.TheVariants.{Sha1, Sha256, Sha512}
 
 -- ---- the record
 
 -- the scheme of PBKDF2, by the hash that HMAC takes
 abbrev pub pbkdf2_scheme : Pbkdf2Hash → schemes.Scheme
+pbkdf2_scheme Sha1 = scheme.Pbkdf2Sha1
 pbkdf2_scheme Sha256 = scheme.Pbkdf2Sha256
 pbkdf2_scheme Sha512 = scheme.Pbkdf2Sha512
 
@@ -74,3 +75,17 @@ with_salt kdf (Some salt) key = by_salt kdf (salt_of_bytes salt) key
 abbrev pub with_kdf : Result Kdf ForeignFault → Option (List ℕ) → Option (List ℕ) → Result (List ℕ) ForeignFault
 with_kdf (Err e) salt key = Err e
 with_kdf (Ok kdf) salt key = with_salt kdf salt key
+
+-- ---- a key of a length that is known
+
+-- the number is the length of the key
+abbrev pub is_size : Option ℕ → Option (List ℕ) → Bool
+is_size None key = false
+is_size (Some n) None = false
+is_size (Some n) (Some key) = n == length key
+
+-- a text that is made of a key of another length is refused, after all other faults
+abbrev pub if_sized : Bool → Result (List ℕ) ForeignFault → Result (List ℕ) ForeignFault
+if_sized true answer = answer
+if_sized false (Err e) = Err e
+if_sized false (Ok text) = Err HashLength

@@ -7,7 +7,6 @@ use Rattle.foreign_text.specs.declared.fault.Unread.TheVariants as named
 
 -- of a scheme that isn't read
 abbrev pub unread_word : Unread → List ℕ
-unread_word named.Pbkdf2Sha1 = codes "unsupported-pbkdf2-sha1"
 unread_word named.Scram = codes "unsupported-scram"
 unread_word named.Sha1 = codes "unsupported-sha1"
 unread_word named.Md5 = codes "unsupported-md5"

@@ -1,13 +1,13 @@
 //! Texts of ASP.NET Core Identity.
 
 ghost use Rattle.std.specs.Prelude.{◌≡◌, ◌≤◌, ◌+◌, length};
-ghost use Rattle.foreign_text.specs.AspNet.{aspnet, aspnet_bytes, aspnet_hash, aspnet_sized, aspnet_v3, by_format, first_of, number_at};
+ghost use Rattle.foreign_text.specs.AspNet.{aspnet, aspnet_bytes, aspnet_hash, aspnet_sized, aspnet_v2, aspnet_v3, by_format, first_of, number_at};
 ghost use Rattle.foreign_text.specs.Views.{as_answer};
 
+use crate::ForeignFault;
 use crate::answers::put_made;
 use crate::fields::field_bytes;
 use crate::kdf::{FieldBytes, Kdf, MadeText, Pbkdf2Hash, with_bytes};
-use crate::{ForeignFault, Unread};
 use base64ct::Base64;
 use pieces::short_bytes::ShortBytes;
 
@@ -25,7 +25,7 @@ fn aspnet_hash(prf: u32) -> Result<Pbkdf2Hash, ForeignFault>
     ensures { result ≡ aspnet_hash prf }
 {
     if prf == 0 {
-        Err(ForeignFault::Unread(Unread::Pbkdf2Sha1))
+        Ok(Pbkdf2Hash::Sha1)
     } else if prf == 1 {
         Ok(Pbkdf2Hash::Sha256)
     } else if prf == 2 {
@@ -55,6 +55,17 @@ fn aspnet_sized(
     let (salt, key) = rest.split_at(size);
     let kdf = Kdf::Pbkdf2 { hash, rounds };
     with_bytes(Ok(kdf), salt, Some(ShortBytes::from_slice(key)))
+}
+
+// The text of the bytes of format 2.
+fn aspnet_v2(bytes: &[u8]) -> Result<MadeText, ForeignFault>
+    ensures { result ≡ aspnet_v2 bytes.now }
+{
+    if bytes.len() == 49 {
+        aspnet_sized(Pbkdf2Hash::Sha1, 1_000, 16, &bytes[1..])
+    } else {
+        Err(ForeignFault::Form)
+    }
 }
 
 // The text of the bytes of format 3.
@@ -88,7 +99,7 @@ fn by_format(format: Option<u8>, bytes: &[u8]) -> Result<MadeText, ForeignFault>
         return Err(ForeignFault::Form);
     };
     if format == 0 {
-        return Err(ForeignFault::Unread(Unread::Pbkdf2Sha1));
+        return aspnet_v2(bytes);
     }
     if format == 1 && 13 <= bytes.len() {
         aspnet_v3(bytes)

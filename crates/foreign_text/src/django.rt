@@ -3,7 +3,7 @@
 ghost use Rattle.std.specs.Prelude.{◌≡◌};
 ghost use Rattle.foreign_text.specs.Django.{django, django_digest_text, django_pbkdf2, django_pbkdf2_fields, django_scrypt, django_scrypt_fields};
 ghost use Rattle.foreign_text.specs.Fields.{in_five, in_three};
-ghost use Rattle.foreign_text.specs.Names.{django_digest, django_unread};
+ghost use Rattle.foreign_text.specs.Names.{django_unread};
 ghost use Rattle.foreign_text.specs.Views.{as_answer, as_five, as_three};
 
 use crate::answers::{as_it_is, put_made};
@@ -14,9 +14,9 @@ use base64ct::Base64;
 use pieces::short_bytes::ShortBytes;
 use pieces::{begins_with, behind};
 
-// The scheme of a digest without a cost.
-fn django_digest(text: &str) -> Unread
-    ensures { result ≡ django_digest text.now }
+// The scheme of a text that isn't read.
+fn django_unread(text: &str) -> Unread
+    ensures { result ≡ django_unread text.now }
 {
     if begins_with(text, "sha1$") || begins_with(text, "unsalted_sha1$") {
         Unread::Sha1
@@ -29,24 +29,16 @@ fn django_digest(text: &str) -> Unread
     }
 }
 
-// The scheme of a text that isn't read.
-fn django_unread(text: &str) -> Unread
-    ensures { result ≡ django_unread text.now }
-{
-    if begins_with(text, "pbkdf2_sha1$") {
-        Unread::Pbkdf2Sha1
-    } else {
-        django_digest(text)
-    }
-}
-
 // Rounds, a salt and a key.
-fn pbkdf2_fields(fields: Result<Three<'_>, ForeignFault>) -> Result<MadeText, ForeignFault>
-    ensures { result ≡ in_three django_pbkdf2_fields (as_three fields.entry) }
+fn pbkdf2_fields(
+    hash: Pbkdf2Hash,
+    fields: Result<Three<'_>, ForeignFault>,
+) -> Result<MadeText, ForeignFault>
+    ensures { result ≡ in_three (django_pbkdf2_fields hash) (as_three fields.entry) }
 {
     match fields {
         Ok(f) => with_bytes(
-            pbkdf2_cost(Pbkdf2Hash::Sha256, f.first),
+            pbkdf2_cost(hash, f.first),
             f.second.as_bytes(),
             field_bytes::<Base64>(f.third),
         ),
@@ -68,11 +60,15 @@ fn scrypt_fields(fields: Result<Five<'_>, ForeignFault>) -> Result<MadeText, For
     }
 }
 
-// What comes after `pbkdf2_sha256$`.
-fn django_pbkdf2<'a>(rest: &'a str, made: &mut MadeText) -> Result<Option<&'a str>, ForeignFault>
-    ensures { as_answer result made.new ≡ django_pbkdf2 rest.now }
+// What comes after `pbkdf2_sha256$` or `pbkdf2_sha1$`.
+fn django_pbkdf2<'a>(
+    hash: Pbkdf2Hash,
+    rest: &'a str,
+    made: &mut MadeText,
+) -> Result<Option<&'a str>, ForeignFault>
+    ensures { as_answer result made.new ≡ django_pbkdf2 hash rest.now }
 {
-    put_made(pbkdf2_fields(three_at(rest, '$')), made)
+    put_made(pbkdf2_fields(hash, three_at(rest, '$')), made)
 }
 
 // What comes after `scrypt$`.
@@ -103,7 +99,10 @@ pub(crate) fn django<'a>(
     ensures { as_answer result made.new ≡ django text.now }
 {
     if let Some(rest) = behind(text, "pbkdf2_sha256$") {
-        return django_pbkdf2(rest, made);
+        return django_pbkdf2(Pbkdf2Hash::Sha256, rest, made);
+    }
+    if let Some(rest) = behind(text, "pbkdf2_sha1$") {
+        return django_pbkdf2(Pbkdf2Hash::Sha1, rest, made);
     }
     if let Some(rest) = behind(text, "scrypt$") {
         return django_scrypt(rest, made);

@@ -6,8 +6,6 @@ ghost use Rattle.foreign_text.specs.Words.{fault_word, unread_word};
 /// A scheme of which no text is read.
 #[derive(Clone, Copy, Debug, PartialEq, Eq)]
 pub enum Unread {
-    /// PBKDF2 with SHA-1.
-    Pbkdf2Sha1,
     /// SCRAM with SHA-1.
     Scram,
     /// SHA-1 without a cost, with or without a salt.
@@ -31,7 +29,6 @@ impl Unread {
         ensures short { length result.now ≤ 25 }
     {
         match self {
-            Unread::Pbkdf2Sha1 => "unsupported-pbkdf2-sha1",
             Unread::Scram => "unsupported-scram",
             Unread::Sha1 => "unsupported-sha1",
             Unread::Md5 => "unsupported-md5",
@@ -58,11 +55,11 @@ pub enum ForeignFault {
     Cost,
     /// The salt isn't in the maker's encoding, or has more than 128 characters.
     Salt,
-    /// The salt has fewer than 8 or more than 48 bytes, which no record holds.
+    /// The salt has fewer than 8 or more than 48 bytes, which no record holds; or that of a salted digest has none or more than 48.
     SaltLength,
-    /// The key isn't in the maker's encoding, or has more than 128 characters.
+    /// The key or the digest isn't in the maker's encoding, or the key has more than 128 characters.
     Hash,
-    /// The key has fewer than 10 or more than 64 bytes, which no record holds.
+    /// The key has fewer than 10 or more than 64 bytes, which no record holds; or a digest isn't as long as its hash function's.
     HashLength,
 }
 

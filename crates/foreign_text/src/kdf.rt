@@ -3,7 +3,7 @@
 ghost use Rattle.std.specs.Prelude.{◌≡◌, ◌≤◌, ◌+◌, ◌++◌, codes, length, Some};
 ghost use Rattle.std.specs.Fmt.{decimal};
 ghost use Rattle.phc.specs.Encoded.{encoding};
-ghost use Rattle.foreign_text.specs.Records.{made_text, with_kdf, with_key, with_salt};
+ghost use Rattle.foreign_text.specs.Records.{if_sized, is_size, made_text, with_kdf, with_key, with_salt};
 ghost use Rattle.foreign_text.specs.Fronts.{front_text, pbkdf2_sign};
 
 use crate::ForeignFault;
@@ -24,6 +24,8 @@ pub(crate) type FieldBytes = ShortBytes<96>;
 /// The hash of a text of PBKDF2: the one that its HMAC takes.
 #[derive(Clone, Copy, Debug, PartialEq, Eq)]
 pub enum Pbkdf2Hash {
+    /// SHA-1.
+    Sha1,
     /// SHA-256.
     Sha256,
     /// SHA-512.
@@ -42,9 +44,10 @@ pub enum Kdf {
 // What the text of a record of PBKDF2 begins with, before the rounds.
 fn pbkdf2_sign(hash: Pbkdf2Hash) -> &'static str
     ensures text { result.now ≡ pbkdf2_sign hash }
-    ensures len { length result.now ≡ 17 }
+    ensures len { length result.now ≤ 17 }
 {
     match hash {
+        Pbkdf2Hash::Sha1 => "$pbkdf2-sha1$i=",
         Pbkdf2Hash::Sha256 => "$pbkdf2-sha256$i=",
         Pbkdf2Hash::Sha512 => "$pbkdf2-sha512$i=",
     }
@@ -172,5 +175,34 @@ pub(crate) fn with_decoded(
     match salt {
         Some(salt) => with_salt(kdf, salt.as_slice(), key),
         None => Err(ForeignFault::Salt),
+    }
+}
+
+/// Whether the number is the length of the key.
+pub(crate) fn is_size(size: Option<u32>, key: Option<FieldBytes>) -> bool
+    ensures { result ≡ is_size size key }
+{
+    let Some(size) = size else {
+        return false;
+    };
+    match key {
+        Some(key) => size as usize == key.len(),
+        None => false,
+    }
+}
+
+/// A text whose key has the length that is said, or the fault that it has another.
+pub(crate) fn if_sized(
+    sized: bool,
+    text: Result<MadeText, ForeignFault>,
+) -> Result<MadeText, ForeignFault>
+    ensures { result ≡ if_sized sized text }
+{
+    if sized {
+        return text;
+    }
+    match text {
+        Ok(_) => Err(ForeignFault::HashLength),
+        Err(fault) => Err(fault),
     }
 }

@@ -1,22 +1,24 @@
 //! Laws over the definitions.
 
-ghost use Rattle.foreign_text.specs.Laws.{ConvertsToItself, DjangoKept, LdapKept, PasslibKept, ReadAgain, WerkzeugKept};
+ghost use Rattle.foreign_text.specs.Laws.{BareKept, ConvertsToItself, DjangoKept, LdapKept, PasslibKept, ReadAgain, SaltedKept, WerkzeugKept};
 
 /// What a converter gives is in the one spelling: the same converter gives it again.
 pub fn converts_to_itself()
     ensures itself { ConvertsToItself }
 {}
 
-/// What Django, Werkzeug, OpenLDAP and passlib write for PBKDF2 with a hash (Django for SHA-256), rounds, a salt and a key becomes
-/// the text of the record of these.
+/// What Django, Werkzeug, OpenLDAP and passlib write for PBKDF2 with a hash (Django for SHA-1 and SHA-256), rounds, a salt and a key
+/// becomes the text of the record of these; and what LDAP's servers write for a digest and its salt becomes the text of both.
 pub fn keeps_the_fields()
     ensures django { DjangoKept }
     ensures werkzeug { WerkzeugKept }
     ensures ldap { LdapKept }
     ensures passlib { PasslibKept }
+    ensures salted { SaltedKept }
+    ensures bare { BareKept }
 {}
 
-/// That text is read as this record again.
+/// The text of a record is read as this record again.
 pub fn is_read_again()
     ensures read { ReadAgain }
 {}

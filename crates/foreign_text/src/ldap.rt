@@ -3,14 +3,16 @@
 ghost use Rattle.std.specs.Prelude.{◌≡◌, ℕ, List, Ok};
 ghost use Rattle.std.specs.List.{list_any};
 ghost use Rattle.pieces.specs.Pieces.{lent};
-ghost use Rattle.foreign_text.specs.Ldap.{crypt_fault, is_colon, is_locked_crypt, ldap, ldap_crypt, ldif, whole_text};
-ghost use Rattle.foreign_text.specs.Names.{behind_tag, is_tagged, ldap_digest, ldap_pbkdf2, ldap_sha2, ldap_unread};
+ghost use Rattle.foreign_text.specs.Ldap.{crypt_fault, is_colon, is_locked_crypt, ldap, ldap_crypt, ldap_digests, ldap_made, ldif, whole_text};
+ghost use Rattle.foreign_text.specs.Names.{behind_tag, is_tagged, ldap_digest, ldap_sha2, ldap_unread};
 ghost use Rattle.foreign_text.specs.Views.{as_answer};
 
-use crate::answers::{as_it_is, either_pbkdf2};
+use crate::answers::{as_it_is, either_pbkdf2, put_made};
+use crate::digests::{bare_field, digest_tags};
 use crate::kdf::{MadeText, Pbkdf2Hash};
 use crate::{ForeignFault, Unread};
 use pieces::{begins_with, behind};
+use salted_digest::DigestHash;
 
 /// Whether a text begins with a tag, in capital or in small letters.
 pub(crate) fn is_tagged(text: &str, capital: &str, small: &str) -> bool
@@ -59,19 +61,6 @@ fn ldap_sha2(text: &str) -> Unread
     }
 }
 
-// The scheme of a text of PBKDF2 with SHA-1 or of a digest.
-fn ldap_pbkdf2(text: &str) -> Unread
-    ensures { result ≡ ldap_pbkdf2 text.now }
-{
-    if is_tagged(text, "{PBKDF2-SHA1}", "{pbkdf2-sha1}")
-        || is_tagged(text, "{PBKDF2}", "{pbkdf2}")
-    {
-        Unread::Pbkdf2Sha1
-    } else {
-        ldap_sha2(text)
-    }
-}
-
 /// The scheme of a text that isn't read.
 pub(crate) fn ldap_unread(text: &str) -> Unread
     ensures { result ≡ ldap_unread text.now }
@@ -79,7 +68,7 @@ pub(crate) fn ldap_unread(text: &str) -> Unread
     if !begins_with(text, "{") || is_tagged(text, "{CLEARTEXT}", "{cleartext}") {
         return Unread::Cleartext;
     }
-    ldap_pbkdf2(text)
+    ldap_sha2(text)
 }
 
 // Whether a text in the place of crypt(3)'s is of a locked account.
@@ -111,6 +100,26 @@ pub(crate) fn ldap_crypt(rest: &str) -> Result<Option<&str>, ForeignFault>
     }
 }
 
+// The text of a digest, where a text has the tag of one.
+fn ldap_digests(text: &str) -> Option<Result<MadeText, ForeignFault>>
+    ensures { result ≡ ldap_digests text.now }
+{
+    match behind_tag(text, "{MD5}", "{md5}") {
+        Some(field) => Some(bare_field(DigestHash::Md5, field)),
+        None => digest_tags(text),
+    }
+}
+
+// The stored text of a digest, or why there is none of another text.
+fn ldap_made<'a>(text: &str, made: &mut MadeText) -> Result<Option<&'a str>, ForeignFault>
+    ensures { as_answer result made.new ≡ ldap_made text.now }
+{
+    match ldap_digests(text) {
+        Some(digest) => put_made(digest, made),
+        None => Err(ForeignFault::Unread(ldap_unread(text))),
+    }
+}
+
 /// The stored text of a text of LDAP.
 #[tactic(auto, unfolding(crate::specs::Ldap::ldap))]
 pub(crate) fn ldap<'a>(text: &'a str, made: &mut MadeText) -> Result<Option<&'a str>, ForeignFault>
@@ -131,7 +140,13 @@ pub(crate) fn ldap<'a>(text: &'a str, made: &mut MadeText) -> Result<Option<&'a 
     if let Some(rest) = behind_tag(text, "{PBKDF2-SHA512}", "{pbkdf2-sha512}") {
         return either_pbkdf2(Pbkdf2Hash::Sha512, rest, made);
     }
-    Err(ForeignFault::Unread(ldap_unread(text)))
+    if let Some(rest) = behind_tag(text, "{PBKDF2-SHA1}", "{pbkdf2-sha1}") {
+        return either_pbkdf2(Pbkdf2Hash::Sha1, rest, made);
+    }
+    if let Some(rest) = behind_tag(text, "{PBKDF2}", "{pbkdf2}") {
+        return either_pbkdf2(Pbkdf2Hash::Sha1, rest, made);
+    }
+    ldap_made(text, made)
 }
 
 // A part of a text, which has no colon.

@@ -1,7 +1,7 @@
 //! Stored texts as others spell them, brought to the spelling that `any_check` reads.
 //!
 //! [`stored_text`] takes a text of a maker ([`Foreign`]). Fields of PBKDF2 and scrypt become a record in the PHC string format
-//! with the same cost, salt and key; the texts of argon2, bcrypt and crypt(3) are in the foreign ones as they are. A text of a
+//! with the same cost, salt and key, and a digest with its salt a text of `salted_digest`; the texts of argon2, bcrypt and crypt(3) are in the foreign ones as they are. A text of a
 //! scheme that isn't read, or with a fault, is refused by a [`ForeignFault`], which has a word. Nothing is hashed, and no
 //! memory taken.
 #![tactic(auto)]
@@ -10,6 +10,7 @@ mod answers;
 mod aspnet;
 mod cisco;
 mod converted;
+mod digests;
 mod django;
 mod dovecot;
 mod elasticsearch;
@@ -21,6 +22,7 @@ pub mod laws;
 mod ldap;
 mod mediawiki;
 mod mosquitto;
+mod padded;
 mod passlib;
 mod postgres;
 mod scram;

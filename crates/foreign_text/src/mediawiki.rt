@@ -2,12 +2,12 @@
 
 ghost use Rattle.std.specs.Prelude.{◌≡◌};
 ghost use Rattle.foreign_text.specs.Fields.{in_five};
-ghost use Rattle.foreign_text.specs.MediaWiki.{if_sized, is_size, mediawiki, mediawiki_cost, mediawiki_fields, mediawiki_unread};
+ghost use Rattle.foreign_text.specs.MediaWiki.{mediawiki, mediawiki_cost, mediawiki_fields, mediawiki_unread};
 ghost use Rattle.foreign_text.specs.Views.{as_answer, as_five};
 
 use crate::answers::put_made;
 use crate::fields::{Five, field_bytes, five_at, number_of, pbkdf2_cost};
-use crate::kdf::{FieldBytes, Kdf, MadeText, Pbkdf2Hash, with_decoded};
+use crate::kdf::{Kdf, MadeText, Pbkdf2Hash, if_sized, is_size, with_decoded};
 use crate::{ForeignFault, Unread};
 use base64ct::Base64;
 use pieces::{begins_with, behind};
@@ -21,35 +21,9 @@ fn mediawiki_cost(name: &str, rounds: &str) -> Result<Kdf, ForeignFault>
     } else if name == "sha512" {
         pbkdf2_cost(Pbkdf2Hash::Sha512, rounds)
     } else if name == "sha1" {
-        Err(ForeignFault::Unread(Unread::Pbkdf2Sha1))
+        pbkdf2_cost(Pbkdf2Hash::Sha1, rounds)
     } else {
         Err(ForeignFault::Unread(Unread::Other))
-    }
-}
-
-// Whether the number is the length of the key.
-fn is_size(size: Option<u32>, key: Option<FieldBytes>) -> bool
-    ensures { result ≡ is_size size key }
-{
-    let Some(size) = size else {
-        return false;
-    };
-    match key {
-        Some(key) => size as usize == key.len(),
-        None => false,
-    }
-}
-
-// A text whose key has the length that is said, or the fault that it has another.
-fn if_sized(sized: bool, text: Result<MadeText, ForeignFault>) -> Result<MadeText, ForeignFault>
-    ensures { result ≡ if_sized sized text }
-{
-    if sized {
-        return text;
-    }
-    match text {
-        Ok(_) => Err(ForeignFault::HashLength),
-        Err(fault) => Err(fault),
     }
 }
 

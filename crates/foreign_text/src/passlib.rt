@@ -1,15 +1,14 @@
 //! Texts of passlib.
 
-ghost use Rattle.std.specs.Prelude.{◌≡◌, ℕ, List};
-ghost use Rattle.foreign_text.specs.Passlib.{begins_with_digit, passlib, passlib_other, passlib_pbkdf2};
-ghost use Rattle.foreign_text.specs.Names.{passlib_unread};
+ghost use Rattle.std.specs.Prelude.{◌≡◌};
+ghost use Rattle.foreign_text.specs.Passlib.{begins_with_digit, passlib, passlib_pbkdf2};
 ghost use Rattle.foreign_text.specs.Views.{as_answer};
 
-use crate::answers::encoded_pbkdf2;
+use crate::ForeignFault;
+use crate::answers::{encoded_pbkdf2, stored_or_unread};
 use crate::kdf::{MadeText, Pbkdf2Hash};
-use crate::{ForeignFault, Unread};
 use base64ct::Base64Pbkdf2;
-use pieces::{begins_with, behind};
+use pieces::behind;
 
 // Whether a digit comes first.
 fn begins_with_digit(rest: &str) -> bool
@@ -18,29 +17,6 @@ fn begins_with_digit(rest: &str) -> bool
     match rest.as_bytes().first() {
         Some(b) => b.is_ascii_digit(),
         None => false,
-    }
-}
-
-// The scheme of a text that isn't read.
-fn passlib_unread(text: &str) -> Option<Unread>
-    ensures { result ≡ passlib_unread text.now }
-{
-    if begins_with(text, "$pbkdf2$") {
-        Some(Unread::Pbkdf2Sha1)
-    } else if begins_with(text, "$") {
-        None
-    } else {
-        Some(Unread::Other)
-    }
-}
-
-// A text without an identifier of PBKDF2 that is read.
-fn passlib_other(text: &str) -> Result<Option<&str>, ForeignFault>
-    ensures { (made : List ℕ) → as_answer result made ≡ passlib_other text.now (passlib_unread text.now) }
-{
-    match passlib_unread(text) {
-        Some(scheme) => Err(ForeignFault::Unread(scheme)),
-        None => Ok(Some(text)),
     }
 }
 
@@ -74,5 +50,8 @@ pub(crate) fn passlib<'a>(
     if let Some(rest) = behind(text, "$pbkdf2-sha512$") {
         return passlib_pbkdf2(Pbkdf2Hash::Sha512, text, rest, made);
     }
-    passlib_other(text)
+    if let Some(rest) = behind(text, "$pbkdf2$") {
+        return encoded_pbkdf2::<Base64Pbkdf2>(Pbkdf2Hash::Sha1, rest, made);
+    }
+    stored_or_unread(text)
 }

@@ -1,9 +1,7 @@
 //! Fields of SCRAM-SHA-256, and the text that they are read as.
 
-ghost use Rattle.std.specs.Prelude.{◌≡◌, ◌≤◌, ◌+◌, ◌*◌, ◌/◌, ◌++◌, ◌∷◌, length, codes};
+ghost use Rattle.std.specs.Prelude.{◌≡◌, ◌≤◌, ◌++◌, ◌∷◌, length, codes};
 ghost use Rattle.std.specs.Fmt.{decimal};
-ghost use Rattle.base64ct.specs.Alphabets.{base64};
-ghost use Rattle.base64ct.specs.Encoding.{encoding};
 ghost use Rattle.pieces.specs.Characters.{dollar};
 ghost use Rattle.scram_plain.specs.Text.{identifier};
 ghost use Rattle.foreign_text.specs.Scram.{scram_by_keys, scram_by_rounds, scram_by_salt, scram_fields, scram_text};
@@ -11,7 +9,8 @@ ghost use Rattle.foreign_text.specs.Scram.{scram_by_keys, scram_by_rounds, scram
 use crate::ForeignFault;
 use crate::fields::{field_bytes, number_of};
 use crate::kdf::{FieldBytes, MadeText};
-use base64ct::{Base64, Encoding};
+use crate::padded::push_field;
+use base64ct::Base64;
 use pieces::short_bytes::ShortBytes;
 use scram_plain::Preparation;
 
@@ -33,24 +32,6 @@ fn scram_sign(preparation: Preparation) -> &'static str
     match preparation {
         Preparation::SaslPrep => "$scram-sha-256$",
         Preparation::Raw => "$scram-sha-256-raw$",
-    }
-}
-
-// Appends a `$` and the encoding of bytes, which has at most `ROOM` characters.
-fn push_field<const ROOM: usize>(text: &mut MadeText, bytes: &[u8])
-    requires few { length bytes.now ≤ 48 }
-    requires fits { (length bytes.now + 2) / 3 * 4 ≤ ROOM }
-    requires room { length text.old + 1 + ROOM ≤ 221 }
-    ensures appended { text.new ≡ text.old ++ dollar ∷ encoding base64 bytes.now }
-    ensures len { length text.new ≤ length text.old + 1 + ROOM }
-{
-    let mut room = [0; ROOM];
-    match Base64::encode_into(bytes, &mut room) {
-        Ok(n) => {
-            text.push_all(b"$");
-            text.push_all(&room[..n]);
-        }
-        Err(_) => unreachable!(),
     }
 }
 

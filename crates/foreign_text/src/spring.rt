@@ -15,6 +15,18 @@ use base64ct::Base64;
 use pieces::short_bytes::ShortBytes;
 use pieces::{begins_with, behind};
 
+/// PBKDF2 of Spring Security 5.8.
+const NEWER: Kdf = Kdf::Pbkdf2 {
+    hash: Pbkdf2Hash::Sha256,
+    rounds: 310_000,
+};
+
+/// PBKDF2 of Spring Security before.
+const OLDER: Kdf = Kdf::Pbkdf2 {
+    hash: Pbkdf2Hash::Sha1,
+    rounds: 185_000,
+};
+
 // The cost that three bytes say.
 fn three_numbers(bytes: Option<FieldBytes>) -> Result<Kdf, ForeignFault>
     ensures { result ≡ three_numbers bytes }
@@ -78,18 +90,15 @@ fn spring_scrypt<'a>(rest: &'a str, made: &mut MadeText) -> Result<Option<&'a st
     }
 }
 
-// What comes after the tag of PBKDF2.
-fn pbkdf2_text(digits: &[u8]) -> Result<MadeText, ForeignFault>
-    ensures { result ≡ spring_pbkdf2 digits.now }
+// What comes after a tag of PBKDF2: so many digits of a salt, and those of a key.
+fn pbkdf2_text(kdf: Kdf, size: usize, digits: &[u8]) -> Result<MadeText, ForeignFault>
+    requires size { size ≤ 32 }
+    ensures { result ≡ spring_pbkdf2 kdf size digits.now }
 {
-    if digits.len() != 96 {
+    if digits.len() != size + 64 {
         return Err(ForeignFault::Form);
     }
-    let kdf = Kdf::Pbkdf2 {
-        hash: Pbkdf2Hash::Sha256,
-        rounds: 310_000,
-    };
-    let (salt, key) = digits.split_at(32);
+    let (salt, key) = digits.split_at(size);
     with_decoded(Ok(kdf), small_hex(salt), small_hex(key))
 }
 
@@ -117,9 +126,6 @@ fn spring_unread(text: &str) -> ForeignFault
     if !begins_with(text, "{") {
         return ForeignFault::Form;
     }
-    if begins_with(text, "{pbkdf2}") {
-        return ForeignFault::Unread(Unread::Pbkdf2Sha1);
-    }
     spring_digest(text)
 }
 
@@ -141,7 +147,10 @@ pub(crate) fn spring<'a>(
         return spring_scrypt(rest, made);
     }
     if let Some(rest) = behind(text, "{pbkdf2@SpringSecurity_v5_8}") {
-        return put_made(pbkdf2_text(rest.as_bytes()), made);
+        return put_made(pbkdf2_text(NEWER, 32, rest.as_bytes()), made);
+    }
+    if let Some(rest) = behind(text, "{pbkdf2}") {
+        return put_made(pbkdf2_text(OLDER, 16, rest.as_bytes()), made);
     }
     Err(spring_unread(text))
 }

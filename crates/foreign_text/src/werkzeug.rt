@@ -30,7 +30,7 @@ fn werkzeug_scrypt(rest: &str) -> Result<Kdf, ForeignFault>
     scrypt_fields(three_at(rest, ':'))
 }
 
-// What comes after `pbkdf2:sha256:` or `pbkdf2:sha512:`.
+// What comes after `pbkdf2:sha1:`, `pbkdf2:sha256:` or `pbkdf2:sha512:`.
 fn werkzeug_pbkdf2(hash: Pbkdf2Hash, rest: &str) -> Result<Kdf, ForeignFault>
     ensures { result ≡ werkzeug_pbkdf2 hash rest.now }
 {
@@ -63,9 +63,7 @@ fn werkzeug_digest(method: &str) -> ForeignFault
 fn werkzeug_unread(method: &str) -> ForeignFault
     ensures { result ≡ werkzeug_unread method.now }
 {
-    if begins_with(method, "pbkdf2:sha1") {
-        ForeignFault::Unread(Unread::Pbkdf2Sha1)
-    } else if begins_with(method, "pbkdf2") || begins_with(method, "scrypt") {
+    if begins_with(method, "pbkdf2") || begins_with(method, "scrypt") {
         ForeignFault::Form
     } else {
         werkzeug_digest(method)
@@ -85,6 +83,9 @@ fn werkzeug_method(method: &str) -> Result<Kdf, ForeignFault>
     }
     if let Some(rest) = behind(method, "pbkdf2:sha512:") {
         return werkzeug_pbkdf2(Pbkdf2Hash::Sha512, rest);
+    }
+    if let Some(rest) = behind(method, "pbkdf2:sha1:") {
+        return werkzeug_pbkdf2(Pbkdf2Hash::Sha1, rest);
     }
     Err(werkzeug_unread(method))
 }

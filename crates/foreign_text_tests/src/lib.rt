@@ -4,6 +4,10 @@
 #![tactic(auto)]
 
 #[cfg(test)]
+mod asked;
+#[cfg(test)]
+mod digests;
+#[cfg(test)]
 mod makers;
 #[cfg(test)]
 mod tests;

@@ -1,28 +1,8 @@
 //! Texts of further makers, by their own programs or their published form. The records were put together by a transcription
 //! in Python.
 
-use foreign_text::{Foreign, ForeignFault, MadeText, Unread, stored_text};
-
-// Whether the stored text is this one.
-fn is_converted(foreign: Foreign, text: &str, stored: &str) -> bool {
-    let mut made = MadeText::new();
-    match stored_text(foreign, text, &mut made) {
-        Ok(Some(held)) => held == stored,
-        Ok(None) => made.as_slice() == stored.as_bytes(),
-        Err(_) => false,
-    }
-}
-
-// The fault, if there is one, and nothing was put into the buffer that was lent.
-fn fault_of(foreign: Foreign, text: &str) -> Option<ForeignFault> {
-    let mut made = MadeText::from_slice(b"as it was");
-    let fault = stored_text(foreign, text, &mut made).err();
-    if made.as_slice() == b"as it was".as_slice() {
-        fault
-    } else {
-        None
-    }
-}
+use crate::asked::{fault_of, is_converted};
+use foreign_text::{Foreign, ForeignFault, Unread};
 
 // Foreign texts, and the stored texts for them.
 const CONVERTED: &[(Foreign, &str, &str)] = &[
@@ -739,11 +719,6 @@ fn first_faults_of_directories(rt: HostRuntime) {
 
 // Texts of schemes that are not read.
 const UNREAD: &[(Foreign, &str, Unread)] = &[
-    (
-        Foreign::Werkzeug,
-        "pbkdf2:sha1:1000$saltsalt$0000000000000000000000000000000000000000",
-        Unread::Pbkdf2Sha1,
-    ),
     (Foreign::Werkzeug, "md5$ab$00", Unread::Md5),
     (Foreign::Werkzeug, "sha1$ab$00", Unread::Sha1),
     (Foreign::Werkzeug, "sha512$ab$00", Unread::Sha2),
@@ -759,10 +734,8 @@ const UNREAD: &[(Foreign, &str, Unread)] = &[
     ),
     (Foreign::Dovecot, "{SCRAM-SHA-1}4096,x,y,z", Unread::Scram),
     (Foreign::Dovecot, "{cram-md5}00", Unread::Md5),
-    (Foreign::Dovecot, "{SSHA256}x", Unread::Sha2),
     (Foreign::Dovecot, "{SHA512-CRYPT.HEX}24", Unread::Other),
     (Foreign::Dovecot, "{SHA512-CRYPT.b64}JDYk", Unread::Other),
-    (Foreign::Spring, "{pbkdf2}00", Unread::Pbkdf2Sha1),
     (Foreign::Spring, "{noop}secret", Unread::Cleartext),
     (Foreign::Spring, "{sha256}00", Unread::Sha2),
     (Foreign::Spring, "{SHA-1}00", Unread::Sha1),
@@ -774,16 +747,9 @@ const UNREAD: &[(Foreign, &str, Unread)] = &[
         Unread::Other,
     ),
     (Foreign::Elasticsearch, "{SSHA}x", Unread::Sha1),
-    (Foreign::AspNet, "AAAA", Unread::Pbkdf2Sha1),
-    (Foreign::AspNet, "AQAAAAAAAAABAAAAAA==", Unread::Pbkdf2Sha1),
     (Foreign::Cisco, "094F471A1A0A", Unread::Other),
     (Foreign::Mosquitto, "$6$c2FsdA==$x", Unread::Sha2),
     (Foreign::Mosquitto, "secret", Unread::Other),
-    (
-        Foreign::MediaWiki,
-        ":pbkdf2:sha1:1000:20:x:y",
-        Unread::Pbkdf2Sha1,
-    ),
     (
         Foreign::MediaWiki,
         ":pbkdf2:whirlpool:1000:64:x:y",

@@ -1,28 +1,8 @@
 //! Texts of Django 3.2, passlib 1.7.4 and the Python module argon2 21.1. The records for those of PBKDF2 were put together by
 //! Python's base64 and passlib's `ab64_decode`.
 
-use foreign_text::{Foreign, ForeignFault, MadeText, Unread, stored_text};
-
-// Whether the stored text is this one.
-fn is_converted(foreign: Foreign, text: &str, stored: &str) -> bool {
-    let mut made = MadeText::new();
-    match stored_text(foreign, text, &mut made) {
-        Ok(Some(held)) => held == stored,
-        Ok(None) => made.as_slice() == stored.as_bytes(),
-        Err(_) => false,
-    }
-}
-
-// The fault, if there is one, and nothing was put into the buffer that was lent.
-fn fault_of(foreign: Foreign, text: &str) -> Option<ForeignFault> {
-    let mut made = MadeText::from_slice(b"as it was");
-    let fault = stored_text(foreign, text, &mut made).err();
-    if made.as_slice() == b"as it was".as_slice() {
-        fault
-    } else {
-        None
-    }
-}
+use crate::asked::{fault_of, is_converted};
+use foreign_text::{Foreign, ForeignFault, Unread};
 
 // Foreign texts, and the stored texts for them.
 const CONVERTED: &[(Foreign, &str, &str)] = &[
@@ -145,12 +125,6 @@ fn converted_texts(rt: HostRuntime) {
 const UNREAD: &[(Foreign, &str, Unread, &str)] = &[
     (
         Foreign::Django,
-        "pbkdf2_sha1$3$CQGgXkH1zxFUb$GLn5Ai20ScanjT8A5+7iI21zErE=",
-        Unread::Pbkdf2Sha1,
-        "unsupported-pbkdf2-sha1",
-    ),
-    (
-        Foreign::Django,
         "md5$8GAF0wAwaIIN$8bbf700929d8d9746e53ad0f3bef5162",
         Unread::Md5,
         "unsupported-md5",
@@ -181,19 +155,7 @@ const UNREAD: &[(Foreign, &str, Unread, &str)] = &[
     ),
     (
         Foreign::Ldap,
-        "{SSHA}w78RgX/K4KeShALYnY8MnQPuLpRG6P0/",
-        Unread::Sha1,
-        "unsupported-sha1",
-    ),
-    (
-        Foreign::Ldap,
-        "{smd5}rB2Poa+U1yCGWXrH/wG3rKP0fq8=",
-        Unread::Md5,
-        "unsupported-md5",
-    ),
-    (
-        Foreign::Ldap,
-        "{SSHA512}YRiy2WtyfPFZnm97zr4W",
+        "{SHA384}YRiy2WtyfPFZnm97zr4W",
         Unread::Sha2,
         "unsupported-sha2",
     ),
@@ -208,12 +170,6 @@ const UNREAD: &[(Foreign, &str, Unread, &str)] = &[
         "{SASL}ann@example.org",
         Unread::Other,
         "unsupported-scheme",
-    ),
-    (
-        Foreign::Passlib,
-        "$pbkdf2$3$jTFGyDlHSGnNGWPM2bvX.g$x",
-        Unread::Pbkdf2Sha1,
-        "unsupported-pbkdf2-sha1",
     ),
     (
         Foreign::Passlib,

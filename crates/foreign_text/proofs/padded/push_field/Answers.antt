@@ -1,7 +1,7 @@
 use Rattle.std.proofs.Common.{rules}
 use Rattle.base64ct.specs.Encoding.{EachBelow}
-use Rattle.foreign_text.proofs.ScramTexts.{field_fits}
-use Rattle.foreign_text.proofs.scram.push_field.Goals as goal
+use Rattle.foreign_text.proofs.PaddedTexts.{field_fits}
+use Rattle.foreign_text.proofs.padded.push_field.Goals as goal
 
 pub unreachable-requires : goal.unreachable-requires
 unreachable-requires g c =
