@@ -37,10 +37,10 @@ is_above limit costs =
     nat_lt limit.rounds costs.rounds || nat_lt limit.cost costs.cost || nat_lt limit.ln costs.ln || nat_lt limit.r costs.r
     || nat_lt limit.p costs.p || nat_lt limit.t costs.t || nat_lt limit.m costs.m
 
--- ---- the numbers of a family; md5-crypt asks for none
+-- ---- the numbers of a family; texts of some schemes ask for none
 
 abbrev pub costs_of : SchemeCosts → CostFamily → Costs
-costs_of costs of.Md5Crypt = no_costs
+costs_of costs of.NoNumber = no_costs
 costs_of costs of.ShaCrypt = costs.sha_crypt
 costs_of costs of.Bcrypt = costs.bcrypt
 costs_of costs of.Yescrypt = costs.yescrypt

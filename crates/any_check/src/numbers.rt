@@ -11,7 +11,7 @@ use scheme_list::{CostFamily, Scheme};
 pub struct Costs {
     /// The rounds of SHA-crypt and of PBKDF2.
     pub rounds: u64,
-    /// The cost of bcrypt: the binary logarithm of the number of its turns.
+    /// The cost of bcrypt and of phpass: the binary logarithm of the number of turns.
     pub cost: u64,
     /// The binary logarithm of N, of yescrypt and scrypt: their table takes `128 * r * N` bytes.
     pub ln: u64,
@@ -36,8 +36,8 @@ pub const NO_COSTS: Costs = Costs {
     m: 0,
 };
 
-/// Numbers for each family of schemes: the most that a text may ask for. md5-crypt has none: it
-/// is 1,000 rounds for each text.
+/// Numbers for each family of schemes: the most that a text may ask for. md5-crypt, which is 1,000 rounds for each text, and salted
+/// digests, which are none, have no number.
 #[derive(Clone, Copy, Debug, PartialEq, Eq)]
 pub struct SchemeCosts {
     /// Rounds (1,000 to 999,999,999).
@@ -71,7 +71,7 @@ impl Costs {
         Costs { rounds, ..NO_COSTS }
     }
 
-    /// A cost of bcrypt.
+    /// A cost of bcrypt or of phpass.
     pub fn of_cost(cost: u64) -> Costs
         ensures costs { result ≡ of_cost cost }
     {
@@ -134,7 +134,7 @@ impl SchemeCosts {
         ensures costs { result ≡ costs_of self.now (row_of scheme).family }
     {
         match scheme.family() {
-            CostFamily::Md5Crypt => NO_COSTS,
+            CostFamily::NoNumber => NO_COSTS,
             CostFamily::ShaCrypt => self.sha_crypt,
             CostFamily::Bcrypt => self.bcrypt,
             CostFamily::Yescrypt => self.yescrypt,

@@ -39,7 +39,7 @@ fn all_match<R: Abort>(rt: &R, alloc: Global, texts: &[&str]) {
 fn is_without_a_table(stored: &str) -> bool {
     match scheme_of_text(stored) {
         Some(scheme) => match scheme.family() {
-            CostFamily::Md5Crypt
+            CostFamily::NoNumber
             | CostFamily::ShaCrypt
             | CostFamily::Bcrypt
             | CostFamily::Pbkdf2Sha256

@@ -64,7 +64,7 @@ const OPTIONS: [&str; 9] = [
 // Whether an option names a cost of a family of schemes.
 fn is_option_of(family: CostFamily, option: &str) -> bool {
     match family {
-        CostFamily::Md5Crypt => false,
+        CostFamily::NoNumber => false,
         CostFamily::ShaCrypt | CostFamily::Pbkdf2Sha256 | CostFamily::Pbkdf2Sha512 => {
             option == "rounds"
         }

@@ -7,7 +7,7 @@ use Rattle.scheme_list.specs.declared.schemes.CostFamily.TheVariants as of
 use Rattle.scheme_list.specs.declared.schemes.Scheme.{Scheme}
 use Rattle.scheme_list.specs.declared.schemes.Scheme.TheVariants.{Argon2d, Argon2i, Argon2id, Bcrypt, BcryptDigest, Md5Crypt}
 use Rattle.scheme_list.specs.declared.schemes.Scheme.TheVariants.{Pbkdf2Sha256, Pbkdf2Sha512, Scrypt, ScryptCrypt, Sha256Crypt, Sha512Crypt}
-use Rattle.scheme_list.specs.declared.schemes.Scheme.TheVariants.{Scram, Sha1Crypt, Yescrypt}
+use Rattle.scheme_list.specs.declared.schemes.Scheme.TheVariants.{Pbkdf2Sha1, Phpass, SaltedDigest, Scram, Sha1Crypt, Yescrypt}
 
 -- ---- the table
 
@@ -57,7 +57,7 @@ made row = record row { is_made = true }
 
 -- md5-crypt's 1,000 rounds are too few; `apr1` is of Apache's htpasswd
 abbrev md5_row : Row
-md5_row = record (crypt (codes "1") (codes "md5-crypt") of.Md5Crypt) {
+md5_row = record (crypt (codes "1") (codes "md5-crypt") of.NoNumber) {
   identifiers = codes "1" ∷ codes "apr1" ∷ [];
   is_weak = true;
 }
@@ -90,6 +90,23 @@ scram_row = record (crypt (codes "scram-sha-256") (codes "scram-sha-256") of.Pbk
   prefixes = [];
 }
 
+-- phpass's portable hashes: MD5, of which the text names the binary logarithm of the turns; `H` is phpBB's identifier
+abbrev phpass_row : Row
+phpass_row = record (crypt (codes "P") (codes "phpass") of.Bcrypt) {
+  identifiers = codes "P" ∷ codes "H" ∷ [];
+  is_weak = true;
+  prefixes = [];
+}
+
+-- one digest of a password and a salt, as LDAP servers keep it (RFC 2307); the identifiers are ours, in the order of the hash functions
+-- MD5, SHA-1, SHA-256 and SHA-512
+abbrev salted_row : Row
+salted_row = record (crypt (codes "ssha") (codes "salted-digest") of.NoNumber) {
+  identifiers = codes "smd5" ∷ codes "ssha" ∷ codes "ssha256" ∷ codes "ssha512" ∷ [];
+  is_weak = true;
+  prefixes = [];
+}
+
 abbrev pub row_of : Scheme → Row
 row_of Md5Crypt = md5_row
 row_of Sha256Crypt = made (crypt (codes "5") (codes "sha256-crypt") of.ShaCrypt)
@@ -100,9 +117,12 @@ row_of ScryptCrypt = crypt (codes "7") (codes "scrypt-crypt") of.Scrypt
 row_of BcryptDigest = digest_row
 row_of Sha1Crypt = sha1_row
 row_of Scram = scram_row
+row_of Phpass = phpass_row
+row_of SaltedDigest = salted_row
 row_of Scrypt = made (phc (codes "scrypt") of.Scrypt)
 row_of Pbkdf2Sha256 = made (phc (codes "pbkdf2-sha256") of.Pbkdf2Sha256)
 row_of Pbkdf2Sha512 = made (phc (codes "pbkdf2-sha512") of.Pbkdf2Sha512)
+row_of Pbkdf2Sha1 = record (phc (codes "pbkdf2-sha1") of.Pbkdf2Sha256) { is_weak = true }
 row_of Argon2d = phc (codes "argon2d") of.Argon2
 row_of Argon2i = phc (codes "argon2i") of.Argon2
 row_of Argon2id = made (phc (codes "argon2id") of.Argon2)
@@ -112,7 +132,7 @@ row_of Argon2id = made (phc (codes "argon2id") of.Argon2)
 abbrev pub schemes : List Scheme
 schemes =
     Md5Crypt ∷ Sha256Crypt ∷ Sha512Crypt ∷ Bcrypt ∷ Yescrypt ∷ ScryptCrypt ∷ BcryptDigest ∷ Sha1Crypt ∷ Scram
-    ∷ Scrypt ∷ Pbkdf2Sha256 ∷ Pbkdf2Sha512 ∷ Argon2d ∷ Argon2i ∷ Argon2id ∷ []
+    ∷ Phpass ∷ SaltedDigest ∷ Scrypt ∷ Pbkdf2Sha256 ∷ Pbkdf2Sha512 ∷ Pbkdf2Sha1 ∷ Argon2d ∷ Argon2i ∷ Argon2id ∷ []
 
 -- the place of a scheme among them
 abbrev pub place : Scheme → ℕ
@@ -125,12 +145,15 @@ place ScryptCrypt = 5
 place BcryptDigest = 6
 place Sha1Crypt = 7
 place Scram = 8
-place Scrypt = 9
-place Pbkdf2Sha256 = 10
-place Pbkdf2Sha512 = 11
-place Argon2d = 12
-place Argon2i = 13
-place Argon2id = 14
+place Phpass = 9
+place SaltedDigest = 10
+place Scrypt = 11
+place Pbkdf2Sha256 = 12
+place Pbkdf2Sha512 = 13
+place Pbkdf2Sha1 = 14
+place Argon2d = 15
+place Argon2i = 16
+place Argon2id = 17
 
 -- ---- which scheme has an identifier, a name, or a prefix
 

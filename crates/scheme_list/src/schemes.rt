@@ -22,12 +22,18 @@ pub enum Scheme {
     Sha1Crypt,
     /// SCRAM-SHA-256 as PostgreSQL and Dovecot store it.
     Scram,
+    /// phpass's portable hashes, `$P$` of WordPress and `$H$` of phpBB.
+    Phpass,
+    /// A digest of the password and a salt, as LDAP servers keep it.
+    SaltedDigest,
     /// scrypt as a record in the PHC string format.
     Scrypt,
     /// PBKDF2 with HMAC-SHA-256, as a record.
     Pbkdf2Sha256,
     /// PBKDF2 with HMAC-SHA-512, as a record.
     Pbkdf2Sha512,
+    /// PBKDF2 with HMAC-SHA-1, as a record.
+    Pbkdf2Sha1,
     /// Argon2, as a record.
     Argon2d,
     Argon2i,
@@ -35,7 +41,7 @@ pub enum Scheme {
 }
 
 /// How many schemes there are.
-pub const SCHEME_COUNT: usize = 15;
+pub const SCHEME_COUNT: usize = 18;
 
 /// The schemes, in the order in which they are told.
 pub const SCHEMES: [Scheme; SCHEME_COUNT] = [
@@ -48,9 +54,12 @@ pub const SCHEMES: [Scheme; SCHEME_COUNT] = [
     Scheme::BcryptDigest,
     Scheme::Sha1Crypt,
     Scheme::Scram,
+    Scheme::Phpass,
+    Scheme::SaltedDigest,
     Scheme::Scrypt,
     Scheme::Pbkdf2Sha256,
     Scheme::Pbkdf2Sha512,
+    Scheme::Pbkdf2Sha1,
     Scheme::Argon2d,
     Scheme::Argon2i,
     Scheme::Argon2id,
@@ -59,8 +68,8 @@ pub const SCHEMES: [Scheme; SCHEME_COUNT] = [
 /// The schemes whose texts ask for the same numbers. A bound on cost has numbers for each.
 #[derive(Clone, Copy, Debug, PartialEq, Eq)]
 pub enum CostFamily {
-    /// No number: each text costs the same.
-    Md5Crypt,
+    /// No number: a text names no cost.
+    NoNumber,
     /// The rounds.
     ShaCrypt,
     /// The cost, the binary logarithm of the number of turns.
@@ -110,9 +119,12 @@ impl Scheme {
             Scheme::BcryptDigest => "bcrypt-digest",
             Scheme::Sha1Crypt => "sha1-crypt",
             Scheme::Scram => "scram-sha-256",
+            Scheme::Phpass => "phpass",
+            Scheme::SaltedDigest => "salted-digest",
             Scheme::Scrypt => "scrypt",
             Scheme::Pbkdf2Sha256 => "pbkdf2-sha256",
             Scheme::Pbkdf2Sha512 => "pbkdf2-sha512",
+            Scheme::Pbkdf2Sha1 => "pbkdf2-sha1",
             Scheme::Argon2d => "argon2d",
             Scheme::Argon2i => "argon2i",
             Scheme::Argon2id => "argon2id",
@@ -124,12 +136,12 @@ impl Scheme {
         ensures family { result ≡ (row_of self).family }
     {
         match self {
-            Scheme::Md5Crypt => CostFamily::Md5Crypt,
+            Scheme::Md5Crypt | Scheme::SaltedDigest => CostFamily::NoNumber,
             Scheme::Sha256Crypt | Scheme::Sha512Crypt | Scheme::Sha1Crypt => CostFamily::ShaCrypt,
-            Scheme::Bcrypt | Scheme::BcryptDigest => CostFamily::Bcrypt,
+            Scheme::Bcrypt | Scheme::BcryptDigest | Scheme::Phpass => CostFamily::Bcrypt,
             Scheme::Yescrypt => CostFamily::Yescrypt,
             Scheme::ScryptCrypt | Scheme::Scrypt => CostFamily::Scrypt,
-            Scheme::Pbkdf2Sha256 | Scheme::Scram => CostFamily::Pbkdf2Sha256,
+            Scheme::Pbkdf2Sha256 | Scheme::Pbkdf2Sha1 | Scheme::Scram => CostFamily::Pbkdf2Sha256,
             Scheme::Pbkdf2Sha512 => CostFamily::Pbkdf2Sha512,
             Scheme::Argon2d | Scheme::Argon2i | Scheme::Argon2id => CostFamily::Argon2,
         }
@@ -139,7 +151,14 @@ impl Scheme {
     pub fn is_weak(self) -> bool
         ensures weak { result ≡ (row_of self).is_weak }
     {
-        matches!(self, Scheme::Md5Crypt | Scheme::Sha1Crypt)
+        matches!(
+            self,
+            Scheme::Md5Crypt
+                | Scheme::Sha1Crypt
+                | Scheme::Phpass
+                | Scheme::SaltedDigest
+                | Scheme::Pbkdf2Sha1
+        )
     }
 
     /// Whether texts of it are made of new passwords.
@@ -160,6 +179,9 @@ impl Scheme {
             | Scheme::BcryptDigest
             | Scheme::Sha1Crypt
             | Scheme::Scram
+            | Scheme::Phpass
+            | Scheme::SaltedDigest
+            | Scheme::Pbkdf2Sha1
             | Scheme::Argon2d
             | Scheme::Argon2i => false,
         }
@@ -168,12 +190,13 @@ impl Scheme {
 
 // The scheme of a record's identifier.
 fn record_named(id: &str) -> Option<Scheme>
-    ensures scheme { result ≡ look_up (has_identifier id.now) (drop 9 schemes) }
+    ensures scheme { result ≡ look_up (has_identifier id.now) (drop 11 schemes) }
 {
     match id {
         "scrypt" => Some(Scheme::Scrypt),
         "pbkdf2-sha256" => Some(Scheme::Pbkdf2Sha256),
         "pbkdf2-sha512" => Some(Scheme::Pbkdf2Sha512),
+        "pbkdf2-sha1" => Some(Scheme::Pbkdf2Sha1),
         "argon2d" => Some(Scheme::Argon2d),
         "argon2i" => Some(Scheme::Argon2i),
         "argon2id" => Some(Scheme::Argon2id),
@@ -195,6 +218,8 @@ pub fn scheme_named(id: &str) -> Option<Scheme>
         "bcrypt-sha256" | "bcrypt-sha256-hex" | "wp" => Some(Scheme::BcryptDigest),
         "sha1" => Some(Scheme::Sha1Crypt),
         "scram-sha-256" | "scram-sha-256-raw" => Some(Scheme::Scram),
+        "P" | "H" => Some(Scheme::Phpass),
+        "smd5" | "ssha" | "ssha256" | "ssha512" => Some(Scheme::SaltedDigest),
         _ => record_named(id),
     }
 }

@@ -9,17 +9,20 @@ struct Row {
     name: &'static str,
     family: CostFamily,
     is_made: bool,
+    is_weak: bool,
 }
 
 // A row for each scheme, in their order: an identifier of its texts, its name as `pwtool survey` tells it, the schemes whose
-// texts ask for the same numbers, and whether `pwtool make` makes texts of it.
-const ROWS: [Row; 15] = [
+// texts ask for the same numbers, whether `pwtool make` makes texts of it,
+// and whether they are weak by themselves.
+const ROWS: [Row; 18] = [
     Row {
         id: "1",
         scheme: Scheme::Md5Crypt,
         name: "md5-crypt",
-        family: CostFamily::Md5Crypt,
+        family: CostFamily::NoNumber,
         is_made: false,
+        is_weak: true,
     },
     Row {
         id: "5",
@@ -27,6 +30,7 @@ const ROWS: [Row; 15] = [
         name: "sha256-crypt",
         family: CostFamily::ShaCrypt,
         is_made: true,
+        is_weak: false,
     },
     Row {
         id: "6",
@@ -34,6 +38,7 @@ const ROWS: [Row; 15] = [
         name: "sha512-crypt",
         family: CostFamily::ShaCrypt,
         is_made: true,
+        is_weak: false,
     },
     Row {
         id: "2b",
@@ -41,6 +46,7 @@ const ROWS: [Row; 15] = [
         name: "bcrypt",
         family: CostFamily::Bcrypt,
         is_made: true,
+        is_weak: false,
     },
     Row {
         id: "y",
@@ -48,6 +54,7 @@ const ROWS: [Row; 15] = [
         name: "yescrypt",
         family: CostFamily::Yescrypt,
         is_made: true,
+        is_weak: false,
     },
     Row {
         id: "7",
@@ -55,6 +62,7 @@ const ROWS: [Row; 15] = [
         name: "scrypt-crypt",
         family: CostFamily::Scrypt,
         is_made: false,
+        is_weak: false,
     },
     Row {
         id: "bcrypt-sha256",
@@ -62,6 +70,7 @@ const ROWS: [Row; 15] = [
         name: "bcrypt-digest",
         family: CostFamily::Bcrypt,
         is_made: false,
+        is_weak: false,
     },
     Row {
         id: "sha1",
@@ -69,6 +78,7 @@ const ROWS: [Row; 15] = [
         name: "sha1-crypt",
         family: CostFamily::ShaCrypt,
         is_made: false,
+        is_weak: true,
     },
     Row {
         id: "scram-sha-256",
@@ -76,6 +86,23 @@ const ROWS: [Row; 15] = [
         name: "scram-sha-256",
         family: CostFamily::Pbkdf2Sha256,
         is_made: false,
+        is_weak: false,
+    },
+    Row {
+        id: "P",
+        scheme: Scheme::Phpass,
+        name: "phpass",
+        family: CostFamily::Bcrypt,
+        is_made: false,
+        is_weak: true,
+    },
+    Row {
+        id: "ssha",
+        scheme: Scheme::SaltedDigest,
+        name: "salted-digest",
+        family: CostFamily::NoNumber,
+        is_made: false,
+        is_weak: true,
     },
     Row {
         id: "scrypt",
@@ -83,6 +110,7 @@ const ROWS: [Row; 15] = [
         name: "scrypt",
         family: CostFamily::Scrypt,
         is_made: true,
+        is_weak: false,
     },
     Row {
         id: "pbkdf2-sha256",
@@ -90,6 +118,7 @@ const ROWS: [Row; 15] = [
         name: "pbkdf2-sha256",
         family: CostFamily::Pbkdf2Sha256,
         is_made: true,
+        is_weak: false,
     },
     Row {
         id: "pbkdf2-sha512",
@@ -97,6 +126,15 @@ const ROWS: [Row; 15] = [
         name: "pbkdf2-sha512",
         family: CostFamily::Pbkdf2Sha512,
         is_made: true,
+        is_weak: false,
+    },
+    Row {
+        id: "pbkdf2-sha1",
+        scheme: Scheme::Pbkdf2Sha1,
+        name: "pbkdf2-sha1",
+        family: CostFamily::Pbkdf2Sha256,
+        is_made: false,
+        is_weak: true,
     },
     Row {
         id: "argon2d",
@@ -104,6 +142,7 @@ const ROWS: [Row; 15] = [
         name: "argon2d",
         family: CostFamily::Argon2,
         is_made: false,
+        is_weak: false,
     },
     Row {
         id: "argon2i",
@@ -111,6 +150,7 @@ const ROWS: [Row; 15] = [
         name: "argon2i",
         family: CostFamily::Argon2,
         is_made: false,
+        is_weak: false,
     },
     Row {
         id: "argon2id",
@@ -118,6 +158,7 @@ const ROWS: [Row; 15] = [
         name: "argon2id",
         family: CostFamily::Argon2,
         is_made: true,
+        is_weak: false,
     },
 ];
 
@@ -129,11 +170,7 @@ fn a_row_for_each_scheme(rt: HostRuntime) {
         assert!(rt; scheme_of_name(row.name) == Some(row.scheme), "{}", row.id);
         assert!(rt; row.scheme.family() == row.family, "{}", row.id);
         assert!(rt; row.scheme.is_made() == row.is_made, "{}", row.id);
-        assert!(rt;
-            row.scheme.is_weak() == (row.id == "1" || row.id == "sha1"),
-            "{}",
-            row.id
-        );
+        assert!(rt; row.scheme.is_weak() == row.is_weak, "{}", row.id);
     }
 }
 
@@ -159,13 +196,20 @@ fn other_identifiers(rt: HostRuntime) {
         assert!(rt; scheme_named(id) == Some(Scheme::BcryptDigest), "{id}");
     }
     assert!(rt; scheme_named("scram-sha-256-raw") == Some(Scheme::Scram));
-    for id in ["", "0", "3", "2c", "55", "Y", "sha2", "argon2", "scrypt "] {
+    assert!(rt; scheme_named("H") == Some(Scheme::Phpass));
+    for id in ["smd5", "ssha256", "ssha512"] {
+        assert!(rt; scheme_named(id) == Some(Scheme::SaltedDigest), "{id}");
+    }
+    for id in [
+        "", "0", "3", "2c", "55", "Y", "p", "h", "S", "sha2", "ssha384", "SSHA", "pbkdf2",
+        "argon2", "scrypt ",
+    ] {
         assert!(rt; scheme_named(id) == None, "{id}");
     }
 }
 
 // The prefixes of crypt(3), and other beginnings.
-const PREFIXES: [(&[u8], Option<Scheme>); 22] = [
+const PREFIXES: [(&[u8], Option<Scheme>); 25] = [
     (b"$1$", Some(Scheme::Md5Crypt)),
     (b"$5$rounds=1000$", Some(Scheme::Sha256Crypt)),
     (b"$6$salt", Some(Scheme::Sha512Crypt)),
@@ -187,6 +231,9 @@ const PREFIXES: [(&[u8], Option<Scheme>); 22] = [
     (b"$scrypt$", None),
     (b"$argon2id$", None),
     (b"$wp$2y$10$", None),
+    (b"$P$B", None),
+    (b"$H$9", None),
+    (b"$ssha$", None),
     (b"x$1$", None),
 ];
 

@@ -71,7 +71,7 @@ three format a x b y c z =
 
 -- the numbers by their names; md5-crypt has none
 abbrev pub numbers_text : Format → CostFamily → Costs → List ℕ
-numbers_text format family.Md5Crypt c = nothing format
+numbers_text format family.NoNumber c = nothing format
 numbers_text format family.ShaCrypt c = one format (codes "rounds") c.rounds
 numbers_text format family.Bcrypt c = one format (codes "cost") c.cost
 numbers_text format family.Yescrypt c = three format (codes "ln") c.ln (codes "r") c.r (codes "t") c.t

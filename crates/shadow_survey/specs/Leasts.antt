@@ -54,7 +54,7 @@ argon2_weakness least c =
 
 -- the first number that is below its least, by the scheme's family: of SHA-crypt the rounds with SHA-256
 abbrev pub family_weakness : LeastCosts → CostFamily → Costs → Option Weakness
-family_weakness least family.Md5Crypt c = None
+family_weakness least family.NoNumber c = None
 family_weakness least family.ShaCrypt c = below weak.Rounds c.rounds least.sha256_rounds
 family_weakness least family.Bcrypt c = below weak.Cost c.cost least.bcrypt_cost
 family_weakness least family.Yescrypt c = below weak.Memory (memory family.Yescrypt c) least.yescrypt_memory

@@ -138,7 +138,7 @@ pub(crate) fn push_numbers(cell: &mut Cell, format: Format, family: CostFamily, 
     ensures { cell.new ≡ numbers_text format family costs.now }
 {
     match family {
-        CostFamily::Md5Crypt => cell.push_all(format.nothing()),
+        CostFamily::NoNumber => cell.push_all(format.nothing()),
         CostFamily::ShaCrypt | CostFamily::Pbkdf2Sha256 | CostFamily::Pbkdf2Sha512 => {
             push_rounds(cell, format, costs.rounds)
         }

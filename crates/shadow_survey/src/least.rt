@@ -141,7 +141,7 @@ fn family_weakness(least: &LeastCosts, family: CostFamily, costs: &Costs) -> Opt
     ensures { result ≡ family_weakness least.now family costs.now }
 {
     match family {
-        CostFamily::Md5Crypt => None,
+        CostFamily::NoNumber => None,
         CostFamily::ShaCrypt => below(Weakness::Rounds, costs.rounds, least.sha256_rounds),
         CostFamily::Bcrypt => below(Weakness::Cost, costs.cost, least.bcrypt_cost),
         CostFamily::Yescrypt => below(
