@@ -28,6 +28,7 @@ TEXTS = {
     "$2y$": "$2y$04$abcdefghijklmnopqrstuuyvPXIbu7xe6/CED2DzX8z6Si09MlzlW",
     "$7$": "$7$4/..../....saltsalt$Z/4xy7iP6BmJW9gLqd81LpC5qU1GP4WZHNIq28Q/Ma5",
     "$y$": "$y$j/.$saltsaltsaltsalt$0QK5vjXWIOINdNK61h/g1nAOvWo0exKNSvV/Cie1u4D",
+    "$sha1$": "$sha1$1019$saltsalt$gJltIDRcsQ261rW9vde97WX7bHb5",
 }
 FAULTS = []
 LIBRARY = ""
@@ -185,7 +186,7 @@ def no_random():
     if not there("gcc"):
         return
     code = "import ctypes, sys\nlibrary = ctypes.CDLL(sys.argv[1], use_errno=True)\nlibrary.crypt_gensalt.restype = ctypes.c_char_p\n" \
-        "for prefix in (b'$1$', b'$5$', b'$6$', b'$2b$', b'$7$', b'$y$', None):\n" \
+        "for prefix in (b'$1$', b'$5$', b'$6$', b'$2b$', b'$7$', b'$y$', b'$sha1', None):\n" \
         "    print(library.crypt_gensalt(prefix, 0, None, 0), ctypes.get_errno(), end=' ')"
     with tempfile.TemporaryDirectory() as folder:
         shim = os.path.join(folder, "shim.so")
@@ -195,7 +196,7 @@ def no_random():
         for given, error in (({}, 38), ({"GIVEN": "0"}, 5), ({"GIVEN": "8"}, 5)):
             done = subprocess.run([sys.executable, "-c", code, LIBRARY], env={**os.environ, "LD_PRELOAD": shim, **given},
                                   capture_output=True, text=True, check=False, timeout=60)
-            need(done.stdout == f"None {error} " * 7, f"no random bytes {given}: {done.stdout} {done.stderr}")
+            need(done.stdout == f"None {error} " * 8, f"no random bytes {given}: {done.stdout} {done.stderr}")
     print("no random bytes, or fewer: no setting, and errno says so")
 
 

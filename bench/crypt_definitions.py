@@ -12,6 +12,7 @@ import ctypes
 import errno
 import os
 import random
+import re
 import sys
 
 sys.path.insert(0, os.path.dirname(os.path.abspath(__file__)))
@@ -21,7 +22,9 @@ BCRYPT_CHARACTERS = "./ABCDEFGHIJKLMNOPQRSTUVWXYZabcdefghijklmnopqrstuvwxyz01234
 VALUES = {ord(c): v for v, c in enumerate(CHARACTERS)}
 REFUSED = frozenset([*range(33), *range(127, 256), *b"!*:;\\"])
 PHRASE_MAX, SETTING_MAX = 511, 339
-RANDOM_LENS = {"1": 9, "5": 15, "6": 15, "2a": 16, "2b": 16, "2y": 16, "7": 16, "y": 16}
+RANDOM_LENS = {"1": 9, "5": 15, "6": 15, "2a": 16, "2b": 16, "2y": 16, "7": 16, "y": 16, "sha1": 20}
+# A prefix of each method as crypt(5) has it: that of sha1 has no second `$`.
+PREFIXES = {name: b"$" + name.encode() + (b"" if name == "sha1" else b"$") for name in RANDOM_LENS}
 SIZE = 32768
 
 
@@ -29,8 +32,8 @@ SIZE = 32768
 
 def method_of(text):
     """The identifier of a method that is answered, or None."""
-    for name in RANDOM_LENS:
-        if text.startswith(b"$" + name.encode() + b"$"):
+    for name, prefix in PREFIXES.items():
+        if text.startswith(prefix):
             return name
     return None
 
@@ -46,6 +49,24 @@ def sha_kept(prefix, rest):
             return None
         prefix += b"rounds=" + digits + b"$"
     return prefix + rest.partition(b"$")[0][:16] + b"$"
+
+
+def sha1_fields(setting):
+    """The number as it is written and the salt with what follows, or None."""
+    if not setting.startswith(b"$sha1$"):
+        return None
+    digits, dollar, rest = setting[6:].partition(b"$")
+    return (digits, rest) if dollar else None
+
+
+def sha1_kept(setting):
+    fields = sha1_fields(setting)
+    if fields is None:
+        return None
+    digits, salt = fields[0].removeprefix(b"+"), fields[1].partition(b"$")[0]
+    if not digits.isdigit() or not 1 <= int(digits) < 2 ** 32 or not 1 <= len(salt) <= 64 or any(c not in VALUES for c in salt):
+        return None
+    return b"$sha1$%d$" % int(digits) + salt + b"$"
 
 
 def bcrypt_kept(setting):
@@ -174,6 +195,8 @@ def kept(phrase, setting, scrypt_costs=scrypt_taken, yescrypt_costs=yescrypt_tak
         front = b"$1$" + setting[3:].partition(b"$")[0][:8] + b"$"
     elif method in ("5", "6"):
         front = sha_kept(setting[:3], setting[3:])
+    elif method == "sha1":
+        front = sha1_kept(setting)
     elif method == "7":
         front = scrypt_kept(setting, scrypt_costs)
     elif method == "y":
@@ -204,6 +227,12 @@ def new_setting(prefix, count, data):
         return prefix[:3] + named + groups(12) if len(data) >= 3 else None
     if len(data) < 16:
         return None
+    if method == "sha1":
+        most = min(max(count or 262144, 4), 2 ** 32 - 1)
+        rounds = most - int.from_bytes(data[:4], "little") % (most // 4)
+        used = data[4:4 + min(45, (len(data) - 5) // 3 * 3)]
+        turned = b"".join(used[i:i + 3][::-1] for i in range(0, len(used), 3))
+        return b"$sha1$%d$" % rounds + crypt_field(turned).encode() + b"$"
     if method == "7":
         count = count or 7
         params = CHARACTERS[count + 7:count + 8] + "U..../...."
@@ -221,7 +250,7 @@ def new_setting(prefix, count, data):
 def salt_status(setting):
     """The number of crypt_checksalt."""
     method = None if any(c in REFUSED for c in setting) else method_of(setting)
-    return 1 if method is None else 3 if method in ("1", "5") else 0
+    return 1 if method is None else 3 if method in ("1", "5", "sha1") else 0
 
 
 # ---- differences that are listed
@@ -238,12 +267,23 @@ def library_yescrypt_costs(params):
     return (flavor == 0 and t == 0) or flavor == 1 or (flavor == 47 and 2 ** ln // p > 3)
 
 
+def library_takes_sha1(setting):
+    """libxcrypt takes this setting of sha1-crypt: a number by C's strtoul, 0 where there is none, and a salt of any length."""
+    fields = sha1_fields(setting)
+    if fields is None or re.fullmatch(rb"[+-]?[0-9]+|", fields[0]) is None:
+        return False
+    salt = fields[1].partition(b"$")[0]
+    return len(salt) > 0 and all(c in VALUES for c in salt)
+
+
 def listed(phrase, setting):
     """The name of the difference that docs/DIFFERENCES.md lists for a phrase and a setting, or None."""
     if len(phrase) > PHRASE_MAX or any(c in REFUSED for c in setting):
         return None
     if method_of(setting) is None:
         return "another method"
+    if method_of(setting) == "sha1" and sha1_kept(setting) is None and library_takes_sha1(setting):
+        return "rounds or a salt that no text of sha1-crypt has"
     if kept(phrase, setting) != kept(phrase, setting, library_scrypt_costs, library_yescrypt_costs):
         return "costs"
     return None
@@ -270,7 +310,7 @@ def phrase(dice):
 
 def whole_setting(dice):
     """A setting of one of the methods, mostly valid, with costs that take little time."""
-    kind = dice.randrange(8)
+    kind = dice.randrange(9)
     some = lambda most, alphabet: salt(dice, dice.randrange(most + 1), alphabet)
     tail = dice.choice([b"", b"", b"$", b"$" + some(90, FREE), b"$" + some(20, FREE) + b"$" + some(9, FREE)])
     if kind == 0:
@@ -285,6 +325,11 @@ def whole_setting(dice):
         length = dice.choice([22] * 12 + [21, 20, 0, 23, 40])
         return prefix + cost + dice.choice([b"$"] * 12 + [b"."]) + salt(dice, length, BCRYPT_CHARACTERS.encode()) + tail
     characters = dice.choice([CHARACTERS.encode()] * 9 + [CHARACTERS.encode() + b"-$+"])
+    if kind == 8:
+        rounds = dice.choice([b"1", b"1", b"2", b"19", b"100", b"01", b"+7", b"+007", b"0", b"", b"-0", b"+", b"1x", b"0x1", b"--1", b"x"])
+        length = dice.choice([dice.randrange(70), dice.randrange(12), 64, 65])
+        return dice.choice([b"$sha1$"] * 12 + [b"$sha1", b"$sha", b"$sha1x$"]) + rounds + dice.choice([b"$"] * 12 + [b""]) \
+            + salt(dice, length, characters) + tail
     if kind == 5:
         params = dice.choice(SMALL_SCRYPT)
         if dice.random() < 0.1:
@@ -324,7 +369,13 @@ def is_cheap(text):
         params = yescrypt_params(text[3:].partition(b"$")[0])
         return params is None or not library_yescrypt_costs(params) \
             or (params[1] <= 8 and params[2] * params[3] <= 64 and params[4] <= 4)
-    return text[:1] == b"$" and text[:2] != b"$3" and not text.startswith((b"$md5", b"$sha1", b"$gy")) or len(text) < 2
+    if text.startswith(b"$sha1$"):
+        # a number below 0 wraps round, and one past the width of a word is the greatest one
+        digits = text[6:].partition(b"$")[0]
+        number_of = re.match(rb"[+-]?[0-9]*", digits).group()
+        return not number_of.strip(b"+-") or b"$" not in text[6:] or (not number_of.startswith(b"-") and int(number_of) < 2000) \
+            or int(number_of) == 0
+    return text[:1] == b"$" and text[:2] != b"$3" and not text.startswith((b"$md5", b"$gy")) or len(text) < 2
 
 
 # ---- the library
@@ -390,7 +441,7 @@ def main():
     print(f"settings: {tried}, of them {taken} taken by libxcrypt, {listed_count} listed as different, {differ} differ")
     new_differ = 0
     for _ in range(count // 2):
-        prefix = b"$" + dice.choice(list(RANDOM_LENS)).encode() + b"$" + dice.choice([b"", b"", b"x", b"salt$", b"\xff:"])
+        prefix = dice.choice(list(PREFIXES.values())) + dice.choice([b"", b"", b"x", b"salt$", b"\xff:"])
         number_of = dice.choice([0, dice.randrange(14), dice.randrange(40), dice.randrange(900, 1100), dice.randrange(4990, 5010),
                                  dice.randrange(10 ** 9 - 3, 10 ** 9 + 3), 2 ** 32 + 5, 2 ** 64 - 1, dice.randrange(2 ** 64)])
         data = bytes(dice.randrange(256) for _ in range(dice.randrange(90)))

@@ -20,7 +20,7 @@ sys.path.insert(0, os.path.dirname(os.path.abspath(__file__)))
 import crypt_definitions as given  # noqa: E402
 
 # A setting of each method, to which a salt is put, with the longest salt that is worth trying.
-FRONTS = [(b"$1$", 12), (b"$5$rounds=1000$", 20), (b"$6$rounds=1000$", 20), (b"$7$0/..../....", 330), (b"$y$j/.$", 92)]
+FRONTS = [(b"$1$", 12), (b"$5$rounds=1000$", 20), (b"$6$rounds=1000$", 20), (b"$7$0/..../....", 330), (b"$y$j/.$", 92), (b"$sha1$2$", 70)]
 BCRYPT = [b"$2a$04$", b"$2b$04$", b"$2y$04$"]
 SALT22 = b"abcdefghijklmnopqrstuu"
 LIBC = ctypes.CDLL(None, use_errno=True)
@@ -122,8 +122,7 @@ def high_phrases(trial, dice):
 
 def new_settings(trial, dice):
     data = bytes(dice.randrange(256) for _ in range(90))
-    for name in given.RANDOM_LENS:
-        prefix = b"$" + name.encode() + b"$"
+    for prefix in given.PREFIXES.values():
         for count in [*range(40), 999, 1000, 1001, 4999, 5000, 5001, 999999999, 1000000000, 2 ** 32 + 6, 2 ** 64 - 1]:
             trial.gensalt(prefix, count, data, 16)
         for length in range(90):
@@ -131,14 +130,13 @@ def new_settings(trial, dice):
         # Of the sizes at which libxcrypt ends the process by an assertion none is tried: 8, and 20 with rounds.
         for size in [*range(-2, 8), *range(9, 192)]:
             trial.gensalt(prefix, 0, data, 16, size)
-    for prefix in (b"$2x$", b"$9$", b"*", b"$", b"$6", b"$6$salt", b"$y$j9T$", b"$2b$12$", b"$1$:", b"$7$\xff"):
+    for prefix in (b"$2x$", b"$9$", b"*", b"$", b"$6", b"$6$salt", b"$y$j9T$", b"$2b$12$", b"$1$:", b"$7$\xff", b"$sha1$", b"$sha1x", b"$sha"):
         trial.gensalt(prefix, 0, data, 16)
 
 
 def drawn(trial):
     """Without random bytes the salts differ, and the rest is the same."""
-    for name in given.RANDOM_LENS:
-        prefix = b"$" + name.encode() + b"$"
+    for prefix in given.PREFIXES.values():
         pairs = [(library.gensalt(prefix, 0, None, length)[0]) for library in (trial.ours, trial.theirs) for length in (0, 5, -1)]
         trial.tried += 6
         if len({len(text) for text in pairs}) != 1 or len(set(pairs)) != 6 or any(
@@ -151,7 +149,7 @@ def drawn(trial):
 
 def statuses(trial, dice):
     fixed = [b"", b"*", b"$", b"$6", b"$9$", b"$1$", b"$5$", b"$6$rounds=1$", b"$6$" + b"x" * 600, b"$7$", b"$y$", b"$2a$",
-             b"$2b$99$", b"$2y$", b"$6$a:b", b"$6$a b", b"$6$\xc3\xa9", b"*0", b"$apr1$x"]
+             b"$2b$99$", b"$2y$", b"$sha1", b"$sha1x", b"$sha", b"$6$a:b", b"$6$a b", b"$6$\xc3\xa9", b"*0", b"$apr1$x"]
     for setting in fixed + [given.setting(dice) for _ in range(3000)]:
         trial.tried += 1
         ours, theirs = trial.ours.checksalt(setting), trial.theirs.checksalt(setting)

@@ -18,6 +18,7 @@ SETTINGS = [
     ("`$2b$10$`", b"$2b$10$abcdefghijklmnopqrstuu", 1),
     ("`$y$j9T$`", b"$y$j9T$saltsaltsaltsaltsalt..", 1),
     ("`$7$CU..../....`", b"$7$CU..../....saltsaltsaltsalt", 1),
+    ("`$sha1`, 20,000 rounds", b"$sha1$20000$saltsaltsaltsalt", 1),
 ]
 
 

@@ -15,7 +15,7 @@
 #define PREFERRED_PREFIX "$y$"
 
 /* The most random bytes that a method draws. */
-enum { RANDOM_MAX = 16 };
+enum { RANDOM_MAX = 20 };
 
 /* errno for an answer that is not PWCRYPT_DONE */
 static int error_of(int32_t status)

@@ -22,7 +22,7 @@ int32_t pwcrypt_text(const uint8_t *phrase, size_t phrase_len, const uint8_t *se
 int32_t pwcrypt_setting(const uint8_t *prefix, size_t prefix_len, uint64_t count, const uint8_t *bytes, size_t bytes_len,
                         uint8_t *out, size_t out_len, size_t *len);
 
-/* How many random bytes a new setting of a prefix takes where the caller brings none, at most 16; 0 for no method. */
+/* How many random bytes a new setting of a prefix takes where the caller brings none, at most 20; 0 for no method. */
 size_t pwcrypt_random_len(const uint8_t *prefix, size_t prefix_len);
 
 /* What a setting is, by the numbers of crypt_checksalt(3). */

@@ -41,6 +41,7 @@ static const char *const TEXTS[] = {
     "$2b$04$abcdefghijklmnopqrstuuyvPXIbu7xe6/CED2DzX8z6Si09MlzlW",
     "$7$4/..../....saltsalt$Z/4xy7iP6BmJW9gLqd81LpC5qU1GP4WZHNIq28Q/Ma5",
     "$y$j/.$saltsaltsaltsalt$0QK5vjXWIOINdNK61h/g1nAOvWo0exKNSvV/Cie1u4D",
+    "$sha1$1019$saltsalt$gJltIDRcsQ261rW9vde97WX7bHb5",
 };
 enum { TEXT_COUNT = sizeof TEXTS / sizeof TEXTS[0] };
 
@@ -52,7 +53,7 @@ static void try_texts(void)
         NEED(!strcmp(crypt("pw", TEXTS[i]), TEXTS[i]));
         NEED(strcmp(crypt_r("pW", TEXTS[i], &data), TEXTS[i]));
         NEED(crypt_rn("pw", TEXTS[i], &data, sizeof data) == data.output);
-        NEED(crypt_checksalt(TEXTS[i]) == (TEXTS[i][1] == '1' || TEXTS[i][1] == '5' ? CRYPT_SALT_METHOD_LEGACY : CRYPT_SALT_OK));
+        NEED(crypt_checksalt(TEXTS[i]) == (strchr("15s", TEXTS[i][1]) ? CRYPT_SALT_METHOD_LEGACY : CRYPT_SALT_OK));
     }
     NEED(!strcmp(crypt_preferred_method(), "$y$"));
 }
@@ -100,13 +101,13 @@ static void try_sizes(void)
         NEED(size >= (int)sizeof(struct crypt_data) ? text && !strcmp(text, TEXTS[0]) : !text && errno == ERANGE);
         free(room);
     }
-    static const char *const PREFIXES[] = {"$1$", "$5$", "$6$", "$2a$", "$2b$", "$2y$", "$7$", "$y$", NULL, "$9$"};
+    static const char *const PREFIXES[] = {"$1$", "$5$", "$6$", "$2a$", "$2b$", "$2y$", "$7$", "$y$", "$sha1", NULL, "$9$"};
     for (size_t i = 0; i < sizeof PREFIXES / sizeof PREFIXES[0]; i++)
         for (int size = -1; size <= 200; size++) {
             char *room = malloc(size > 0 ? size : 1);
             NEED(room);
             char *setting = crypt_gensalt_rn(PREFIXES[i], 0, NULL, 0, room, size);
-            NEED(size < 60 || (setting != NULL) == (i != 9));
+            NEED(size < 60 || (setting != NULL) == (i != 10));
             NEED(!setting || strlen(setting) < (size_t)size);
             setting = crypt_gensalt_rn(PREFIXES[i], 0, "0123456789abcdefghi", 19, room, size);
             NEED(!setting || strlen(setting) < (size_t)size);
@@ -134,7 +135,7 @@ static void try_page_end(void)
     char *phrase = at_page_end("pw");
     for (int i = 0; i < TEXT_COUNT; i++)
         NEED(!strcmp(crypt_r(phrase, at_page_end(TEXTS[i]), &data), TEXTS[i]));
-    static const char *const SHORT[] = {"", "$", "$1", "$1$", "$2b$", "$2b$04$", "$5$rounds=", "$7$", "$y$", "$y$j"};
+    static const char *const SHORT[] = {"", "$", "$1", "$1$", "$2b$", "$2b$04$", "$5$rounds=", "$7$", "$y$", "$y$j", "$sha", "$sha1", "$sha1$", "$sha1$1", "$sha1$1$"};
     for (size_t i = 0; i < sizeof SHORT / sizeof SHORT[0]; i++)
         crypt_r(phrase, at_page_end(SHORT[i]), &data);
 }
@@ -197,7 +198,7 @@ ssize_t getrandom(void *bytes, size_t count, unsigned int flags)
 /* A new setting by the bytes of getrandom is the one by the same bytes as an argument, whose number is that which was asked for. */
 static void try_drawn(void)
 {
-    static const char *const METHODS[] = {"$1$", "$5$", "$6$", "$2a$", "$2b$", "$2y$", "$7$", "$y$"};
+    static const char *const METHODS[] = {"$1$", "$5$", "$6$", "$2a$", "$2b$", "$2y$", "$7$", "$y$", "$sha1"};
     char bytes[64], drawn[192], given[192];
     for (size_t i = 0; i < sizeof bytes; i++)
         bytes[i] = (char)(37 * i + 11);
@@ -206,7 +207,7 @@ static void try_drawn(void)
         random_source.interruptions = 3;
         errno = 77;
         NEED(crypt_gensalt_rn(METHODS[i], 0, NULL, 0, drawn, sizeof drawn) && random_source.interruptions == 0);
-        NEED(random_source.asked >= 9 && random_source.asked <= 16);
+        NEED(random_source.asked >= 9 && random_source.asked <= 20);
         NEED(crypt_gensalt_rn(METHODS[i], 0, bytes, (int)random_source.asked, given, sizeof given) && !strcmp(drawn, given));
         random_source.answer = (ssize_t)random_source.asked - 1;
         NEED(!crypt_gensalt_rn(METHODS[i], 0, NULL, 0, drawn, sizeof drawn) && errno == EIO && drawn[0] == '*');

@@ -52,19 +52,19 @@ argon2_record c salt key = record {
 
 -- ---- PBKDF2: `$pbkdf2-sha256$i=N,l=32$salt$key`, or with SHA-512, as RustCrypto's pbkdf2 writes it
 
--- the derivation of a hash function
-abbrev pub derivation : Pbkdf2Hash → derived.Pbkdf2Hash
-derivation Sha256 = with.Sha256
-derivation Sha512 = with.Sha512
+-- the hash function of the key
+abbrev pub key_hash : Pbkdf2Hash → derived.Pbkdf2Hash
+key_hash Sha256 = with.Sha256
+key_hash Sha512 = with.Sha512
 
 -- the key
 abbrev pub pbkdf2_key : Pbkdf2Hash → ℕ → List ℕ → List ℕ → List ℕ
-pbkdf2_key hash rounds password salt = pbkdf2_with (derivation hash) password salt rounds 32
+pbkdf2_key hash rounds password salt = pbkdf2_with (key_hash hash) password salt rounds 32
 
 -- the record of a salt and a key
 abbrev pub pbkdf2_record : Pbkdf2Hash → ℕ → List ℕ → List ℕ → PasswordHash
 pbkdf2_record hash rounds salt key = record {
-  algorithm = identifier (derivation hash);
+  algorithm = identifier (key_hash hash);
   version = None;
   params = (codes "i", decimal rounds) ∷ (codes "l", codes "32") ∷ [];
   salt = Some salt;
@@ -73,4 +73,4 @@ pbkdf2_record hash rounds salt key = record {
 
 -- what is before the rounds
 abbrev pub pbkdf2_start : Pbkdf2Hash → List ℕ
-pbkdf2_start hash = codes "$" ++ identifier (derivation hash) ++ codes "$i="
+pbkdf2_start hash = codes "$" ++ identifier (key_hash hash) ++ codes "$i="

@@ -11,7 +11,7 @@ use Rattle.crypt_text.specs.Settings.{begins}
 use Rattle.scheme_list.proofs.Found.{found_holds}
 use Rattle.scheme_list.specs.Schemes.{has_prefix, method_of, schemes}
 use Rattle.scheme_list.specs.declared.schemes.Scheme.{Scheme}
-use Rattle.scheme_list.specs.declared.schemes.Scheme.TheVariants.{Bcrypt, Md5Crypt, ScryptCrypt, Sha256Crypt, Sha512Crypt, Yescrypt}
+use Rattle.scheme_list.specs.declared.schemes.Scheme.TheVariants.{Bcrypt, Md5Crypt, ScryptCrypt, Sha1Crypt, Sha256Crypt, Sha512Crypt, Yescrypt}
 use Rattle.crypt_text.specs.Texts.{crypt_text}
 use Rattle.crypt_law.specs.Law.{MatchesExactly}
 use Rattle.crypt_law.proofs.Answers.{as_any}
@@ -19,6 +19,7 @@ use Rattle.crypt_law.proofs.BcryptLaw.{bcrypt_law, of_a, of_b, of_y}
 use Rattle.crypt_law.proofs.Md5Law.{md5_law}
 use Rattle.crypt_law.proofs.Prefixes.{front_is}
 use Rattle.crypt_law.proofs.ScryptLaw.{scrypt_law}
+use Rattle.crypt_law.proofs.Sha1Law.{sha1_law}
 use Rattle.crypt_law.proofs.ShaLaw.{sha_law}
 use Rattle.crypt_law.proofs.YescryptLaw.{yescrypt_law}
 
@@ -68,6 +69,9 @@ module _ (accepted : PasswordHash → List ℕ → ℕ → Bool)
   by_scheme text ScryptCrypt is =
       of_prefix text (codes "$7$") (only (begins text (codes "$7$")) is)
       (λ short plain h. scrypt_law accepted tag phrase (drop 3 text) matches short h)
+  by_scheme text Sha1Crypt is =
+      of_prefix text (codes "$sha1") (only (begins text (codes "$sha1")) is)
+      (λ short plain h. sha1_law accepted tag phrase (drop 5 text) matches short h)
   -- the others have no prefix
   by_scheme text other is = absurd (false≢true is)
 

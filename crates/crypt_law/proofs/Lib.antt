@@ -6,6 +6,7 @@ mod Prefixes
 mod ShaReadings
 mod BcryptReadings
 mod ShaLaw
+mod Sha1Law
 mod Md5Law
 mod BcryptLaw
 mod Lengths

@@ -3,3 +3,4 @@ mod Rounds
 mod Cleared
 mod Counts
 mod SaltBytes
+mod Groups

@@ -1,12 +1,14 @@
 -- The settings that crypt_gensalt(3) makes, as libxcrypt 4.4.33 does.
-use Rattle.std.specs.Prelude.{ℕ, ◌+◌, ◌-◌, ◌*◌, ◌/◌, ◌==◌, ◌&&◌, not, Bool, true, false, List, ◌++◌, length, max, min, take, nat_le, nat_lt}
-use Rattle.std.specs.Prelude.{Option, Some, None, if◌then◌else◌, codes}
+use Rattle.std.specs.Prelude.{ℕ, zero, suc, ◌+◌, ◌-◌, ◌*◌, ◌/◌, ◌%◌, ◌^◌, ◌==◌, ◌&&◌, not, Bool, true, false, List, [], ◌∷◌, ◌++◌, length}
+use Rattle.std.specs.Prelude.{max, min, drop, slice_index, take, nat_le, nat_lt, Option, Some, None, if◌then◌else◌, codes}
+use Rattle.std.specs.Fmt.{decimal}
+use Rattle.std.specs.Int.{from_le_bytes, w32}
 use Rattle.bcrypt_plain.specs.Field.{bcrypt_field}
 use Rattle.bcrypt_plain.specs.Made.{two_digits}
 use Rattle.bcrypt_plain.specs.Text.{is_cost}
 use Rattle.scheme_list.specs.Schemes.{method_of}
 use Rattle.scheme_list.specs.declared.schemes.Scheme.{Scheme}
-use Rattle.scheme_list.specs.declared.schemes.Scheme.TheVariants.{Bcrypt, Md5Crypt, ScryptCrypt, Sha256Crypt, Sha512Crypt, Yescrypt}
+use Rattle.scheme_list.specs.declared.schemes.Scheme.TheVariants.{Bcrypt, Md5Crypt, ScryptCrypt, Sha1Crypt, Sha256Crypt, Sha512Crypt, Yescrypt}
 use Rattle.sha_crypt.specs.Limits.{rounds_default, rounds_max, rounds_min}
 use Rattle.sha_crypt.specs.Records.{family_id, rounds_part}
 use Rattle.sha_crypt.specs.declared.errors.Family.{Family}
@@ -24,6 +26,7 @@ random_len (Some Sha512Crypt) = 15
 random_len (Some Bcrypt) = 16
 random_len (Some Yescrypt) = 16
 random_len (Some ScryptCrypt) = 16
+random_len (Some Sha1Crypt) = 20
 random_len method = 0
 
 -- a setting, where the count and the bytes are taken
@@ -90,6 +93,33 @@ yescrypt_new count bytes =
     where_taken (nat_le 1 n && nat_le n 11 && nat_le 16 (length bytes))
     (codes "$y$" ++ yescrypt_params_text (yescrypt_count_params n) ++ codes "$" ++ long_salt bytes)
 
+-- ---- `$sha1`: at least 16 bytes, of which the first four make the rounds differ, and the others are the salt
+
+-- the most rounds: 262,144 for 0, and others brought into range
+abbrev pub sha1_most : ℕ → ℕ
+sha1_most count = min (2 ^ 32 - 1) (max 4 (or_default count 262144))
+
+-- the rounds: up to a quarter fewer than the most, by the number that four bytes write, the lowest first
+abbrev pub sha1_rounds : ℕ → List ℕ → ℕ
+sha1_rounds most four = most - from_le_bytes w32 four % (most / 4)
+
+-- the first n groups of three bytes as four characters each, the last byte of a group first
+unfoldable pub turned_groups : ℕ → List ℕ → List ℕ
+turned_groups zero bytes = []
+turned_groups (suc n) bytes =
+    turned_groups n bytes
+    ++ crypt_field (slice_index bytes (3 * n + 2) ∷ slice_index bytes (3 * n + 1) ∷ slice_index bytes (3 * n) ∷ [])
+
+-- at most 60 characters; a last byte, or two or three, is left out
+abbrev pub sha1_salt : List ℕ → List ℕ
+sha1_salt bytes = turned_groups (min 15 ((length bytes - 1) / 3)) bytes
+
+abbrev pub sha1_new : ℕ → List ℕ → Option (List ℕ)
+sha1_new count bytes =
+    where_taken (nat_le 16 (length bytes))
+    (codes "$sha1$" ++ decimal (sha1_rounds (sha1_most count) (take 4 bytes)) ++ codes "$" ++ sha1_salt (drop 4 bytes)
+    ++ codes "$")
+
 -- ---- by the method
 
 abbrev pub method_new : Option Scheme → List ℕ → ℕ → List ℕ → Option (List ℕ)
@@ -99,6 +129,7 @@ method_new (Some Sha512Crypt) prefix count bytes = sha_new Sha512 count bytes
 method_new (Some Bcrypt) prefix count bytes = bcrypt_new prefix count bytes
 method_new (Some Yescrypt) prefix count bytes = yescrypt_new count bytes
 method_new (Some ScryptCrypt) prefix count bytes = scrypt_new count bytes
+method_new (Some Sha1Crypt) prefix count bytes = sha1_new count bytes
 method_new method prefix count bytes = None
 
 -- The setting of a prefix, which need only begin with a method's, a count and random bytes; none where the method does not

@@ -1,8 +1,8 @@
 -- The settings of crypt(3) (crypt(5)), as libxcrypt 4.4.33 reads them: the bytes that none has, and for each
 -- method what is read behind its prefix, which `scheme_list` tells. A whole stored text is a setting: what follows the salt is ignored.
-use Rattle.std.specs.Prelude.{ℕ, ◌*◌, ◌/◌, ◌==◌, ◌&&◌, ◌||◌, not, Bool, true, false, List, [], ◌∷◌, ◌++◌, length, take, drop, nat_le}
+use Rattle.std.specs.Prelude.{ℕ, ◌*◌, ◌/◌, ◌^◌, ◌==◌, ◌&&◌, ◌||◌, not, Bool, true, false, List, [], ◌∷◌, ◌++◌, length, take, drop, nat_le, nat_lt}
 use Rattle.std.specs.Prelude.{Option, Some, None, Result, Ok, Err, if◌then◌else◌, codes, slice_index}
-use Rattle.std.specs.List.{after_first, before_first, list_any, position_or_len}
+use Rattle.std.specs.List.{after_first, before_first, list_all, list_any, position_or_len}
 use Rattle.base64ct.specs.Alphabets.{base64_bcrypt, base64_sha_crypt}
 use Rattle.base64ct.specs.Decoding.{decoding}
 use Rattle.base64ct.specs.Encoding.{character}
@@ -11,7 +11,8 @@ pub use Rattle.pieces.specs.Pieces.{begins}
 use Rattle.pieces.specs.Pieces.{behind}
 use Rattle.bcrypt_plain.specs.Field.{field_bytes}
 use Rattle.bcrypt_plain.specs.Text.{cost_of}
-use Rattle.sha_crypt.specs.Fields.{plain_number}
+use Rattle.sha1_crypt.specs.Text.{has_salt_length}
+use Rattle.sha_crypt.specs.Fields.{old_number, plain_number}
 use Rattle.sha_crypt.specs.Limits.{rounds_default, rounds_max, rounds_min, salt_max_len}
 use Rattle.yescrypt_plain.specs.Params.{scrypt_params, yescrypt_params}
 use Rattle.pieces.specs.Characters.{is_crypt_character}
@@ -169,3 +170,36 @@ yescrypt_by_texts params_text salt_text =
 unfoldable pub yescrypt_setting : List ℕ → Option YescryptSetting
 yescrypt_setting rest =
     if has_dollar rest then yescrypt_by_texts (before_dollar rest) (before_last_dollar (after_dollar rest)) else None
+
+-- ---- `$sha1`: `$sha1$`, a number of rounds, `$`, and the salt
+
+-- rounds and a salt
+pub record Sha1Setting : Type 0 where
+  pub rounds : ℕ
+  pub salt : List ℕ
+
+-- The number may have zeros or a `+` in front, as for C's strtoul. libxcrypt takes 0 too, and 2 ^ 32 and more, by which sha1-crypt has no
+-- text (crypt(5)).
+abbrev pub are_sha1_rounds : ℕ → Bool
+are_sha1_rounds n = nat_le 1 n && nat_lt n (2 ^ 32)
+
+-- 1 to 64 characters; libxcrypt takes more
+abbrev pub is_sha1_salt : List ℕ → Bool
+is_sha1_salt salt = has_salt_length salt && list_all is_crypt_character salt
+
+-- by the number, with what stands after its `$`: the salt ends at the next one, or with the setting
+abbrev pub sha1_by_number : Option ℕ → List ℕ → Option Sha1Setting
+sha1_by_number None rest = None
+sha1_by_number (Some n) rest =
+    if are_sha1_rounds n && is_sha1_salt (before_dollar rest) then Some (record { rounds = n; salt = before_dollar rest })
+    else None
+
+-- by what stands after `$sha1$`
+abbrev pub sha1_by_rest : Option (List ℕ) → Option Sha1Setting
+sha1_by_rest None = None
+sha1_by_rest (Some rest) =
+    if has_dollar rest then sha1_by_number (old_number (before_dollar rest)) (after_dollar rest) else None
+
+-- what a setting says
+unfoldable pub sha1_setting : List ℕ → Option Sha1Setting
+sha1_setting setting = sha1_by_rest (behind setting (codes "$sha1$"))

@@ -3,6 +3,7 @@
 use Rattle.std.specs.Prelude.{◌≡◌, ◌⊎◌, ℕ, ◌^◌, ◌&&◌, Bool, true, false, List, ◌++◌, length, take, drop, nat_eq, nat_lt}
 use Rattle.std.specs.Prelude.{Option, Some, None, Result, Ok, Err, is_ok, if◌then◌else◌, codes}
 use Rattle.std.specs.Cmp.Lexicographic.{pointwise}
+use Rattle.std.specs.Fmt.{decimal}
 use Rattle.bcrypt_plain.specs.Bcrypt.{bcrypt}
 use Rattle.bcrypt_plain.specs.Made.{text_of}
 use Rattle.bcrypt_plain.specs.Measure.{measured_bcrypt}
@@ -12,7 +13,9 @@ use Rattle.md5_plain.specs.declared.magic.Magic.TheVariants.{Md5}
 use Rattle.scrypt_plain.specs.Scrypt.{scrypt}
 use Rattle.scheme_list.specs.Schemes.{method_of}
 use Rattle.scheme_list.specs.declared.schemes.Scheme.{Scheme as StoredScheme}
-use Rattle.scheme_list.specs.declared.schemes.Scheme.TheVariants.{Bcrypt, Md5Crypt, ScryptCrypt, Sha256Crypt, Sha512Crypt, Yescrypt}
+use Rattle.scheme_list.specs.declared.schemes.Scheme.TheVariants.{Bcrypt, Md5Crypt, ScryptCrypt, Sha1Crypt, Sha256Crypt, Sha512Crypt, Yescrypt}
+use Rattle.sha1_crypt.specs.Digest.{sha1_digest}
+use Rattle.sha1_crypt.specs.Field.{sha1_field}
 use Rattle.sha_crypt.specs.Digest.{sha_crypt_digest}
 use Rattle.sha_crypt.specs.Families.{Scheme}
 use Rattle.sha_crypt.specs.HashField.{hash_field}
@@ -22,8 +25,8 @@ use Rattle.sha_crypt.specs.declared.errors.Family.TheVariants.{Sha256, Sha512}
 use Rattle.yescrypt_plain.specs.Field.{crypt_field}
 use Rattle.yescrypt_plain.specs.Yescrypt.{yescrypt}
 use Rattle.crypt_text.specs.Limits.{phrase_max, setting_max}
-use Rattle.crypt_text.specs.Settings.{BcryptSetting, ScryptSetting, ShaSetting, YescryptSetting, bcrypt_setting, has_refused}
-use Rattle.crypt_text.specs.Settings.{md5_salt, scrypt_setting, sha_setting, yescrypt_setting}
+use Rattle.crypt_text.specs.Settings.{BcryptSetting, ScryptSetting, Sha1Setting, ShaSetting, YescryptSetting, bcrypt_setting, has_refused}
+use Rattle.crypt_text.specs.Settings.{md5_salt, scrypt_setting, sha1_setting, sha_setting, yescrypt_setting}
 use Rattle.crypt_text.specs.declared.error.CryptError.{CryptError}
 use Rattle.crypt_text.specs.declared.error.CryptError.TheVariants.{OutOfMemory, Setting, TooLong}
 
@@ -73,6 +76,12 @@ yescrypt_text phrase s =
     codes "$y$" ++ s.params_text ++ codes "$" ++ s.salt_text ++ codes "$"
     ++ crypt_field (yescrypt phrase s.salt s.params.ln s.params.r s.params.t)
 
+-- `$sha1$rounds$salt$hash`, with the rounds in plain digits
+abbrev pub sha1_text : List ℕ → Sha1Setting → List ℕ
+sha1_text phrase s =
+    codes "$sha1$" ++ decimal s.rounds ++ codes "$" ++ s.salt ++ codes "$"
+    ++ sha1_field (sha1_digest phrase s.salt s.rounds)
+
 -- ---- the answers
 
 -- the text of what a setting says, where it says something
@@ -95,6 +104,7 @@ method_text (Some ScryptCrypt) phrase setting =
     if_short setting (if_setting (scrypt_text (drop 3 setting) phrase) (scrypt_setting (drop 3 setting)))
 method_text (Some Yescrypt) phrase setting =
     if_short setting (if_setting (yescrypt_text phrase) (yescrypt_setting (drop 3 setting)))
+method_text (Some Sha1Crypt) phrase setting = if_setting (sha1_text phrase) (sha1_setting setting)
 method_text method phrase setting = Err Setting
 
 -- The text for a phrase and a setting, or the first cause that there is none: a phrase of 512 bytes and more, whatever the

@@ -1,8 +1,9 @@
 -- What the parts of a setting show.
 use Rattle.std.specs.Prelude.{Option, Some, None}
-use Rattle.crypt_text.specs.Settings.{BcryptSetting, ScryptSetting, ShaSetting, YescryptSetting}
+use Rattle.crypt_text.specs.Settings.{BcryptSetting, ScryptSetting, Sha1Setting, ShaSetting, YescryptSetting}
 use Rattle.crypt_text.specs.declared.bcrypt_texts.BcryptParts.{BcryptParts}
 use Rattle.crypt_text.specs.declared.scrypt_texts.ScryptParts.{ScryptParts}
+use Rattle.crypt_text.specs.declared.sha1_texts.Sha1Parts.{Sha1Parts}
 use Rattle.crypt_text.specs.declared.sha_texts.ShaParts.{ShaParts}
 use Rattle.crypt_text.specs.declared.yescrypt_texts.YescryptParts.{YescryptParts}
 
@@ -35,3 +36,10 @@ yescrypt_view p =
 abbrev pub as_yescrypt : Option YescryptParts → Option YescryptSetting
 as_yescrypt None = None
 as_yescrypt (Some p) = Some (yescrypt_view p)
+
+abbrev pub sha1_view : Sha1Parts → Sha1Setting
+sha1_view p = record { rounds = p.rounds; salt = p.salt.now }
+
+abbrev pub as_sha1 : Option Sha1Parts → Option Sha1Setting
+as_sha1 None = None
+as_sha1 (Some p) = Some (sha1_view p)

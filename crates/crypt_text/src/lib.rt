@@ -1,8 +1,8 @@
 //! crypt(3): the text for a phrase and a setting, a new setting, and what a setting is, as libxcrypt 4.4.33 answers them.
 //!
 //! The methods are those whose schemes this repository has: md5-crypt (`$1$`), SHA-crypt (`$5$`, `$6$`), bcrypt (`$2a$`,
-//! `$2b$`, `$2y$`), scrypt (`$7$`) and yescrypt (`$y$`): `scheme_list` has their prefixes. A setting of another method is refused as an unknown one is. Each hash
-//! is made by the scheme's own crate; here a setting is read, and the text is put together.
+//! `$2b$`, `$2y$`), scrypt (`$7$`), yescrypt (`$y$`) and sha1-crypt (`$sha1`): `scheme_list` has their prefixes. A setting of another method is refused
+//! as an unknown one is. Each hash is made by the scheme's own crate; here a setting is read, and the text is put together.
 //!
 //! A phrase and a setting are bytes. Only scrypt and yescrypt take memory.
 #![tactic(auto)]
@@ -14,6 +14,8 @@ mod fields;
 mod md5_texts;
 mod new_settings;
 mod scrypt_texts;
+mod sha1_settings;
+mod sha1_texts;
 mod sha_texts;
 mod status;
 mod texts;

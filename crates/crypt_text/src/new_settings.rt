@@ -6,6 +6,7 @@ ghost use Rattle.scheme_list.specs.Schemes.{method_of};
 
 use crate::bytes::front;
 use crate::fields::{crypt_field, two_digits};
+use crate::sha1_settings::sha1_new;
 use bcrypt_plain::encode_salt;
 use pieces::short_bytes::ShortBytes;
 use scheme_list::{Scheme, method_of};
@@ -23,12 +24,13 @@ pub fn random_len(prefix: &[u8]) -> usize
         Some(Scheme::Md5Crypt) => 9,
         Some(Scheme::Sha256Crypt | Scheme::Sha512Crypt) => 15,
         Some(Scheme::Bcrypt | Scheme::Yescrypt | Scheme::ScryptCrypt) => 16,
+        Some(Scheme::Sha1Crypt) => 20,
         _ => 0,
     }
 }
 
 // The count, or the one that stands for none.
-fn or_default(count: u64, default: u64) -> u64
+pub(crate) fn or_default(count: u64, default: u64) -> u64
     ensures { result ≡ or_default count default }
 {
     if count == 0 { default } else { count }
@@ -163,9 +165,9 @@ fn yescrypt_new(count: u64, bytes: &[u8]) -> Option<ShortBytes<SETTING_MAX>>
 /// The new setting of a prefix, a count and random bytes, as crypt_gensalt(3) makes it. The prefix need only begin with a
 /// method's. None where the method does not take the count, or where the bytes are too few.
 ///
-/// A count of 0 stands for the method's default. `$1$` takes no other; `$5$` and `$6$` bring the rounds into range; bcrypt takes
+/// A count of 0 stands for the method's default. `$1$` takes no other; `$5$`, `$6$` and `$sha1` bring the rounds into range; bcrypt takes
 /// costs of 4 to 31, `$7$` counts of 6 to 11 and `$y$` of 1 to 11. `$1$`, `$5$` and `$6$` take three bytes and more, the others
-/// 16 and more.
+/// 16 and more. The rounds of `$sha1` are up to a quarter fewer than the count, by the first four bytes.
 #[tactic(auto, unfolding(crate::specs::NewSettings::new_setting))]
 pub fn new_setting(prefix: &[u8], count: u64, bytes: &[u8]) -> Option<ShortBytes<SETTING_MAX>>
     ensures setting { result ≡ new_setting prefix.now count bytes.now }
@@ -177,6 +179,7 @@ pub fn new_setting(prefix: &[u8], count: u64, bytes: &[u8]) -> Option<ShortBytes
         Some(Scheme::Bcrypt) => bcrypt_new(prefix, count, bytes),
         Some(Scheme::Yescrypt) => yescrypt_new(count, bytes),
         Some(Scheme::ScryptCrypt) => scrypt_new(count, bytes),
+        Some(Scheme::Sha1Crypt) => sha1_new(count, bytes),
         _ => None,
     }
 }

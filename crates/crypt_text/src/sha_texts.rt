@@ -3,7 +3,7 @@
 ghost use Rattle.std.specs.Prelude.{◌≡◌, ◌≤◌, IfSome, codes, length};
 ghost use Rattle.std.specs.Option.{option_map};
 ghost use Rattle.pieces.specs.Pieces.{behind, lent};
-ghost use Rattle.sha_crypt.specs.Fields.{old_number, plain_number};
+ghost use Rattle.sha_crypt.specs.Fields.{plain_number};
 ghost use Rattle.sha_crypt.specs.Limits.{salt_max_len};
 ghost use Rattle.pieces.specs.Numbers.{has_leading_zero};
 ghost use Rattle.crypt_text.specs.Settings.{are_rounds, sha_by_number, sha_salt, sha_setting};
@@ -11,6 +11,7 @@ ghost use Rattle.crypt_text.specs.Texts.{if_setting, sha_text};
 ghost use Rattle.crypt_text.specs.Views.{as_sha, sha_view};
 
 use crate::bytes::{before_dollar, begins, cut_at_dollar, front};
+use crate::fields::old_number;
 use crate::{CryptError, TEXT_MAX};
 use pieces::short_bytes::ShortBytes;
 use pieces::text::text_of;
@@ -40,16 +41,6 @@ fn behind_rounds(rest: &[u8]) -> Option<&[u8]>
         Some(&rest[7..])
     } else {
         None
-    }
-}
-
-// The number that digits write, with or without zeros and a `+` in front.
-fn old_number(digits: &str) -> Option<usize>
-    ensures { result ≡ old_number digits.now }
-{
-    match digits.parse::<usize>() {
-        Ok(number) => Some(number),
-        Err(_) => None,
     }
 }
 

@@ -13,7 +13,7 @@ pub enum SaltStatus {
     Valid,
     /// It is no setting, or its method is not known here: `CRYPT_SALT_INVALID`.
     Invalid,
-    /// Its method is `$1$` or `$5$`, which libxcrypt counts as old ones: `CRYPT_SALT_METHOD_LEGACY`.
+    /// Its method is `$1$`, `$5$` or `$sha1`, which libxcrypt counts as old ones: `CRYPT_SALT_METHOD_LEGACY`.
     Legacy,
 }
 
@@ -22,7 +22,7 @@ fn method_status(method: Option<Scheme>) -> SaltStatus
     ensures { result ≡ method_status method }
 {
     match method {
-        Some(Scheme::Md5Crypt | Scheme::Sha256Crypt) => SaltStatus::Legacy,
+        Some(Scheme::Md5Crypt | Scheme::Sha256Crypt | Scheme::Sha1Crypt) => SaltStatus::Legacy,
         Some(Scheme::Sha512Crypt | Scheme::Bcrypt | Scheme::Yescrypt | Scheme::ScryptCrypt) => {
             SaltStatus::Valid
         }

@@ -11,6 +11,7 @@ use crate::bytes::has_refused;
 use crate::md5_texts::md5_text;
 use crate::scrypt_texts::scrypt_answer;
 use crate::sha_texts::sha_answer;
+use crate::sha1_texts::sha1_answer;
 use crate::yescrypt_texts::yescrypt_answer;
 use pieces::short_bytes::ShortBytes;
 use scheme_list::{Scheme, method_of};
@@ -43,6 +44,7 @@ fn method_text(
         Some(Scheme::Bcrypt) => bcrypt_answer(phrase, setting),
         Some(Scheme::Yescrypt) => yescrypt_answer(alloc, phrase, setting),
         Some(Scheme::ScryptCrypt) => scrypt_answer(alloc, phrase, setting),
+        Some(Scheme::Sha1Crypt) => sha1_answer(phrase, setting),
         _ => Err(CryptError::Setting),
     }
 }

@@ -28,6 +28,10 @@ fn takes_0_requests_without_a_table(rt: HostRuntime) {
                 b"$5$rounds=1000$$Qq2SZC3NeUzIDXheJm.s6eO00IPVPLvCg7WU75UqFx.",
             ),
             (
+                b"$sha1$2$salt",
+                b"$sha1$2$salt$Nc3KFIdy/X867nMoTCmkPhyMMBf.",
+            ),
+            (
                 b"$2a$04$abcdefghijklmnopqrstuu",
                 b"$2a$04$abcdefghijklmnopqrstuujydOTSfIH/d5oUHpsygqV5X9xJLQc6e",
             ),

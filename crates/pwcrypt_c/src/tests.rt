@@ -6,7 +6,7 @@ use crate::texts::pwcrypt_text;
 use c_buffers::{DONE, NO_ROOM};
 
 // A setting, and what libxcrypt's crypt gives for it and the phrase `correct horse`.
-const TEXTS: [(&[u8], &[u8]); 4] = [
+const TEXTS: [(&[u8], &[u8]); 5] = [
     (b"$1$salt", b"$1$salt$uXdHrfCd.CnHQasvSgrAO0"),
     (
         b"$2y$04$abcdefghijklmnopqrstuv",
@@ -19,6 +19,10 @@ const TEXTS: [(&[u8], &[u8]); 4] = [
     (
         b"$y$j/.$salt",
         b"$y$j/.$salt$0fGJAYkwV8Z5xHxVYcDoReSFBoJtjaSy3L07X3cuk/.",
+    ),
+    (
+        b"$sha1$2$salt",
+        b"$sha1$2$salt$Nc3KFIdy/X867nMoTCmkPhyMMBf.",
     ),
 ];
 

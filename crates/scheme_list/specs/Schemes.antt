@@ -76,10 +76,12 @@ digest_row = record (crypt (codes "wp") (codes "bcrypt-digest") of.Bcrypt) {
   prefixes = [];
 }
 
--- NetBSD's: HMAC-SHA-1, which is cheap for a guesser whatever the rounds. crypt(3) has it as a method; ours answers none of its
--- settings yet
+-- NetBSD's: HMAC-SHA-1, which is cheap for a guesser whatever the rounds. Its prefix in crypt(3) has no second `$`
 abbrev sha1_row : Row
-sha1_row = record (crypt (codes "sha1") (codes "sha1-crypt") of.ShaCrypt) { is_weak = true; prefixes = [] }
+sha1_row = record (crypt (codes "sha1") (codes "sha1-crypt") of.ShaCrypt) {
+  is_weak = true;
+  prefixes = codes "$sha1" ∷ [];
+}
 
 -- SCRAM-SHA-256 (RFC 5802, RFC 7677), as PostgreSQL and Dovecot store it: the second identifier is of passwords that aren't prepared
 abbrev scram_row : Row

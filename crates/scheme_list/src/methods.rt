@@ -34,13 +34,15 @@ fn further_method(setting: &[u8]) -> Option<Scheme>
         Some(Scheme::Yescrypt)
     } else if begins(setting, b"$7$") {
         Some(Scheme::ScryptCrypt)
+    } else if begins(setting, b"$sha1") {
+        Some(Scheme::Sha1Crypt)
     } else {
         None
     }
 }
 
 /// The scheme whose method of crypt(3) answers a setting, by its prefix alone: md5-crypt for `$1$`, SHA-crypt for `$5$` and
-/// `$6$`, bcrypt for `$2a$`, `$2b$` and `$2y$`, yescrypt for `$y$`, and scrypt for `$7$`.
+/// `$6$`, bcrypt for `$2a$`, `$2b$` and `$2y$`, yescrypt for `$y$`, scrypt for `$7$`, and sha1-crypt for `$sha1`.
 pub fn method_of(setting: &[u8]) -> Option<Scheme>
     ensures method { result ≡ method_of setting.now }
     ensures long { IfSome result (λ _. 3 ≤ length setting.now) }

@@ -209,7 +209,7 @@ fn other_identifiers(rt: HostRuntime) {
 }
 
 // The prefixes of crypt(3), and other beginnings.
-const PREFIXES: [(&[u8], Option<Scheme>); 20] = [
+const PREFIXES: [(&[u8], Option<Scheme>); 25] = [
     (b"$1$", Some(Scheme::Md5Crypt)),
     (b"$5$rounds=1000$", Some(Scheme::Sha256Crypt)),
     (b"$6$salt", Some(Scheme::Sha512Crypt)),
@@ -218,6 +218,11 @@ const PREFIXES: [(&[u8], Option<Scheme>); 20] = [
     (b"$2y$10$", Some(Scheme::Bcrypt)),
     (b"$y$j9T$", Some(Scheme::Yescrypt)),
     (b"$7$", Some(Scheme::ScryptCrypt)),
+    (b"$sha1$1$salt", Some(Scheme::Sha1Crypt)),
+    (b"$sha1", Some(Scheme::Sha1Crypt)),
+    (b"$sha1x", Some(Scheme::Sha1Crypt)),
+    (b"$sha", None),
+    (b"$sha2$", None),
     (b"", None),
     (b"$", None),
     (b"$1", None),

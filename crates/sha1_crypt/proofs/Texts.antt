@@ -101,6 +101,7 @@ salt_length salt h =
 -- a text is that of rounds and a salt that a text may have, and of a digest
 pub record IsTextOf (text : List ℕ) (p : Parts) : Type 0 where
   pub valid : AreValid p.rounds p.salt
+  pub below : EachBelow 256 p.hash
   pub is : text_of p.rounds p.salt p.hash ≡ text
 
 of_salt : (text : List ℕ) (f : Fields) (n : ℕ) (p : Parts) → text_fields text ≡ Ok f → IsRounds f.rounds n
@@ -114,6 +115,7 @@ of_salt text f n p read rounds e =
     subst (IsTextOf text) hash.1
     (record {
       valid = record { least = rounds.least; most = rounds.most; some = size.0; short = size.1; characters = inner.0 };
+      below = hash.2.1;
       is = ap (λ (d : List ℕ). join_with_byte 36 ([] ∷ (codes "sha1" ∷ (d ∷ (f.salt ∷ (sha1_field hash.0 ∷ [])))))) rounds.is
           ∙ ap (λ (h : List ℕ). join_with_byte 36 ([] ∷ (codes "sha1" ∷ (f.rounds ∷ (f.salt ∷ (h ∷ [])))))) (sym hash.2.2)
           ∙ text_joins text f read;
@@ -145,7 +147,7 @@ values_of (v ∷ values) below =
 without_dollar : (text : List ℕ) → list_all is_crypt_character text ≡ true → LacksByte 36 text
 without_dollar text h = lacks is_crypt_character 36 refl text h
 
-written_below : (digest : List ℕ) → EachBelow 256 digest → EachBelow 256 (in_order map_sha1 (with_first digest))
+pub written_below : (digest : List ℕ) → EachBelow 256 digest → EachBelow 256 (in_order map_sha1 (with_first digest))
 written_below digest below = below_map map_sha1 (with_first digest) (with_first_below digest below)
 
 sha1_field_lacks : (digest : List ℕ) → EachBelow 256 digest → LacksByte 36 (sha1_field digest)
