@@ -343,7 +343,8 @@ fn tallied(most: usize) -> Option<Counts> {
         taken: &taken,
         flushes: &flushes,
     });
-    let mut left: &[u8] = b"match\nann\tmismatch\nmatch\nmatch\ntoo-costly\nmismatch\nmatc\nh\nbob\tmatch\nmat";
+    let mut left: &[u8] =
+        b"match\nann\tmismatch\nmatch\nmatch\ntoo-costly\nmismatch\nmatc\nh\nbob\tmatch\nmat";
     for _ in 0..100 {
         let count = tally.write(left).ok()?;
         left = left.get(count..)?;
