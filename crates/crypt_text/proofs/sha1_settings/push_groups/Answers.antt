@@ -1,5 +1,4 @@
-use Rattle.std.proofs.Common.{arith, sym, ◌∙◌}
-use Rattle.std.proofs.lemmas.List.{append-nil}
+use Rattle.std.proofs.Common.{arith}
 use Rattle.crypt_text.proofs.Groups.{group_more, no_group}
 use Rattle.crypt_text.proofs.sha1_settings.push_groups.Goals as goal
 
@@ -9,8 +8,8 @@ groups-init c = (no_group c.args.setting.now c.args.bytes.now, omega arith)
 pub groups-preserved : goal.groups-preserved
 groups-preserved c = (
   group_more c.args.setting.now c.groups.setting c.push_group.new.setting c.args.bytes.now c.groups.i c.groups.invariant.0
-  c.push_group.ensures.added,
+      c.push_group.ensures.added,
   let before = c.groups.invariant.1 in
-  let more = c.push_group.ensures.len in
-  omega (arith, before, more),
+      let more = c.push_group.ensures.len in
+      omega (arith, before, more),
 )
