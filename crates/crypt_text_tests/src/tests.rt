@@ -422,7 +422,7 @@ const NOT_NEW: [(&[u8], u64, usize); 15] = [
 ];
 
 // A setting, and what crypt_checksalt says of it.
-const CHECKED: [(&[u8], SaltStatus); 11] = [
+const CHECKED: [(&[u8], SaltStatus); 17] = [
     (b"", SaltStatus::Invalid),
     (b"$1$salt$hash", SaltStatus::Legacy),
     (b"$5$", SaltStatus::Legacy),
@@ -434,6 +434,12 @@ const CHECKED: [(&[u8], SaltStatus); 11] = [
     (b"$6$a\x80", SaltStatus::Invalid),
     (b"$9$x", SaltStatus::Invalid),
     (b"!$6$salt", SaltStatus::Invalid),
+    (b"$sha1$1$salt", SaltStatus::Legacy),
+    (b"$sha1", SaltStatus::Legacy),
+    (b"$sha1x", SaltStatus::Legacy),
+    (b"$sha1$1$sa:lt", SaltStatus::Invalid),
+    (b"$sha", SaltStatus::Invalid),
+    (b"$sha2$1$salt", SaltStatus::Invalid),
 ];
 
 // Whether the phrase and the setting have this text, and the phrase and the text have it too, where it is no longer than a
@@ -546,6 +552,7 @@ fn random_lens(rt: HostRuntime) -> Result<(), Fail> {
         (b"$2y$".as_slice(), 16),
         (b"$7$".as_slice(), 16),
         (b"$y$j9T$".as_slice(), 16),
+        (b"$sha1".as_slice(), 20),
         (b"$9$".as_slice(), 0),
         (b"$2$".as_slice(), 0),
         (b"".as_slice(), 0),
@@ -554,6 +561,7 @@ fn random_lens(rt: HostRuntime) -> Result<(), Fail> {
         assert!(rt; method_of(prefix).is_some() == (wanted > 0), "{prefix:?}");
     }
     assert!(rt; method_of(b"$y$") == Some(Scheme::Yescrypt));
+    assert!(rt; method_of(b"$sha1") == Some(Scheme::Sha1Crypt));
     Ok(())
 }
 

@@ -1,5 +1,4 @@
-use Rattle.std.proofs.Common.{arith, sym, ◌∙◌}
-use Rattle.std.proofs.lemmas.List.{append-nil}
+use Rattle.std.proofs.Common.{arith}
 use Rattle.crypt_text.proofs.Groups.{group_more, no_group}
 use Rattle.crypt_text.proofs.sha1_settings.push_groups.Goals as goal
 
