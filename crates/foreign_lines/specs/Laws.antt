@@ -12,10 +12,11 @@ use Rattle.foreign_text.specs.Laws.{AreHeld}
 use Rattle.foreign_text.specs.Records.{made_text}
 use Rattle.foreign_text.specs.declared.kdf.Kdf.TheVariants.{Pbkdf2}
 use Rattle.foreign_text.specs.declared.kdf.Pbkdf2Hash.{Pbkdf2Hash}
-use Rattle.foreign_text.specs.declared.kdf.Pbkdf2Hash.TheVariants.{Sha256, Sha512}
+use Rattle.foreign_text.specs.declared.kdf.Pbkdf2Hash.TheVariants.{Sha1, Sha256, Sha512}
 
 -- the hash function of the derivation that a text names
 abbrev pub derivation : Pbkdf2Hash → derived.Pbkdf2Hash
+derivation Sha1 = with.Sha1
 derivation Sha256 = with.Sha256
 derivation Sha512 = with.Sha512
 
