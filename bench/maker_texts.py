@@ -35,9 +35,9 @@ BOUNDS = ["--max-pbkdf2-rounds", "2000", "--max-scrypt-ln", "10", "--max-scrypt-
           "--max-yescrypt-ln", "8"]
 
 
-# Identifiers that are read. passlib keeps others too, `$P$` and `$scram$`: such a text is kept as it is, and has no scheme here.
+# Identifiers that are read. passlib keeps others too, as `$scram$`: such a text is kept as it is, and has no scheme here.
 READ = {"1", "5", "6", "7", "2a", "2b", "2y", "bcrypt-sha256", "bcrypt-sha256-hex", "wp", "y", "scrypt", "argon2i", "argon2d", "argon2id", "pbkdf2-sha256",
-        "pbkdf2-sha512", "sha1", "scram-sha-256", "scram-sha-256-raw"}
+        "pbkdf2-sha512", "pbkdf2-sha1", "sha1", "scram-sha-256", "scram-sha-256-raw", "smd5", "ssha", "ssha256", "ssha512", "P", "H"}
 
 
 def ask(words, lines):
@@ -82,7 +82,8 @@ def vectors(count, faults):
             compare(maker, "join", texts, wanted, ask(["join", "--quiet", "--from", maker, "-", passwords], texts), count, faults)
         got = [row[1] for row in csv.reader(ask(["survey", "--quiet", "--csv", "--from", maker], texts))][1:]
         names = {"1": "md5-crypt", "5": "sha256-crypt", "6": "sha512-crypt", "2a": "bcrypt", "2b": "bcrypt", "2y": "bcrypt",
-                 "bcrypt-sha256": "bcrypt-digest", "bcrypt-sha256-hex": "bcrypt-digest", "wp": "bcrypt-digest", "y": "yescrypt", "sha1": "sha1-crypt", "scram-sha-256-raw": "scram-sha-256", None: ""}
+                 "bcrypt-sha256": "bcrypt-digest", "bcrypt-sha256-hex": "bcrypt-digest", "wp": "bcrypt-digest", "y": "yescrypt", "sha1": "sha1-crypt", "scram-sha-256-raw": "scram-sha-256",
+                 "P": "phpass", "H": "phpass", **dict.fromkeys(makers.DIGESTS, "salted-digest"), None: ""}
         compare(maker, "survey", texts, [names.get(scheme, scheme) for _, _, scheme, _ in told], got, count, faults)
 
 

@@ -85,8 +85,22 @@ def in_crypt(data):
 
 # Texts of `secret` in the spelling of a maker: the maker, the text, the scheme and the costs that a survey tells.
 ASPNET_FRONT = b"\1" + b"".join(number.to_bytes(4, "big") for number in (2, 1000, 8))
+SHA1_KEY = hashlib.pbkdf2_hmac("sha1", b"secret", b"saltsalt", 1000, 20)
 MAKERS = [
     ("django", DJANGO, "pbkdf2-sha256", "rounds=1000"),
+    ("django", f"pbkdf2_sha1$1000$saltsalt${padded(SHA1_KEY)}", "pbkdf2-sha1", "rounds=1000"),
+    ("werkzeug", f"pbkdf2:sha1:1000$saltsalt${SHA1_KEY.hex()}", "pbkdf2-sha1", "rounds=1000"),
+    ("passlib", f"$pbkdf2$1000${b64(b'saltsalt')}${b64(SHA1_KEY).replace('+', '.')}", "pbkdf2-sha1", "rounds=1000"),
+    ("ldap", f"{{PBKDF2}}1000${b64(b'saltsalt')}${b64(SHA1_KEY).replace('+', '.')}", "pbkdf2-sha1", "rounds=1000"),
+    ("ldap", f"{{PBKDF2-SHA1}}1000${padded(b'saltsalt')}${padded(SHA1_KEY)}", "pbkdf2-sha1", "rounds=1000"),
+    ("ldap", f"{{SSHA}}{padded(hashlib.sha1(b'secretsalt').digest() + b'salt')}", "salted-digest", ""),
+    ("ldap", f"{{md5}}{padded(hashlib.md5(b'secret').digest())}", "salted-digest", ""),
+    ("dovecot", f"{{SSHA512}}{padded(hashlib.sha512(b'secretsalt').digest() + b'salt')}", "salted-digest", ""),
+    ("dovecot", f"{{SHA256}}{padded(hashlib.sha256(b'secret').digest())}", "salted-digest", ""),
+    ("dovecot", f"{{PBKDF2}}$1$saltsalt$1000${SHA1_KEY.hex()}", "pbkdf2-sha1", "rounds=1000"),
+    ("spring", f"{{pbkdf2}}{b'saltsalt'.hex()}{hashlib.pbkdf2_hmac('sha1', b'secret', b'saltsalt', 185000, 32).hex()}", "pbkdf2-sha1", "rounds=185000"),
+    ("aspnet", padded(bytes(1) + b"0123456789abcdef" + pbkdf2("sha1", b"secret", 1000, b"0123456789abcdef")), "pbkdf2-sha1", "rounds=1000"),
+    ("mediawiki", f":pbkdf2:sha1:1000:20:{padded(b'saltsalt')}:{padded(SHA1_KEY)}", "pbkdf2-sha1", "rounds=1000"),
     ("django", f"scrypt$16$saltsalt$8$2${padded(scrypt_key(4, 8, 2, b'saltsalt'))}", "scrypt", "ln=4"),
     ("werkzeug", f"scrypt:32:4:3$saltsalt${scrypt_key(5, 4, 3, b'saltsalt').hex()}", "scrypt", "ln=5"),
     ("werkzeug", f"pbkdf2:sha256:1000$saltsalt${pbkdf2('sha256', b'secret', 1000).hex()}", "pbkdf2-sha256", "rounds=1000"),
@@ -121,12 +135,14 @@ MAKERS = [
 # Texts that aren't converted, and the words.
 REFUSED = [
     ("django", "scrypt$16$seasalt$8$2$x", "foreign-salt-length"), ("django", "scrypt$15$saltsalt$8$2$x", "foreign-cost"),
-    ("django", "bcrypt_sha256$$2b$04$x", "foreign-form"), ("werkzeug", "pbkdf2:sha1:1$saltsalt$00", "unsupported-pbkdf2-sha1"),
-    ("werkzeug", "scrypt$saltsalt$00", "foreign-form"), ("ldap", "{PBKDF2}1$c2FsdHNhbHQ$x", "unsupported-pbkdf2-sha1"),
+    ("django", "bcrypt_sha256$$2b$04$x", "foreign-form"), ("werkzeug", "pbkdf2:sha1:1$saltsalt$00", "foreign-hash-length"),
+    ("werkzeug", "scrypt$saltsalt$00", "foreign-form"), ("ldap", "{PBKDF2}1$c2FsdHNhbHQ$x", "foreign-hash"),
+    ("ldap", "{SSHA}5en6G6MezRroT3XKqkdPOmY/BfQ=", "foreign-salt-length"), ("ldap", "{SHA}5en6G6MezRroT3XKqkdPOmY/BfR4", "foreign-hash-length"),
+    ("ldap", "{SHA384}x", "unsupported-sha2"), ("dovecot", "{SSHA.HEX}00", "unsupported-scheme"),
     ("elasticsearch", "{PBKDF2_STRETCH}1$x$y", "unsupported-scheme"), ("dovecot", "{SHA512-CRYPT.HEX}24", "unsupported-scheme"),
     ("dovecot", "{SCRAM-SHA-1}4096,x,y,z", "unsupported-scram"), ("dovecot", "{SCRAM-SHA-256}4096,x,y,z", "foreign-salt"),
-    ("postgres", "SCRAM-SHA-256$4096:c2FsdA==", "foreign-form"), ("postgres", "md5a3556571e93b0d20722ba62be61e8c2d", "unsupported-md5"), ("spring", "{pbkdf2}00", "unsupported-pbkdf2-sha1"),
-    ("aspnet", "AAAA", "unsupported-pbkdf2-sha1"), ("cisco", "$8$short$short", "foreign-form"), ("mosquitto", "$6$x$y", "unsupported-sha2"),
+    ("postgres", "SCRAM-SHA-256$4096:c2FsdA==", "foreign-form"), ("postgres", "md5a3556571e93b0d20722ba62be61e8c2d", "unsupported-md5"), ("spring", "{pbkdf2}00", "foreign-form"),
+    ("aspnet", "AAAA", "foreign-form"), ("cisco", "$8$short$short", "foreign-form"), ("mosquitto", "$6$x$y", "unsupported-sha2"),
     ("mediawiki", f":pbkdf2:sha512:1:64:{padded(b'saltsalt')}:{padded(bytes(32))}", "foreign-hash-length"),
     ("grub", "grub.pbkdf2.sha512.1." + "00" * 64 + ".00", "foreign-salt-length"),
 ]
@@ -421,15 +437,15 @@ def brought(tool):
 # A dump of a directory: its lines, and the rows of a survey of it. Texts in Base64 are Python's.
 DUMPS = [
     (f"dn: 1\nuid: ann\nuserPassword: {{CRYPT}}{MD5}\n", [("ann", "md5")]),
-    (f"dn: 1\nuserPassword:: {padded(b'{CRYPT}' + MD5.encode())}\nuid: ann\n\ndn: 2\nuid:: {padded('jörg'.encode())}\nuserPassword: {{SSHA}}x\n",
-     [("ann", "md5"), ("jörg", "sha1")]),
+    (f"dn: 1\nuserPassword:: {padded(b'{CRYPT}' + MD5.encode())}\nuid: ann\n\ndn: 2\nuid:: {padded('jörg'.encode())}\nuserPassword: {{SSHA384}}x\n",
+     [("ann", "md5"), ("jörg", "sha2")]),
     (f"version: 1\r\n\r\ndn: 1\r\nuid: ann\r\nuserPassword:: {padded(b'{CRYPT}' + MD5.encode())[:20]}\r\n {padded(b'{CRYPT}' + MD5.encode())[20:]}\r\n",
      [("ann", "md5")]),
-    ("dn: 1\nuserPassword: {SSHA}x\nUID;lang-de: ann\nuserpassword;x-old: geheim\nuid: bob\nUSERPASSWORD: !geheim\n",
-     [("ann", "sha1"), ("ann", "clear"), ("ann", "clear")]),
-    ("# uid: no\ndn: cn=sync,dc=x\nuserPassword: {SSHA}x\n\ndn: 2\nuid: none\ncn: x\n", [("cn=sync,dc=x", "sha1")]),
+    ("dn: 1\nuserPassword: {SSHA384}x\nUID;lang-de: ann\nuserpassword;x-old: geheim\nuid: bob\nUSERPASSWORD: !geheim\n",
+     [("ann", "sha2"), ("ann", "clear"), ("ann", "clear")]),
+    ("# uid: no\ndn: cn=sync,dc=x\nuserPassword: {SSHA384}x\n\ndn: 2\nuid: none\ncn: x\n", [("cn=sync,dc=x", "sha2")]),
     # Entries that no empty line parts, and an entry whose name an empty line parts from its text.
-    ("dn: 1\nuid: ann\nuserPassword: {SSHA}x\ndn: 2\nuserPassword: {SMD5}x\nuid: bob\n", [("ann", "sha1"), ("bob", "md5 digest")]),
+    ("dn: 1\nuid: ann\nuserPassword: {SSHA384}x\ndn: 2\nuserPassword: {SMD5}x\nuid: bob\n", [("ann", "sha2"), ("bob", "form")]),
     ("dn: 1\nuid: ann\n\nuserPassword: {SSHA}x\n\ndn: 3\nuid: bob\n", [("", "badline")]),
     # What isn't in the dump, and what no line has.
     ("dn: 1\nuid: ann\nuserPassword:< file:///etc/shadow\nuserPassword:: e0NS!\nuserPassword:: " + padded(b"{CRYPT}" + MD5.encode() + b"\nroot:x") + "\n",
@@ -441,7 +457,7 @@ DUMPS = [
     ("dn: 1\nuid: ann\nuserPassword: {CRYPT}!$6$x\nuserPassword: {CRYPT}*\nuserPassword: {crypt}x\nuserPassword: {CRYPT}xx\nuserPassword:\n",
      [("ann", "locked")] * 3 + [("ann", "des"), ("ann", "empty")]),
 ]
-KINDS = {"md5": "md5-crypt\t-\tweak: md5-crypt", "sha1": "-\t-\tunsupported: sha1", "md5 digest": "-\t-\tunsupported: md5",
+KINDS = {"md5": "md5-crypt\t-\tweak: md5-crypt", "sha2": "-\t-\tunsupported: sha2",
          "clear": "-\t-\tunsupported: clear text", "badline": "-\t-\tbadline", "toolong": "-\t-\ttoolong", "invalid": "-\t-\tinvalid",
          "locked": "-\t-\tlocked", "des": "-\t-\tunsupported: descrypt", "empty": "-\t-\tempty",
          "form": "-\t-\tunsupported: foreign text with a fault"}
@@ -455,11 +471,11 @@ def directories(tool):
         tool.case(["survey", "--from", "ldif", "--quiet", tool.file("dump", dump)], "", lambda got, wanted=wanted: got.startswith(wanted + "\n"), lambda got: got in (0, 1))
     with open(os.path.join(TOP, "examples/dump.ldif"), "rb") as file:
         dump = tool.file("dump", file.read())
-    rows = ("ann\tsha512-crypt\trounds=5000\tweak: 5000 rounds\nbob\t-\t-\tunsupported: sha1\ncarl\t-\t-\tlocked\n"
+    rows = ("ann\tsha512-crypt\trounds=5000\tweak: 5000 rounds\nbob\tsalted-digest\t-\tweak: salted-digest\ncarl\t-\t-\tlocked\n"
             "dora\targon2i\tm=4096,t=3,p=1\tweak: 4096 KiB\neve\t-\t-\tunsupported: clear text\nfrank\t-\t-\tlocked\n"
-            "cn=replicator,dc=example,dc=com\t-\t-\tunsupported: sha1\n\n")
+            "cn=replicator,dc=example,dc=com\tsalted-digest\t-\tweak: salted-digest\n\n")
     tool.case(["survey", "--from", "ldif", dump], "", lambda got: got.startswith(rows), 1)
-    answers = "ann\tmatch\nbob\tunsupported-sha1\ncarl\tlocked\ndora\tmatch\neve\tunsupported-cleartext\nfrank\tlocked\ncn=replicator,dc=example,dc=com\tunsupported-sha1\n"
+    answers = "ann\tmatch\nbob\tno-password\ncarl\tlocked\ndora\tmatch\neve\tunsupported-cleartext\nfrank\tlocked\ncn=replicator,dc=example,dc=com\tno-password\n"
     few = tool.file("few", "# c\n\nann:correct horse\ndora:open sesame\nzoe:x\n")
     many = tool.file("many", "ann:correct horse\ndora:open sesame\nzoe:x\n" + "".join(f"user{n}:x\n" for n in range(500)))
     for passwords in (few, many):
@@ -492,8 +508,8 @@ def statuses(tool):
     tool.case(["check", "--good", "mismatch"], f"secret\t{MD5}\n", "match\n", 1)
     tool.case(["check", "--users", "--good", "mismatch"], f"match:x\t{MD5}\n", "match\tmismatch\n", 0)
     tool.case(["check", "--max-bcrypt-cost", "4", "--good", "too-costly"], f"secret\t{BCRYPT_5}\n", "too-costly\n", 0)
-    tool.case(["check", "--from", "ldap", "--good", "unsupported"], "x\t{SHA}x\n", "unsupported-sha1\n", 0)
-    tool.case(["check", "--from", "ldap", "--good", "invalid"], "x\t{SHA}x\n", "unsupported-sha1\n", 1)
+    tool.case(["check", "--from", "ldap", "--good", "unsupported"], "x\t{SHA384}x\n", "unsupported-sha2\n", 0)
+    tool.case(["check", "--from", "ldap", "--good", "invalid"], "x\t{SHA384}x\n", "unsupported-sha2\n", 1)
     tool.case(["check", "--good", "match,empty"], "", "", 64, "pwtool: --good: 'empty' is not one of match, mismatch, no-scheme, ")
     tool.case(["check", "--good", ""], "", "", 64, "pwtool: --good: '' is not one of match, ")
     texts = tool.file("texts", f"ann:{MD5}\nbob:\nzoe:!\nmax:{MD5}\n")

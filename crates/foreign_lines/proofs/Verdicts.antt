@@ -25,7 +25,7 @@ use Rattle.foreign_text.specs.Laws.{AreHeld}
 use Rattle.foreign_text.specs.Records.{identifier, made_text, record_of}
 use Rattle.foreign_text.specs.declared.kdf.Kdf.TheVariants.{Pbkdf2}
 use Rattle.foreign_text.specs.declared.kdf.Pbkdf2Hash.{Pbkdf2Hash}
-use Rattle.foreign_text.specs.declared.kdf.Pbkdf2Hash.TheVariants.{Sha256, Sha512}
+use Rattle.foreign_text.specs.declared.kdf.Pbkdf2Hash.TheVariants.{Sha1, Sha256, Sha512}
 use Rattle.foreign_lines.specs.Laws.{derivation}
 use Rattle.foreign_text.proofs.Records.{read_again}
 
@@ -46,6 +46,10 @@ made_parts hash rounds salt key = record {
 printed : (hash : Pbkdf2Hash) (rounds : ℕ) (salt key : List ℕ)
     → parts_text (made_parts hash rounds salt key) ≡ made_text (Pbkdf2 hash rounds) salt key
 unfolding made_text record_text
+printed Sha1 rounds salt key =
+    let params : List ℕ = 36 ∷ 105 ∷ 61 ∷ decimal rounds in
+    ap (λ (t : List ℕ). codes "$pbkdf2-sha1" ++ (params ++ ((36 ∷ encoding salt) ++ t))) (append-nil (36 ∷ encoding key))
+    ∙ ap (λ (t : List ℕ). codes "$pbkdf2-sha1" ++ t) (sym (append_assoc params (36 ∷ encoding salt) (36 ∷ encoding key)))
 printed Sha256 rounds salt key =
     let params : List ℕ = 36 ∷ 105 ∷ 61 ∷ decimal rounds in
     ap (λ (t : List ℕ). codes "$pbkdf2-sha256" ++ (params ++ ((36 ∷ encoding salt) ++ t))) (append-nil (36 ∷ encoding key))
@@ -64,14 +68,17 @@ named text p h =
 -- ---- by the hash
 
 id_good : (hash : Pbkdf2Hash) (rounds : ℕ) → is_identifier (identifier (Pbkdf2 hash rounds)) ≡ true
+id_good Sha1 rounds = refl
 id_good Sha256 rounds = refl
 id_good Sha512 rounds = refl
 
 no_family : (hash : Pbkdf2Hash) (rounds : ℕ) → scheme_of (identifier (Pbkdf2 hash rounds)) ≡ None
+no_family Sha1 rounds = refl
 no_family Sha256 rounds = refl
 no_family Sha512 rounds = refl
 
 named_record : (hash : Pbkdf2Hash) (rounds : ℕ) → is_record (scheme_named (identifier (Pbkdf2 hash rounds))) ≡ true
+named_record Sha1 rounds = refl
 named_record Sha256 rounds = refl
 named_record Sha512 rounds = refl
 
@@ -82,6 +89,12 @@ module _ (rounds : ℕ) (salt key : List ℕ) where
   accepts : (hash : Pbkdf2Hash) → AreHeld (Pbkdf2 hash rounds) salt key → 1 ≤ rounds → rounds ≤ 10000000
       → accepted (record_of (Pbkdf2 hash rounds) salt key) salt (length key) ≡ true
   unfolding pbkdf2_accepts
+  accepts Sha1 held least most =
+      let some : nat_le 1 rounds ≡ true = grind (arith, nat_tests, least) in
+      let few : nat_le rounds 10000000 ≡ true = grind (arith, nat_tests, most) in
+      let long : nat_le 10 (length key) ≡ true = grind (arith, nat_tests, held.key_least) in
+      let short : nat_le (length key) 64 ≡ true = grind (arith, nat_tests, held.key_most) in
+      rw (number_read rounds held.cost_fits, some, few, long, short) refl
   accepts Sha256 held least most =
       let some : nat_le 1 rounds ≡ true = grind (arith, nat_tests, least) in
       let few : nat_le rounds 10000000 ≡ true = grind (arith, nat_tests, most) in
@@ -99,6 +112,7 @@ module _ (rounds : ℕ) (salt key : List ℕ) where
       → tag password (record_of (Pbkdf2 hash rounds) salt key) salt (length key)
       ≡ pbkdf2_with (derivation hash) password salt rounds (length key)
   unfolding pbkdf2_key
+  tags Sha1 password small = rw (number_read rounds small) refl
   tags Sha256 password small = rw (number_read rounds small) refl
   tags Sha512 password small = rw (number_read rounds small) refl
 

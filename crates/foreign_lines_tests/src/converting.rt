@@ -25,7 +25,7 @@ const LINES: [(Foreign, &[u8], &[u8]); 7] = [
         Foreign::Werkzeug,
         b"ann:pbkdf2:sha256:7$saltsalt$fdd683fab6b91733300fb18384a4ceff79246d4f1aaa54fd81b44ff5eedb1ed7\n\
         bob:$5$a$b:1\ncarl:*:1\ndora:pbkdf2:sha1:7$saltsalt$fdd683fab6b91733300fb18384a4ceff79246d4f\neve:$5$a$b\n",
-        b"ann:$pbkdf2-sha256$i=7$c2FsdHNhbHQ$/daD+ra5FzMwD7GDhKTO/3kkbU8aqlT9gbRP9e7bHtc\n\ncarl:*:1\n\neve:$5$a$b\n",
+        b"ann:$pbkdf2-sha256$i=7$c2FsdHNhbHQ$/daD+ra5FzMwD7GDhKTO/3kkbU8aqlT9gbRP9e7bHtc\n\ncarl:*:1\ndora:$pbkdf2-sha1$i=7$c2FsdHNhbHQ$/daD+ra5FzMwD7GDhKTO/3kkbU8\neve:$5$a$b\n",
     ),
     // Without a tag a text is the password itself, also one that begins with `*`.
     (

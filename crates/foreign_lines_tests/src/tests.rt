@@ -117,7 +117,8 @@ fn lines_with_users(rt: HostRuntime) {
         ben:secret\t{PBKDF2-SHA512}7$YWJjZGVmZ2g$QB4lyLY5MDmsMNUCYLZH2QEGr5FThdP3MvCnw5io4OWVGbSwILJD5krweRfPTiM/CyBlm7LPbnoEaD1M06jb3Q\n\
         ida:secret\t{PBKDF2-SHA512}7$YWJjZGVmZ2g$oNzBqFb03A.goX/CUpviOBd1EZ5cZP30Ade7.vnhkhM\n\
         bob:se:cret\t{CRYPT}$1$abcdefgh$cHJi5PXp/ki/ktXzqlk6I1\n\
-        eve:secret\t{SSHA}w78RgX/K4KeShALYnY8MnQPuLpRG6P0/\n\
+        eve:secret\t{SSHA}L6MqW/E8Zcy4RBscEiQc50a14apW39jw\n\
+        gus:secret\t{SSHA384}x\n\
         x\ty:secret\t{SSHA}x\n\
         carl:secret\t{CRYPT}ud03EAGigf5FA\n\
         zoe\n";
@@ -134,7 +135,7 @@ fn lines_with_users(rt: HostRuntime) {
     );
     assert!(rt; status == 1);
     let words =
-        b"ann\tmatch\nben\tmatch\nida\tmismatch\nbob\tmismatch\neve\tunsupported-sha1\nbadline\ncarl\tunsupported-des-crypt\nbadline\n";
+        b"ann\tmatch\nben\tmatch\nida\tmismatch\nbob\tmismatch\neve\tmatch\ngus\tunsupported-sha2\nbadline\ncarl\tunsupported-des-crypt\nbadline\n";
     assert!(rt; sink.bytes() == words.as_slice());
 }
 
@@ -144,16 +145,16 @@ const TEXTS: &[u8] =
     b"ann:{CRYPT}$5$rounds=1000$abcdefgh$XIppta5rT8zJUu4vAOKQXrwq9uY4Ijlz6VjyOmkx5i4:1:2\n\
     bob:{CRYPT}$1$abcdefgh$cHJi5PXp/ki/ktXzqlk6I1\n\
     carl:{CRYPT}$1$abcdefgh$cHJi5PXp/ki/ktXzqlk6I1:\n\
-    eve:{PBKDF2-SHA1}1$abc$def:\n\
+    eve:{PBKDF2-SHA1}10000$h9mAzwQsCiX/7tzWQTaCog$.3mAlciCR4Ycj85TV6YGTM43khc:\n\
     fay::\n\
     locked:{CRYPT}!$1$abcdefgh$cHJi5PXp/ki/ktXzqlk6I1:\n\
     clear:!{SSHA}x\n\
-    nobody:{MD5}x\n\
+    nobody:{SSHA384}x\n\
     \n";
 
 const JOINED: &[u8] =
-    b"ann\tmatch\nbob\tmismatch\ncarl\tno-password\neve\tunsupported-pbkdf2-sha1\nfay\tempty\n\
-    locked\tlocked\nclear\tunsupported-cleartext\nnobody\tunsupported-md5\nbadline\n";
+    b"ann\tmatch\nbob\tmismatch\ncarl\tno-password\neve\tmatch\nfay\tempty\n\
+    locked\tlocked\nclear\tunsupported-cleartext\nnobody\tunsupported-sha2\nbadline\n";
 
 #[test]
 fn users_beside_passwords(rt: HostRuntime) -> Result<(), Fail> {
@@ -285,17 +286,17 @@ fn rows_of_a_survey(rt: HostRuntime) {
     let rows = b"ann\tsha256-crypt\trounds=1000\tok\n\
         bob\tmd5-crypt\t-\tweak: md5-crypt\n\
         carl\tmd5-crypt\t-\tweak: md5-crypt\n\
-        eve\t-\t-\tunsupported: pbkdf2-sha1\n\
+        eve\tpbkdf2-sha1\trounds=10000\tweak: pbkdf2-sha1\n\
         fay\t-\t-\tempty\n\
         locked\t-\t-\tlocked\n\
         clear\t-\t-\tunsupported: clear text\n\
-        nobody\t-\t-\tunsupported: md5\n\
+        nobody\t-\t-\tunsupported: sha2\n\
         \t-\t-\tbadline\n\
         \n\
         2\tmd5-crypt weak\n\
         1\tsha256-crypt ok\n\
-        1\tunsupported: pbkdf2-sha1\n\
-        1\tunsupported: md5\n\
+        1\tpbkdf2-sha1 weak\n\
+        1\tunsupported: sha2\n\
         1\tunsupported: clear text\n\
         1\tempty\n\
         1\tlocked\n\

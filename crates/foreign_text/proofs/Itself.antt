@@ -7,7 +7,7 @@ use Rattle.base64ct.specs.Decoding.{decoding}
 use Rattle.phc.specs.Record.{record_text}
 use Rattle.pieces.specs.Pieces.{behind, pieces_at}
 use Rattle.foreign_text.specs.Answers.{Answer, as_it_is, stored_or_unread}
-use Rattle.foreign_text.specs.AspNet.{aspnet, aspnet_bytes, aspnet_hash, aspnet_sized, aspnet_v2, aspnet_v3, aspnet_with, by_format, first_of, number_at}
+use Rattle.foreign_text.specs.AspNet.{aspnet, aspnet_bytes, aspnet_hash, aspnet_sized, aspnet_v3, aspnet_with, by_format, first_of, number_at}
 use Rattle.foreign_text.specs.Cisco.{cisco, cisco_fields, cisco_type, is_crypt_field}
 use Rattle.foreign_text.specs.Converted.{converted}
 use Rattle.foreign_text.specs.Django.{django, django_argon2, django_bcrypt, django_digest_text, django_pbkdf2, django_pbkdf2_fields}

@@ -5,7 +5,9 @@ use Rattle.pieces.specs.Characters.{dollar}
 use Rattle.pieces.specs.Pieces.{LacksByte}
 use Rattle.phc.specs.Limits.{output_max, output_min, salt_max, salt_min}
 use Rattle.phc.specs.Record.{phc_text}
+use Rattle.salted_digest.specs.Check.{IsSalt}
 use Rattle.salted_digest.specs.Digest.{digest_size}
+use Rattle.salted_digest.specs.Text.{text_parts}
 use Rattle.salted_digest.specs.declared.hash.DigestHash.{DigestHash}
 use Rattle.foreign_text.specs.Converted.{converted}
 use Rattle.foreign_text.specs.Digests.{digest_text}
@@ -71,3 +73,8 @@ BareKept = (hash : DigestHash) (digest : List ℕ) → EachBelow 256 digest → 
 abbrev pub ReadAgain : Type 0
 ReadAgain = (kdf : Kdf) (salt key : List ℕ) → AreHeld kdf salt key
     → phc_text (made_text kdf salt key) ≡ Ok (record_of kdf salt key)
+
+-- The text of a digest is read as the hash function, the salt and the digest again.
+abbrev pub DigestReadAgain : Type 0
+DigestReadAgain = (hash : DigestHash) (salt digest : List ℕ) → IsSalt salt → EachBelow 256 digest → length digest ≡ digest_size hash
+    → text_parts (digest_text hash salt digest) ≡ Ok (record { hash = hash; salt = salt; digest = digest })

@@ -24,30 +24,34 @@ use pieces::begins_with;
 /// Whose spelling a text has.
 #[derive(Clone, Copy, Debug, PartialEq, Eq)]
 pub enum Foreign {
-    /// Django: `pbkdf2_sha256$ROUNDS$SALT$KEY`, `scrypt$N$SALT$R$P$KEY`, `argon2$argon2id$..`, `bcrypt$$2b$..`,
+    /// Django: `pbkdf2_sha256$ROUNDS$SALT$KEY`, `pbkdf2_sha1$..`, `scrypt$N$SALT$R$P$KEY`, `argon2$argon2id$..`, `bcrypt$$2b$..`,
     /// `bcrypt_sha256$$2b$..`.
     Django,
-    /// Werkzeug, which Flask's programs use: `scrypt:N:R:P$SALT$KEY`, `pbkdf2:sha256:ROUNDS$SALT$KEY`, `pbkdf2:sha512:..`.
+    /// Werkzeug, which Flask's programs use: `scrypt:N:R:P$SALT$KEY`, `pbkdf2:sha256:ROUNDS$SALT$KEY`, `pbkdf2:sha512:..`,
+    /// `pbkdf2:sha1:..`.
     Werkzeug,
-    /// LDAP: `{CRYPT}..`, `{ARGON2}..`, `{BCRYPT}..`, `{PBKDF2-SHA256}ROUNDS$SALT$KEY`, `{PBKDF2-SHA512}..`.
+    /// LDAP: `{CRYPT}..`, `{ARGON2}..`, `{BCRYPT}..`, `{PBKDF2-SHA256}ROUNDS$SALT$KEY`, `{PBKDF2-SHA512}..`, `{PBKDF2}..`,
+    /// `{PBKDF2-SHA1}..`, `{SSHA}DIGEST` and the other digests of MD5, SHA-1, SHA-256 and SHA-512, with a salt or without.
     Ldap,
     /// The same in the lines of a dump in LDIF (`ldif_lines`): the text goes on to the line's end, and a stored text has no colon.
     Ldif,
-    /// passlib: `$pbkdf2-sha256$ROUNDS$SALT$KEY`, `$pbkdf2-sha512$..`, and the texts that it shares with others.
+    /// passlib: `$pbkdf2-sha256$ROUNDS$SALT$KEY`, `$pbkdf2-sha512$..`, `$pbkdf2$..`, and the texts that it shares with others.
     Passlib,
-    /// Dovecot: `{SHA512-CRYPT}$6$..`, `{BLF-CRYPT}$2y$..`, `{ARGON2ID}$argon2id$..` and others of crypt(3) and Argon2.
+    /// Dovecot: `{SHA512-CRYPT}$6$..`, `{BLF-CRYPT}$2y$..`, `{ARGON2ID}$argon2id$..` and others of crypt(3) and Argon2,
+    /// `{SCRAM-SHA-256}..`, `{PBKDF2}$1$SALT$ROUNDS$KEY`, and the digests of LDAP.
     Dovecot,
-    /// Spring Security: `{bcrypt}$2a$..`, `{argon2}$argon2id$..`, `{scrypt}$COST$SALT$KEY`, `{pbkdf2@SpringSecurity_v5_8}DIGITS`.
+    /// Spring Security: `{bcrypt}$2a$..`, `{argon2}$argon2id$..`, `{scrypt}$COST$SALT$KEY`, `{pbkdf2@SpringSecurity_v5_8}DIGITS`,
+    /// `{pbkdf2}DIGITS`.
     Spring,
     /// Elasticsearch: `{PBKDF2}ROUNDS$SALT$KEY`, and bcrypt's texts.
     Elasticsearch,
-    /// ASP.NET Core Identity: Base64 of the bytes of its format 3.
+    /// ASP.NET Core Identity: Base64 of the bytes of its formats 2 and 3.
     AspNet,
     /// Cisco's IOS: `$8$SALT$KEY`, `$9$SALT$KEY`, and the texts that it shares with others.
     Cisco,
     /// Mosquitto: `$7$ROUNDS$SALT$KEY`.
     Mosquitto,
-    /// MediaWiki: `:pbkdf2:sha512:ROUNDS:LENGTH:SALT:KEY`, and the same with `sha256`.
+    /// MediaWiki: `:pbkdf2:sha512:ROUNDS:LENGTH:SALT:KEY`, and the same with `sha256` or `sha1`.
     MediaWiki,
     /// GRUB: `grub.pbkdf2.sha512.ROUNDS.SALT.KEY`.
     Grub,
@@ -117,8 +121,8 @@ fn by_maker<'a>(
 /// The stored text that a foreign text is read as, in the one spelling that `any_check` reads: a part of the foreign text; or
 /// none, and then the text is put into `made`.
 ///
-/// A record of PBKDF2 or scrypt is made of the cost, the salt and the key, and a text of SCRAM of the rounds, the salt and both keys; where the maker hashes a salt's characters, the salt
-/// is their bytes. A text that is there in the foreign one is given as it is there, and so is one that begins with `$`, but for
+/// A record of PBKDF2 or scrypt is made of the cost, the salt and the key, a text of SCRAM of the rounds, the salt and both keys, and
+/// one of a digest of its salt and the digest; where the maker hashes a salt's characters, the salt is their bytes. A text that is there in the foreign one is given as it is there, and so is one that begins with `$`, but for
 /// those of passlib, Cisco and Mosquitto of their own: whether it has a fault is for `any_check` to say.
 ///
 /// # Errors

@@ -1,6 +1,7 @@
 //! Laws over the definitions.
 
-ghost use Rattle.foreign_text.specs.Laws.{BareKept, ConvertsToItself, DjangoKept, LdapKept, PasslibKept, ReadAgain, SaltedKept, WerkzeugKept};
+ghost use Rattle.foreign_text.specs.Laws.{BareKept, ConvertsToItself, DigestReadAgain, DjangoKept, LdapKept, PasslibKept, ReadAgain};
+ghost use Rattle.foreign_text.specs.Laws.{SaltedKept, WerkzeugKept};
 
 /// What a converter gives is in the one spelling: the same converter gives it again.
 pub fn converts_to_itself()
@@ -18,7 +19,8 @@ pub fn keeps_the_fields()
     ensures bare { BareKept }
 {}
 
-/// The text of a record is read as this record again.
+/// The text of a record is read as this record again, and that of a digest as the digest and its salt.
 pub fn is_read_again()
     ensures read { ReadAgain }
+    ensures digest { DigestReadAgain }
 {}

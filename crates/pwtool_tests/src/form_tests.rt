@@ -213,8 +213,8 @@ const SURVEYS: [(&[&str], &[u8], &[u8], u8); 11] = [
     ),
     (
         &["pwtool", "survey", "--from", "ldap"],
-        b"eve:{SHA}5en6G6MezRroT3XKqkdPOmY/BfQ=\n",
-        b"eve\t-\t-\tunsupported: sha1\n\n1\tunsupported: sha1\n",
+        b"eve:{SHA384}WKd1ukESvjAFrkQHznV9iP2nHUBJe7gCbsrFTU4//HIyzo3jq1rLMK45dg/ufFPt\n",
+        b"eve\t-\t-\tunsupported: sha2\n\n1\tunsupported: sha2\n",
         1,
     ),
 ];
