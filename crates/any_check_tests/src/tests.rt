@@ -23,7 +23,7 @@ fn word_of(answer: &Result<bool, AnyError>) -> &'static str {
 }
 
 // Texts of the password `secret`.
-pub const TEXTS: [&str; 31] = [
+const TEXTS: &[&str] = &[
     "$1$abcdefgh$cHJi5PXp/ki/ktXzqlk6I1",
     "$apr1$abcdefgh$h9FWgUz3n9YxylKLlR5SQ/",
     "$5$abcdefgh$gruCpC7VkOTspMQTTSAR8mtlO9Upms.fwqE5y16JVM.",
@@ -57,8 +57,12 @@ pub const TEXTS: [&str; 31] = [
     "$pbkdf2-sha1$i=998$c2FsdHNhbHRzYWx0$dfthYyTIsPBB/GS86Ihv/tqCRr0",
 ];
 
+pub fn texts() -> &'static [&'static str] {
+    TEXTS
+}
+
 // Texts without a verdict, and their words.
-pub const FAULTS: [(&str, &str); 54] = [
+const FAULTS: &[(&str, &str)] = &[
     ("$1$abcdefgh", "md5-format"),
     ("$1$abcdefghi$cHJi5PXp/ki/ktXzqlk6I1", "md5-format"),
     ("$apr1$", "mcf-delimiter"),
@@ -193,19 +197,23 @@ pub const FAULTS: [(&str, &str); 54] = [
     ("", "no-scheme"),
 ];
 
+pub fn faults() -> &'static [(&'static str, &'static str)] {
+    FAULTS
+}
+
 #[test]
 fn words(rt: HostRuntime) {
     let kdf = record_kdf(rt.alloc());
     let kept = CryptKept::new(rt.alloc());
-    for stored in TEXTS {
+    for stored in texts() {
         let got = word_of(&check_any(rt.alloc(), &kdf, &kept, "secret", stored));
         assert!(rt; got == "match", "{stored}: {got}");
         let got = word_of(&check_any(rt.alloc(), &kdf, &kept, "Secret", stored));
         assert!(rt; got == "mismatch", "{stored}: {got}");
     }
-    for (stored, word) in FAULTS {
+    for (stored, word) in faults() {
         let got = word_of(&check_any(rt.alloc(), &kdf, &kept, "secret", stored));
-        assert!(rt; got == word, "{stored}: {got}");
+        assert!(rt; got == *word, "{stored}: {got}");
     }
 }
 
@@ -255,7 +263,7 @@ pub fn least() -> SchemeCosts {
 fn bounds_reached(rt: HostRuntime) {
     let kdf = record_kdf(rt.alloc());
     let kept = CryptKept::new(rt.alloc());
-    for stored in TEXTS {
+    for stored in texts() {
         let got = word_of(&check_any_within(rt.alloc(), &kdf, &kept, &least(), "secret", stored));
         assert!(rt; got == "match", "{stored}: {got}");
         let got = word_of(&check_any_within(rt.alloc(), &kdf, &kept, &least(), "Secret", stored));
@@ -270,9 +278,9 @@ fn bounds_reached(rt: HostRuntime) {
         pbkdf2_sha512: NO_COSTS,
         argon2: NO_COSTS,
     };
-    for (stored, word) in FAULTS {
+    for (stored, word) in faults() {
         let got = word_of(&check_any_within(rt.alloc(), &kdf, &kept, &none, "secret", stored));
-        assert!(rt; got == word, "{stored}: {got}");
+        assert!(rt; got == *word, "{stored}: {got}");
     }
 }
 
@@ -454,7 +462,7 @@ fn bounds_passed(rt: HostRuntime) {
     let kdf = record_kdf(rt.alloc());
     let kept = CryptKept::new(rt.alloc());
     for (places, low) in PASSED {
-        for (place, stored) in TEXTS.into_iter().enumerate() {
+        for (place, stored) in texts().iter().enumerate() {
             let got = word_of(&check_any_within(rt.alloc(), &kdf, &kept, low, "secret", stored));
             let is_above = places.contains(&place);
             assert!(rt;
@@ -474,7 +482,7 @@ fn long_passwords(rt: HostRuntime) {
         panic!(rt; "letters are text")
     };
     let too_long = Err(AnyError::Stored(StoredError::PasswordTooLong));
-    for stored in TEXTS {
+    for stored in texts() {
         let answer = check_any(rt.alloc(), &kdf, &kept, long, stored);
         assert!(rt; answer == too_long, "{stored}: {answer:?}");
         let answer = check_any_within(rt.alloc(), &kdf, &kept, &least(), long, stored);
@@ -487,7 +495,7 @@ fn long_passwords(rt: HostRuntime) {
 }
 
 // Passwords and texts without a verdict, and the first cause.
-const CAUSES: [(&str, &str, AnyError); 11] = [
+const CAUSES: &[(&str, &str, AnyError)] = &[
     ("secret", "$1$abcdefgh", AnyError::Md5(Md5Fault::NoHash)),
     ("secret", "$2a$04", AnyError::Bcrypt(BcryptFault::NoHash)),
     ("secret", "$wp$2y$04", AnyError::Bcrypt(BcryptFault::Length)),
@@ -521,9 +529,31 @@ const CAUSES: [(&str, &str, AnyError); 11] = [
     ),
 ];
 
-// A text of the password `péché`, which isn't prepared.
-const NOT_PREPARED: &str =
-    "$scram-sha-256-raw$18$MDEyMzQ1Njc4OWFiY2RlZg==$Kzs9hMQq005K9mauOQ1p7DS8xWB4w0JzRo+ecXj0CQQ=$CnGv9hKZrHe46JMhL6yKiORo+KML/55pU1wx9mdOicE=";
+// Passwords that some texts have a verdict on and others not, and the words.
+const OTHERS: &[(&str, &str, &str)] = &[
+    (
+        "sec\0ret",
+        "$2b$04$abcdefghijklmnopqrstuu2r9OfJnfCsdneAXAGHnS4UpFFP8WIrW",
+        "zero-byte",
+    ),
+    (
+        "sec\0ret",
+        "$bcrypt-sha256$2b,4$abcdefghijklmnopqrstuu$N9tMz1lMx9RK4tmPpgRXWaagQQdZIOO",
+        "mismatch",
+    ),
+    (
+        "péché",
+        "$scram-sha-256$19$c2FsdHNhbHRzYWx0$yKryWWaEJIQZh+JLbGHI0L6CiAe9Z/A045jMaYLvY5Q=$m68IZJjNEbv8HGR356PYAHysNh90ZvhvCDdy6qKIKYw=",
+        "not-ascii",
+    ),
+    (
+        "péché",
+        "$scram-sha-256-raw$18$MDEyMzQ1Njc4OWFiY2RlZg==$Kzs9hMQq005K9mauOQ1p7DS8xWB4w0JzRo+ecXj0CQQ=$CnGv9hKZrHe46JMhL6yKiORo+KML/55pU1wx9mdOicE=",
+        "match",
+    ),
+    ("a\0b", "$P$5abcdefghRLJD0mSaATn8.KP8wOdN//", "match"),
+    ("a\0c", "$P$5abcdefghRLJD0mSaATn8.KP8wOdN//", "mismatch"),
+];
 
 #[test]
 fn first_causes(rt: HostRuntime) {
@@ -531,16 +561,12 @@ fn first_causes(rt: HostRuntime) {
     let kept = CryptKept::new(rt.alloc());
     for (password, stored, cause) in CAUSES {
         let answer = check_any(rt.alloc(), &kdf, &kept, password, stored);
-        assert!(rt; answer == Err(cause), "{stored}: {answer:?}");
+        assert!(rt; answer == Err(*cause), "{stored}: {answer:?}");
     }
-    let got = word_of(&check_any(rt.alloc(), &kdf, &kept, "sec\0ret", TEXTS[5]));
-    assert!(rt; got == "zero-byte", "{got}");
-    let got = word_of(&check_any(rt.alloc(), &kdf, &kept, "sec\0ret", TEXTS[17]));
-    assert!(rt; got == "mismatch", "{got}");
-    let got = word_of(&check_any(rt.alloc(), &kdf, &kept, "péché", TEXTS[21]));
-    assert!(rt; got == "not-ascii", "{got}");
-    let got = word_of(&check_any(rt.alloc(), &kdf, &kept, "péché", NOT_PREPARED));
-    assert!(rt; got == "match", "{got}");
+    for (password, stored, word) in OTHERS {
+        let got = word_of(&check_any(rt.alloc(), &kdf, &kept, password, stored));
+        assert!(rt; got == *word, "{stored}: {got}");
+    }
 }
 
 #[test]
@@ -592,7 +618,7 @@ fn no_scheme(rt: HostRuntime) {
 
 // Valid texts of which each digest takes a tenth of a second and more: of each variant and type, and where its texts have several
 // lengths, another one of more than 140 bytes or the shortest.
-pub const DEAR: [&str; 35] = [
+const DEAR: &[&str] = &[
     "$5$rounds=999999999$abcdefgh$gruCpC7VkOTspMQTTSAR8mtlO9Upms.fwqE5y16JVM.",
     "$5$rounds=999999999$a$gruCpC7VkOTspMQTTSAR8mtlO9Upms.fwqE5y16JVM.",
     "$6$rounds=999999999$abcdefgh$ltjgWl6579NluT/Vi1nwEvcil.G5Nbc4NiXZaNGStk8PSwGfQv72N2CKPPrVACtLtip/cZ/1GM/O6IND4WQhG.",
@@ -630,12 +656,16 @@ pub const DEAR: [&str; 35] = [
     "$argon2d$v=19$m=2097152,t=1,p=1$c2FsdHNhbHRzYWx0c2FsdHNhbHRzYWx0c2FsdHNhbHRzYWx0c2FsdHNhbHRzYWx0$GK6ZfhTx3pI28IQ6HYQzaUek5XduggVQ0zhLSF6WB1ROBlCW2ybd4hR7tgTVg/2i//vv5K7hcJGgBedoUEO6ag",
 ];
 
+pub fn dear() -> &'static [&'static str] {
+    DEAR
+}
+
 // A thousand digests of such a text take more time than a test has.
 #[test]
 fn nothing_is_hashed(rt: HostRuntime) {
     let kdf = record_kdf(rt.alloc());
     let kept = CryptKept::new(rt.alloc());
-    for stored in DEAR {
+    for stored in dear() {
         for _ in 0..1_000 {
             let answer = check_any_within(rt.alloc(), &kdf, &kept, &least(), "secret", stored);
             assert!(rt; answer == Err(AnyError::TooCostly), "{stored}");
@@ -646,11 +676,11 @@ fn nothing_is_hashed(rt: HostRuntime) {
 // Each text has a verdict exactly where its kind is valid.
 #[test]
 fn kinds(rt: HostRuntime) {
-    for stored in TEXTS {
+    for stored in texts() {
         let valid = matches!(text_kind(&PlainRecords, stored), TextKind::Valid(_));
         assert!(rt; valid, "{stored}");
     }
-    for (stored, word) in FAULTS {
+    for (stored, word) in faults() {
         let valid = matches!(text_kind(&PlainRecords, stored), TextKind::Valid(_));
         assert!(rt; !valid, "{stored} {word}");
     }
