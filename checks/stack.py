@@ -90,6 +90,19 @@ def hmac_states(key):
     return [b"".join(x.to_bytes(4, "big") for x in sha256_block(H256, pad(key, byte))) for byte in (0x36, 0x5C)]
 
 
+def sha1_block(state, block):
+    """The state of SHA-1 after one block more (FIPS 180-4, section 6.1.2)."""
+    rotated = lambda x, n: (x << n | x >> 32 - n) & 0xFFFFFFFF
+    w = [int.from_bytes(block[4 * i:4 * i + 4], "big") for i in range(16)]
+    for i in range(16, 80):
+        w.append(rotated(w[i - 3] ^ w[i - 8] ^ w[i - 14] ^ w[i - 16], 1))
+    a, b, c, d, e = state
+    for i in range(80):
+        f, k = [(b & c | ~b & d, 0x5A827999), (b ^ c ^ d, 0x6ED9EBA1), (b & c | b & d | c & d, 0x8F1BBCDC), (b ^ c ^ d, 0xCA62C1D6)][i // 20]
+        a, b, c, d, e = (rotated(a, 5) + (f & 0xFFFFFFFF) + e + k + w[i]) & 0xFFFFFFFF, a, rotated(b, 30), c, d
+    return [(x + y) & 0xFFFFFFFF for x, y in zip(state, (a, b, c, d, e))]
+
+
 # ---- secrets of a scheme: early ones, and the key
 
 def turned(data, size):
@@ -134,6 +147,13 @@ def md5_early(salt):
         a += b"\0" if n & 1 else PASSWORD[:1]
         n >>= 1
     return [b, hashlib.md5(a).digest()]
+
+
+def sha1_early(salt, rounds):
+    """The two states of HMAC-SHA-1 behind the key's block, and the first code."""
+    first = [0x67452301, 0xEFCDAB89, 0x98BADCFE, 0x10325476, 0xC3D2E1F0]
+    states = [b"".join(x.to_bytes(4, "big") for x in sha1_block(first, pad(PASSWORD, byte))) for byte in (0x36, 0x5C)]
+    return states + [hmac.new(PASSWORD, salt + b"$sha1$%d" % rounds, "sha1").digest()]
 
 
 def scrypt_early(salt, r=1, p=1):
@@ -254,7 +274,7 @@ ORDER_MD5 = [12, 6, 0, 13, 7, 1, 14, 8, 2, 15, 9, 3, 5, 10, 4, 11]
 TEXTS = {
     "$1$": "$1$saltsalt$", "$5$": "$5$rounds=1000$saltsaltsaltsalt$", "$6$": "$6$rounds=1000$saltsaltsaltsalt$",
     "$2b$": "$2b$04$abcdefghijklmnopqrstuu", "$7$": "$7$4/..../....saltsalt$", "$y$ small": "$y$j/.$saltsaltsaltsalt$",
-    "$y$": "$y$j9T$saltsaltsaltsalt$",
+    "$y$": "$y$j9T$saltsaltsaltsalt$", "$sha1$": "$sha1$100$saltsalt$",
 }
 
 
@@ -265,6 +285,8 @@ def crypt_secrets(name):
         return sha_early("sha256" if name == "$5$" else "sha512", b"saltsaltsaltsalt")
     if name == "$7$":
         return scrypt_early(b"saltsalt")
+    if name == "$sha1$":
+        return sha1_early(b"saltsalt", 100)
     if name.startswith("$y$"):
         return yescrypt_early(crypt_bytes("saltsaltsaltsalt"))
     return []
@@ -283,6 +305,8 @@ def key_of(text):
         return crypt_bytes(field)
     if method in ("5", "6"):
         return b""
+    if method == "sha1":
+        return turned(crypt_bytes(field), 3)[:20]
     return base64.b64decode(field + "=" * (-len(field) % 4))
 
 
