@@ -178,9 +178,10 @@ def of_passlib():
     rows = [("md5_crypt", {}, VERDICT), ("apr_md5_crypt", {}, VERDICT), ("sha256_crypt", {"rounds": 1000}, VERDICT),
             ("sha512_crypt", {"rounds": 5000}, VERDICT), ("bcrypt", {"rounds": 5}, VERDICT), ("bcrypt_sha256", {"rounds": 5}, VERDICT),
             ("bcrypt_sha256", {"rounds": 4, "version": 1}, VERDICT), ("sha1_crypt", {"rounds": 1000}, VERDICT), ("scrypt", {"rounds": 6}, VERDICT),
+            ("phpass", {"rounds": 7}, VERDICT), ("phpass", {"rounds": 8, "ident": "$H$"}, VERDICT),
             ("pbkdf2_sha256", {"rounds": 1000}, "phc-salt-short"), ("pbkdf2_sha512", {"rounds": 1000}, "phc-salt-short")]
     rows += [(name, {}, NO_SCHEME) for name in (
-        "des_crypt", "bsdi_crypt", "bigcrypt", "sun_md5_crypt", "phpass", "nthash", "bsd_nthash", "ldap_sha1",
+        "des_crypt", "bsdi_crypt", "bigcrypt", "sun_md5_crypt", "nthash", "bsd_nthash", "ldap_sha1",
         "ldap_salted_sha1", "ldap_md5", "pbkdf2_sha1", "cta_pbkdf2_sha1", "grub_pbkdf2_sha512",
         "django_pbkdf2_sha256", "fshp", "mysql41", "hex_sha256", "unix_disabled")]
     for name, settings, wanted in rows:
@@ -250,13 +251,16 @@ def costs(text):
     found = re.match(r"\$2[aby]\$(\d\d)\$", text)
     if found:
         return {"--max-bcrypt-cost": int(found[1])}
+    found = re.match(r"\$[PH]\$(.)", text)
+    if found:
+        return {"--max-bcrypt-cost": CHARACTERS.index(found[1])}
     found = re.match(r"\$y\$j(.)", text)
     if found:
         return {"--max-yescrypt-ln": CHARACTERS.index(found[1]) + 1}
     found = re.match(r"\$7\$(.)", text)
     if found:
         return {"--max-scrypt-ln": CHARACTERS.index(found[1])}
-    found = re.match(r"\$(scrypt|pbkdf2-sha(?:256|512)|argon2[a-z]+)\$(?:v=19\$)?([a-z]+=[a-z0-9=,]+)\$", text)
+    found = re.match(r"\$(scrypt|pbkdf2-sha(?:1|256|512)|argon2[a-z]+)\$(?:v=19\$)?([a-z]+=[a-z0-9=,]+)\$", text)
     if not found:
         return {}
     scheme = re.match("[a-z]+2?", found[1])[0]

@@ -1,7 +1,8 @@
 #!/usr/bin/env python3
 """Asks `pwtool survey` and `pwtool check` about damaged texts of every scheme: they must agree on each.
 
-It damages texts that outside programs made (openssl, libxcrypt, passlib, the program argon2, hashlib), COUNT in all: one to
+It damages texts that outside programs made (openssl, libxcrypt, passlib, the program argon2, hashlib, slappasswd, Dovecot, 389-ds,
+htpasswd), COUNT in all: one to
 three characters of a text are changed, left out, doubled, put in or exchanged, or the text is cut, or a field of it is left
 out or doubled. Of each damaged text
     pwtool survey           tells a judgement, and
@@ -41,6 +42,10 @@ TEXTS = {
                       "$wp$2y$04$abcdefghijklmnopqrstuuEeHkRZpI6C0z7R9xxYj6cAAQJttpxEy"],
     "scram-sha-256": ["$scram-sha-256$19$c2FsdHNhbHRzYWx0$yKryWWaEJIQZh+JLbGHI0L6CiAe9Z/A045jMaYLvY5Q=$m68IZJjNEbv8HGR356PYAHysNh90ZvhvCDdy6qKIKYw=",
                       "$scram-sha-256-raw$20$c2FsdHNhbHRzYWx0$RdX4ARLvYgtG49yrH5Ad+1cSP6sX3ne7wcvyE05dWd8=$nqZeGYnz3lpZ+Z9cF+fW31+zlAed1+TSM+lgpSCnf7Q="],
+    "phpass": ["$P$63CSgRZlssLJbqxzpCXYPhDoROG16t0", "$H$5abcdefghRQTwXLGkACWdXkqlmTP.k1"],
+    "salted-digest": ["$smd5$eqxaag==$8HSBkgbWtU2ZNtAT/chuyA==", "$ssha$kYts+A==$N/O7ZPYFWQ9QtdpxAglBt23rONc=",
+                      "$ssha$$5en6G6MezRroT3XKqkdPOmY/BfQ=", "$ssha256$3xme0w==$ROfTnljnyvDpXJG9tjcgy5mIhpPVTOREnfMvABPrZb8=",
+                      "$ssha512$GvCtCYhcG9k=$J37XHP+ir/NHsU3KWxpsW1E5qI1JbYSCLMsvRp8JLWp9qGsZFRUt+FzVtKiQcbF+wArqqKP0sW6Cuqjg/K97LQ=="],
     "sha1-crypt": ["$sha1$19$abcdefgh$nl4bYNUkvp1kTppWm6kb5cqPQqNG", "$sha1$1000$abcdefgh$ji8ESnkwjcTjo4hThodnLYyi.3yG"],
     "yescrypt": ["$y$j75$0123456789ab$kb1fsIrDP1wOa4Q3gNpxZkfwQ3ce8kmPbnemuN65IT2",
                  "$y$j6///$./$eG1H3hAdiIw7LAyaeC1wsfq6rJHemsvZ8fPCiI8TWx/"],
@@ -49,6 +54,7 @@ TEXTS = {
     "pbkdf2-sha256": ["$pbkdf2-sha256$i=1000,l=32$c2FsdHNhbHRzYWx0$sVaWem31qy3rw+Ldi3plA/XzhMSNi9/XHnnD1Ytj05o"],
     "pbkdf2-sha512": ["$pbkdf2-sha512$i=999$c2FsdHNhbHRzYWx0$GK6ZfhTx3pI28IQ6HYQzaUek5XduggVQ0zhLSF6WB1ROBlCW2ybd4hR7tgTVg/2i//vv5K7hcJGgBe"
                       "doUEO6ag"],
+    "pbkdf2-sha1": ["$pbkdf2-sha1$i=998$c2FsdHNhbHRzYWx0$dfthYyTIsPBB/GS86Ihv/tqCRr0"],
     "argon2d": ["$argon2d$v=19$m=128,t=1,p=1$c2FsdHNhbHRzYWx0$cnmEAHaXnZyNK8al32lcZA"],
     "argon2i": ["$argon2i$v=19$m=64,t=2,p=2$c2FsdHNhbHRzYWx0$vtdpD5eGGsEQdYh52JSgUbWdj2vdH1FR/Ncvk1mmMU8"],
     "argon2id": ["$argon2id$v=19$m=64,t=1,p=1$c2FsdHNhbHRzYWx0$Sm3MnLdCFk0Af+croKgebRoqqmhbKd88iiW3yUOXn78"],

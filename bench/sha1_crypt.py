@@ -37,7 +37,7 @@ def so(condition, name):
         raise Fault(name)
 
 
-# ---- hmac_plain's specs/Hmac
+# ---- specs/Hmac of hmac_plain and hmac_sha1
 
 def sha1(message):
     return hashlib.sha1(message).digest()

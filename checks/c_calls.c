@@ -106,6 +106,9 @@ static const struct any_row {
     {"$sha1$19$abcdefgh$nl4bYNUkvp1kTppWm6kb5cqPQqNG", PWCHECK_MISMATCH, 0, 18},
     {"$scram-sha-256$19$c2FsdHNhbHRzYWx0$yKryWWaEJIQZh+JLbGHI0L6CiAe9Z/A045j"
      "MaYLvY5Q=$m68IZJjNEbv8HGR356PYAHysNh90ZvhvCDdy6qKIKYw=", PWCHECK_MISMATCH, 5, 18},
+    {"$P$63CSgRZlssLJbqxzpCXYPhDoROG16t0", PWCHECK_MISMATCH, 1, 7},
+    {"$ssha$kYts+A==$N/O7ZPYFWQ9QtdpxAglBt23rONc=", PWCHECK_MISMATCH, 12, 0},
+    {"$pbkdf2-sha1$i=998$c2FsdHNhbHRzYWx0$dfthYyTIsPBB/GS86Ihv/tqCRr0", PWCHECK_MISMATCH, 5, 997},
     {"$pbkdf2-sha256$i=1000,l=32$c2FsdHNhbHRzYWx0$sVaWem31qy3rw+Ldi3plA/XzhMSNi9/XHnnD1Ytj05o", PWCHECK_MISMATCH, 5, 999},
     {"$pbkdf2-sha512$i=1000,l=64$c2FsdHNhbHRzYWx0$bePzWo/796SGZ2lB"
      "KpZcU2FQhQXnjiEADnvU8yLzaxu1BwlSR076rTWeGRrvgBz757DxNPmtAZpVls5xSi9daw",
@@ -124,6 +127,11 @@ static const struct any_row {
     {"$scram-sha-256$0$c2FsdA==$x$x", PWCHECK_SCRAM_COST, 12, 0},
     {"$scram-sha-256$19$c2FsdA$x$x", PWCHECK_SCRAM_B64, 12, 0},
     {"$scram-sha-256$19$c2FsdA==", PWCHECK_SCRAM_FORMAT, 12, 0},
+    {"$P$43CSgRZlssLJbqxzpCXYPhDoROG16t0", PWCHECK_PHPASS_COST, 12, 0},
+    {"$H$63CSgRZlssLJbqxzpCXYPhDoROG16t+", PWCHECK_PHPASS_B64, 12, 0},
+    {"$P$63CSgRZlssLJ", PWCHECK_PHPASS_FORMAT, 12, 0},
+    {"$ssha$c2FsdA$x", PWCHECK_DIGEST_B64, 12, 0},
+    {"$smd5$c2FsdA==", PWCHECK_DIGEST_FORMAT, 12, 0},
 };
 
 /* The limits of a program that was compiled with a shorter or a longer struct, in memory of exactly that size. */
@@ -229,7 +237,7 @@ static void check_every_scheme(void)
 static void word_of(const char *password, size_t n, const char *text, size_t m, char *word)
 {
     struct pwcheck_limits limits = PWCHECK_LIMITS_NONE;
-    limits.bcrypt_cost = 4;
+    limits.bcrypt_cost = 7;
     uint8_t *secret = copy(password, n), *stored = copy(text, m), *out = room(PWCHECK_WORD_SIZE);
     pwcheck_word(pwcheck_check_any(secret, n, stored, m, &limits), out, PWCHECK_WORD_SIZE);
     strcpy(word, (char *)out);
@@ -238,7 +246,7 @@ static void word_of(const char *password, size_t n, const char *text, size_t m, 
     give_back(out, PWCHECK_WORD_SIZE);
 }
 
-/* Each line of the stored run of `pwtool check --max-bcrypt-cost 4` has its word here too, where a cost above the bound has
+/* Each line of the stored run of `pwtool check --max-bcrypt-cost 7` has its word here too, where a cost above the bound has
  * another one, and a line without a tab is none. */
 static void stored_run(const char *lines_name, const char *words_name)
 {
@@ -468,7 +476,7 @@ static void words(void)
     int32_t count = 0; /* of answers: after the first number without a word, none has one */
     uint8_t none;
     while (pwcheck_word(count, &none, 0)) count++;
-    NEED(count > PWCHECK_NOT_ASCII);
+    NEED(count > PWCHECK_DIGEST_FORMAT);
     for (int32_t k = -5; k < 300; k++)
         for (size_t n = 0; n <= PWCHECK_WORD_SIZE; n++) {
             uint8_t *out = room(n);

@@ -151,11 +151,14 @@ ARGON2ID_16 = "$argon2id$v=19$m=16,t=2,p=2$c2FsdHNhbHQ$cYIhcX/yw9+Fe/LRiNi1ZfO+i
 YESCRYPT_T = "$y$j51/.$Pho4B8xrvPqs2jN78cthf.$MazTksSjZ2bYrNS7y2f2IFAh67IlkliYGHXrIJU/KE2"
 SHA1_1001 = "$sha1$1001$abcdefgh$JsPQDjLVlZTj1P/EQe/58nGhl7Zb"
 BCRYPT_5 = "$2b$05$abcdefghijklmnopqrstuuOQiyCxlgf/oeuTqixKmWdcYUh4Hjl0a"
+PHPASS_8 = "$P$63CSgRZlssLJbqxzpCXYPhDoROG16t0"
+PBKDF2_SHA1 = f"$pbkdf2-sha1$i=998${b64(b'saltsalt')}${b64(pbkdf2('sha1', b'secret', 998))}"
 
 # An option of `check` and `join`, the number of a text and the text: the number itself is allowed, one below is too-costly. The least
 # number that an option takes has no row.
 BOUNDS = [
     ("--max-sha-rounds", 1500, SHA256_1500), ("--max-sha-rounds", 5000, SHA512), ("--max-sha-rounds", 1001, SHA1_1001), ("--max-bcrypt-cost", 5, BCRYPT_5),
+    ("--max-bcrypt-cost", 8, PHPASS_8), ("--max-pbkdf2-rounds", 998, PBKDF2_SHA1),
     ("--max-yescrypt-ln", 10, YESCRYPT), ("--max-yescrypt-r", 8, YESCRYPT), ("--max-yescrypt-t", 1, YESCRYPT_T),
     ("--max-pbkdf2-rounds", 1000, PBKDF2_SHA256), ("--max-pbkdf2-rounds", 999, PBKDF2_SHA512),
     ("--max-scrypt-ln", 4, SCRYPT), ("--max-scrypt-r", 8, SCRYPT), ("--max-scrypt-p", 2, SCRYPT), ("--max-scrypt-ln", 6, SCRYPT_CRYPT),
@@ -197,8 +200,7 @@ UNSUPPORTED = [
     ("$3$$878d8014606cda29677a44efa1353fc7", "nt"), ("$md5,rounds=5000$salt$$lkvEZR4zhmpUWLWgqfd7a0", "sunmd5"),
     ("$gy$j75$0123456789ab$mC3YjagUyvzAJ5CA/Fp0nFqQHGoO82aZKIXoVvjQaT9", "gost-yescrypt"),
     ("$sm3$salt$x", "sm3crypt"), ("$sm3y$j9T$salt$x", "sm3-yescrypt"),
-    ("$P$6XoURWQxCkhkHhRVPCpro.6nTk2alE/", "phpass"), ("$H$6IWVjS43Lh/tjrTLy3sQt1i7cKhnE4/", "phpass"),
-    ("$pbkdf2$20$cq61lvJey1kLodTam7NWCg$x37x/kfK1wss1PY/3KUJIAzZXi8", "pbkdf2-sha1"), ("$scram$20$wphTqrV27j0n5Lz3$sha-1=x", "scram"),
+    ("$pbkdf2$20$cq61lvJey1kLodTam7NWCg$x37x/kfK1wss1PY/3KUJIAzZXi8", "passlib $pbkdf2$"), ("$scram$20$wphTqrV27j0n5Lz3$sha-1=x", "scram"),
     ("{SHA}5en6G6MezRroT3XKqkdPOmY/BfQ=", "ldap {SHA}"),
     ("{SSHA}DffeBf7vCTlc7hCF9FEi6uR9CVjxvpdS", "ldap {SSHA}"), ("{MD5}Xr4ilOzQ4PCOq3aQ0qbuaQ==", "ldap {MD5}"),
     ("{SMD5}3SU+TmEkJfPDUHOlzzm3DYjR+p8=", "ldap {SMD5}"), ("{SSHA256}Md4WXrn6ko/L5T3NTH75ms2oEuxmxihl1pT424srjlyyVsq5N6bUOg==", "ldap"),
@@ -257,7 +259,7 @@ class Tool:
 def scheme_of(text):
     """The scheme for which an option bounds a text."""
     name = text.split("$")[1]
-    return {"1": "md5", "apr1": "md5", "5": "sha", "6": "sha", "sha1": "sha", "7": "scrypt"}.get(name) or name[:6].rstrip("aby")
+    return {"1": "md5", "apr1": "md5", "5": "sha", "6": "sha", "sha1": "sha", "7": "scrypt", "P": "2", "H": "2"}.get(name) or name[:6].rstrip("aby")
 
 
 def checks(tool):

@@ -106,7 +106,7 @@ def forms(name, own):
     words = re.split(r"[-_ ]", name)
     camel = "".join(word.capitalize() for word in words)
     variant = variants().get(name)
-    fronts = [f"${identifier}$" for identifier in re.findall(r'codes "([a-z0-9-]+)"', row_of(variant) if variant else "") if identifier != name]
+    fronts = [f"${identifier}$" for identifier in re.findall(r'codes "([A-Za-z0-9-]+)"', row_of(variant) if variant else "") if identifier != name]
     return "|".join(map(re.escape, [name, *own, *([f"::{variant}", f"of.{variant}", f"{{{variant}", f" {variant} ", f"in-{variant}"] if variant else []), "-".join(words), "_".join(words), "_".join(words).upper(), camel, "".join(words), "$" + name + "$", *fronts]))
 
 

@@ -74,6 +74,11 @@ class Answer(enum.IntEnum):
     SCRAM_B64 = 47
     SCRAM_FORMAT = 48
     NOT_ASCII = 49
+    PHPASS_COST = 50
+    PHPASS_B64 = 51
+    PHPASS_FORMAT = 52
+    DIGEST_B64 = 53
+    DIGEST_FORMAT = 54
 
 
 class Alphabet(enum.IntEnum):

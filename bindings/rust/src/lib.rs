@@ -91,12 +91,17 @@ pub enum Answer {
     ScramB64,
     ScramFormat,
     NotAscii,
+    PhpassCost,
+    PhpassB64,
+    PhpassFormat,
+    DigestB64,
+    DigestFormat,
     /// The answer of a later library.
     Unknown(i32),
 }
 
 /// The answers by their numbers.
-pub const ANSWERS: [Answer; 50] = [
+pub const ANSWERS: [Answer; 55] = [
     Answer::Match,
     Answer::Mismatch,
     Answer::NotUtf8,
@@ -147,6 +152,11 @@ pub const ANSWERS: [Answer; 50] = [
     Answer::ScramB64,
     Answer::ScramFormat,
     Answer::NotAscii,
+    Answer::PhpassCost,
+    Answer::PhpassB64,
+    Answer::PhpassFormat,
+    Answer::DigestB64,
+    Answer::DigestFormat,
 ];
 
 impl Answer {

@@ -19,6 +19,10 @@ use Rattle.sha1_crypt.specs.Check.{sha1_answer}
 use Rattle.sha1_crypt.specs.declared.error.Sha1Fault.{Sha1Fault}
 use Rattle.scram_plain.specs.Check.{scram_answer}
 use Rattle.scram_plain.specs.declared.error.ScramFault.{ScramFault}
+use Rattle.phpass_plain.specs.Check.{phpass_answer}
+use Rattle.phpass_plain.specs.declared.error.PhpassFault.{PhpassFault}
+use Rattle.salted_digest.specs.Check.{salted_answer}
+use Rattle.salted_digest.specs.declared.error.SaltedFault.{SaltedFault}
 use Rattle.bcrypt_plain.specs.declared.error.BcryptError.{BcryptError}
 use Rattle.bcrypt_plain.specs.declared.error.BcryptError.TheVariants as of_bcrypt
 use Rattle.yescrypt_plain.specs.Check.{scrypt_answer, scrypt_matches, scrypt_verdict, yescrypt_answer, yescrypt_matches}
@@ -28,14 +32,14 @@ use Rattle.yescrypt_plain.specs.declared.error.CheckError.{CheckError}
 use Rattle.yescrypt_plain.specs.declared.error.CheckError.TheVariants as of_crypt
 use Rattle.yescrypt_plain.specs.declared.error.TextFault.{TextFault}
 use Rattle.any_check.specs.Cost.{is_costly, verdict_within}
-use Rattle.any_check.specs.Table.{any_verdict, md5_answer, md5_by, of_bcrypt_check, of_md5, of_scram, of_sha1, of_scrypt_check, of_stored, of_yescrypt_check, row, scheme_answer, text_scheme}
+use Rattle.any_check.specs.Table.{any_verdict, md5_answer, md5_by, of_bcrypt_check, of_md5, of_phpass, of_salted, of_scram, of_sha1, of_scrypt_check, of_stored, of_yescrypt_check, row, scheme_answer, text_scheme}
 use Rattle.any_check.specs.declared.numbers.SchemeCosts.{SchemeCosts}
 use Rattle.any_check.specs.declared.error.AnyError.{AnyError}
 use Rattle.any_check.specs.declared.error.AnyError.TheVariants.{NoScheme, Stored}
 use Rattle.scheme_list.specs.declared.schemes.Scheme.{Scheme}
 use Rattle.scheme_list.specs.declared.schemes.Scheme.TheVariants.{Argon2d, Argon2i, Argon2id, Bcrypt, BcryptDigest, Md5Crypt}
 use Rattle.scheme_list.specs.declared.schemes.Scheme.TheVariants.{Pbkdf2Sha256, Pbkdf2Sha512, Scrypt, ScryptCrypt, Sha256Crypt, Sha512Crypt}
-use Rattle.scheme_list.specs.declared.schemes.Scheme.TheVariants.{Scram, Sha1Crypt, Yescrypt}
+use Rattle.scheme_list.specs.declared.schemes.Scheme.TheVariants.{Pbkdf2Sha1, Phpass, SaltedDigest, Scram, Sha1Crypt, Yescrypt}
 
 abbrev Other : Result Bool AnyError → Type 0
 Other r = r ≢ Err (Stored OutOfMemory)
@@ -63,6 +67,14 @@ of_sha1_text (Err e) = λ h. cc
 of_scram_text : (r : Result Bool ScramFault) → Other (of_scram r)
 of_scram_text (Ok b) = λ h. cc
 of_scram_text (Err e) = λ h. cc
+
+of_phpass_text : (r : Result Bool PhpassFault) → Other (of_phpass r)
+of_phpass_text (Ok b) = λ h. cc
+of_phpass_text (Err e) = λ h. cc
+
+of_salted_text : (r : Result Bool SaltedFault) → Other (of_salted r)
+of_salted_text (Ok b) = λ h. cc
+of_salted_text (Err e) = λ h. cc
 
 of_check : (r : Result (Unit {0}) BcryptError) → Other (of_bcrypt_check r)
 of_check (Ok done) = λ h. cc
@@ -131,9 +143,12 @@ module _ (accepted : PasswordHash → List ℕ → ℕ → Bool) (tag : List ℕ
   by_row BcryptDigest = of_check (digest_answer password stored)
   by_row Sha1Crypt = of_sha1_text (sha1_answer password stored)
   by_row Scram = of_scram_text (scram_answer password stored)
+  by_row Phpass = of_phpass_text (phpass_answer password stored)
+  by_row SaltedDigest = of_salted_text (salted_answer password stored)
   by_row Scrypt = by_stored
   by_row Pbkdf2Sha256 = by_stored
   by_row Pbkdf2Sha512 = by_stored
+  by_row Pbkdf2Sha1 = by_stored
   by_row Argon2d = by_stored
   by_row Argon2i = by_stored
   by_row Argon2id = by_stored

@@ -7,7 +7,7 @@ use Rattle.scheme_list.proofs.Found.{found_holds}
 use Rattle.scheme_list.specs.Schemes.{has_identifier, row_of, same, scheme_named, schemes}
 use Rattle.scheme_list.specs.declared.schemes.Scheme.{Scheme}
 use Rattle.scheme_list.specs.declared.schemes.Scheme.TheVariants.{Argon2d, Argon2i, Argon2id, Pbkdf2Sha256}
-use Rattle.scheme_list.specs.declared.schemes.Scheme.TheVariants.{Pbkdf2Sha512, Scrypt, Sha256Crypt, Sha512Crypt}
+use Rattle.scheme_list.specs.declared.schemes.Scheme.TheVariants.{Pbkdf2Sha1, Pbkdf2Sha512, Scrypt, Sha256Crypt, Sha512Crypt}
 use Rattle.phc.specs.declared.password_hash.PasswordHash.{PasswordHash}
 use Rattle.sha_crypt.specs.Records.{family_id}
 use Rattle.sha_crypt.specs.declared.errors.Family.{Family}
@@ -85,6 +85,7 @@ module _ (accepted : PasswordHash → List ℕ → ℕ → Bool) (tag : List ℕ
   record_stored (Some Scrypt) h = refl
   record_stored (Some Pbkdf2Sha256) h = refl
   record_stored (Some Pbkdf2Sha512) h = refl
+  record_stored (Some Pbkdf2Sha1) h = refl
   record_stored (Some Argon2d) h = refl
   record_stored (Some Argon2i) h = refl
   record_stored (Some Argon2id) h = refl

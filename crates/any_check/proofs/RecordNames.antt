@@ -45,15 +45,17 @@ module _ (r : PasswordHash) (salt : List ℕ) (n : ℕ) where
       (λ none. no_params (variant_of r.algorithm) (number r (codes "m")) (number r (codes "t")) (number r (codes "p"))
       none (taken_first (are_taken (params_of r)) _ _ _ _ h))
 
-  by_tests : (scrypt sha256 sha512 : Bool) → same_text r.algorithm (codes "scrypt") ≡ scrypt
+  by_tests : (scrypt sha256 sha512 sha1 : Bool) → same_text r.algorithm (codes "scrypt") ≡ scrypt
       → same_text r.algorithm (codes "pbkdf2-sha256") ≡ sha256 → same_text r.algorithm (codes "pbkdf2-sha512") ≡ sha512
+      → same_text r.algorithm (codes "pbkdf2-sha1") ≡ sha1
       → accepted r salt n ≡ true → is_record (scheme_named r.algorithm) ≡ true
-  by_tests true sha256 sha512 is is' is'' h = by_name (codes "scrypt") refl is
-  by_tests false true sha512 is is' is'' h = by_name (codes "pbkdf2-sha256") refl is'
-  by_tests false false true is is' is'' h = by_name (codes "pbkdf2-sha512") refl is''
-  by_tests false false false is is' is'' h = argon2_named (rw (is, is', is'') at h)
+  by_tests true sha256 sha512 sha1 is is' is'' is''' h = by_name (codes "scrypt") refl is
+  by_tests false true sha512 sha1 is is' is'' is''' h = by_name (codes "pbkdf2-sha256") refl is'
+  by_tests false false true sha1 is is' is'' is''' h = by_name (codes "pbkdf2-sha512") refl is''
+  by_tests false false false true is is' is'' is''' h = by_name (codes "pbkdf2-sha1") refl is'''
+  by_tests false false false false is is' is'' is''' h = argon2_named (rw (is, is', is'', is''') at h)
 
 pub takes_records : TakesRecordsHere
 takes_records r salt n h =
     by_tests r salt n (same_text r.algorithm (codes "scrypt")) (same_text r.algorithm (codes "pbkdf2-sha256"))
-    (same_text r.algorithm (codes "pbkdf2-sha512")) refl refl refl h
+    (same_text r.algorithm (codes "pbkdf2-sha512")) (same_text r.algorithm (codes "pbkdf2-sha1")) refl refl refl refl h

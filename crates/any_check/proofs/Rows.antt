@@ -12,7 +12,7 @@ use Rattle.md5_plain.specs.Verdict.{magic_of}
 use Rattle.md5_plain.specs.declared.magic.Magic.{Magic}
 use Rattle.scheme_list.specs.declared.schemes.Scheme.{Scheme}
 use Rattle.scheme_list.specs.declared.schemes.Scheme.TheVariants.{Argon2d, Argon2i, Argon2id, Pbkdf2Sha256}
-use Rattle.scheme_list.specs.declared.schemes.Scheme.TheVariants.{Pbkdf2Sha512, Scrypt}
+use Rattle.scheme_list.specs.declared.schemes.Scheme.TheVariants.{Pbkdf2Sha1, Pbkdf2Sha512, Scrypt}
 use Rattle.sha_crypt.specs.Records.{family_scheme}
 use Rattle.sha_crypt.specs.declared.errors.Family.{Family}
 use Rattle.pieces.specs.Faults.{value_or_fault}
@@ -101,6 +101,7 @@ module _ (accepted : PasswordHash → List ℕ → ℕ → Bool) (tag : List ℕ
   record_lack Scrypt h = refl
   record_lack Pbkdf2Sha256 h = refl
   record_lack Pbkdf2Sha512 h = refl
+  record_lack Pbkdf2Sha1 h = refl
   record_lack Argon2d h = refl
   record_lack Argon2i h = refl
   record_lack Argon2id h = refl

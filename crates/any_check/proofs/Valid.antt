@@ -37,6 +37,15 @@ use Rattle.scram_plain.specs.Check.{scram_answer}
 use Rattle.scram_plain.specs.Text as scram_text
 use Rattle.scram_plain.specs.declared.error.ScramFault.{ScramFault}
 use Rattle.scram_plain.proofs.Answers as scram_laws
+use Rattle.phpass_plain.specs.Check.{phpass_answer}
+use Rattle.phpass_plain.specs.Text as phpass_text
+use Rattle.phpass_plain.specs.declared.error.PhpassFault.{PhpassFault}
+use Rattle.phpass_plain.proofs.Answers.{verdict_where_found}
+use Rattle.salted_digest.specs.Check.{salted_answer}
+use Rattle.salted_digest.specs.Text.{text_hash}
+use Rattle.salted_digest.specs.declared.hash.DigestHash.{DigestHash}
+use Rattle.salted_digest.specs.declared.error.SaltedFault.{SaltedFault}
+use Rattle.salted_digest.proofs.Answers.{verdict_where_hash}
 use Rattle.bcrypt_plain.specs.declared.error.BcryptError.{BcryptError}
 use Rattle.bcrypt_plain.specs.declared.error.BcryptError.TheVariants.{HashMismatch, InvalidFormat, ZeroByte}
 use Rattle.bcrypt_plain.specs.declared.error.BcryptFault.{BcryptFault}
@@ -48,11 +57,11 @@ use Rattle.yescrypt_plain.specs.declared.error.CheckError.TheVariants as of_cryp
 use Rattle.yescrypt_plain.specs.declared.error.TextFault.{TextFault}
 use Rattle.any_check.specs.Cost.{is_costly, kind_costs}
 use Rattle.any_check.specs.Kinds.{asks, bcrypt_kind, is_valid, kind_by, md5_by_magic, md5_kind, phc_kind, record_costs, salted_kind}
-use Rattle.any_check.specs.Kinds.{scram_kind, scrypt_kind, sha1_kind, sha_kind, text_kind, yescrypt_kind}
+use Rattle.any_check.specs.Kinds.{digest_text_kind, phpass_kind, scram_kind, scrypt_kind, sha1_kind, sha_kind, text_kind, yescrypt_kind}
 use Rattle.any_check.specs.Numbers.{no_costs}
 use Rattle.any_check.specs.Laws.{CostlyIsValid, ValidIsVerdict, ValidIsVerdictOnSome, hashes}
 use Rattle.any_check.specs.Table.{any_verdict, identifier, is_record, md5_answer, md5_by, of_bcrypt_check, of_md5, of_scram, of_sha1, of_scrypt_check}
-use Rattle.any_check.specs.Table.{of_stored, of_yescrypt_check, scheme_answer, sha_scheme, text_scheme}
+use Rattle.any_check.specs.Table.{of_phpass, of_salted, of_stored, of_yescrypt_check, scheme_answer, sha_scheme, text_scheme}
 use Rattle.any_check.specs.declared.error.AnyError.{AnyError}
 use Rattle.any_check.specs.declared.kinds.TextKind.{TextKind}
 use Rattle.any_check.specs.declared.kinds.TextKind.TheVariants.{Invalid, NoScheme, Valid}
@@ -61,7 +70,7 @@ use Rattle.scheme_list.specs.Schemes.{row_of, scheme_named}
 use Rattle.scheme_list.specs.declared.schemes.Scheme.{Scheme as StoredScheme}
 use Rattle.scheme_list.specs.declared.schemes.Scheme.TheVariants.{Argon2d, Argon2i, Argon2id, Bcrypt, BcryptDigest, Md5Crypt}
 use Rattle.scheme_list.specs.declared.schemes.Scheme.TheVariants.{Pbkdf2Sha256, Pbkdf2Sha512, Scrypt, ScryptCrypt, Sha256Crypt, Sha512Crypt}
-use Rattle.scheme_list.specs.declared.schemes.Scheme.TheVariants.{Scram, Sha1Crypt, Yescrypt}
+use Rattle.scheme_list.specs.declared.schemes.Scheme.TheVariants.{Pbkdf2Sha1, Phpass, SaltedDigest, Scram, Sha1Crypt, Yescrypt}
 use Rattle.sha_crypt.specs.declared.errors.Family.TheVariants.{Sha256, Sha512}
 use Rattle.any_check.proofs.Bound.{mcf_of_fault, mcf_of_valid}
 use Rattle.any_check.proofs.Families.{family_if_sha, no_family, sha_same}
@@ -175,6 +184,37 @@ scram_agree : (password stored : List ℕ) → list_all is_ascii password ≡ tr
 scram_agree password stored ascii =
     scram_compared (scram_answer password stored) ∙ scram_laws.verdict_on_ascii password stored ascii
     ∙ scram_costed (scram_text.text_cost stored)
+
+-- ---- phpass
+
+phpass_compared : (r : Result Bool PhpassFault) → is_ok (of_phpass r) ≡ is_ok r
+phpass_compared (Err e) = refl
+phpass_compared (Ok b) = refl
+
+phpass_costed : (r : Result ℕ PhpassFault) → is_ok r ≡ is_valid (phpass_kind r)
+phpass_costed (Err e) = refl
+phpass_costed (Ok cost) = refl
+
+phpass_agree : (password stored : List ℕ)
+    → Agree (of_phpass (phpass_answer password stored)) (phpass_kind (phpass_text.text_cost stored))
+phpass_agree password stored =
+    phpass_compared (phpass_answer password stored) ∙ verdict_where_found password stored
+    ∙ phpass_costed (phpass_text.text_cost stored)
+
+-- ---- salted digests
+
+salted_compared : (r : Result Bool SaltedFault) → is_ok (of_salted r) ≡ is_ok r
+salted_compared (Err e) = refl
+salted_compared (Ok b) = refl
+
+salted_costed : (r : Result DigestHash SaltedFault) → is_ok r ≡ is_valid (digest_text_kind r)
+salted_costed (Err e) = refl
+salted_costed (Ok hash) = refl
+
+salted_agree : (password stored : List ℕ)
+    → Agree (of_salted (salted_answer password stored)) (digest_text_kind (text_hash stored))
+salted_agree password stored =
+    salted_compared (salted_answer password stored) ∙ verdict_where_hash password stored ∙ salted_costed (text_hash stored)
 
 -- ---- yescrypt and scrypt in crypt's own form
 
@@ -308,9 +348,12 @@ module _ (accepted : PasswordHash → List ℕ → ℕ → Bool) (tag : List ℕ
     by_row (Some BcryptDigest) is = both (Some BcryptDigest) _ _ (digest_agree password stored)
     by_row (Some Sha1Crypt) is = both (Some Sha1Crypt) _ _ (sha1_agree password stored)
     by_row (Some Scram) is = (scram_valid password stored, λ hashed. scram_agree password stored hashed)
+    by_row (Some Phpass) is = both (Some Phpass) _ _ (phpass_agree password stored)
+    by_row (Some SaltedDigest) is = both (Some SaltedDigest) _ _ (salted_agree password stored)
     by_row (Some Scrypt) is = both (Some Scrypt) _ _ (record_row Scrypt refl is)
     by_row (Some Pbkdf2Sha256) is = both (Some Pbkdf2Sha256) _ _ (record_row Pbkdf2Sha256 refl is)
     by_row (Some Pbkdf2Sha512) is = both (Some Pbkdf2Sha512) _ _ (record_row Pbkdf2Sha512 refl is)
+    by_row (Some Pbkdf2Sha1) is = both (Some Pbkdf2Sha1) _ _ (record_row Pbkdf2Sha1 refl is)
     by_row (Some Argon2d) is = both (Some Argon2d) _ _ (record_row Argon2d refl is)
     by_row (Some Argon2i) is = both (Some Argon2i) _ _ (record_row Argon2i refl is)
     by_row (Some Argon2id) is = both (Some Argon2id) _ _ (record_row Argon2id refl is)

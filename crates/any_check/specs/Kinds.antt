@@ -13,7 +13,7 @@ use Rattle.scheme_list.specs.declared.schemes.CostFamily.TheVariants as of
 use Rattle.scheme_list.specs.declared.schemes.Scheme.{Scheme}
 use Rattle.scheme_list.specs.declared.schemes.Scheme.TheVariants.{Argon2d, Argon2i, Argon2id, Bcrypt, BcryptDigest, Md5Crypt}
 use Rattle.scheme_list.specs.declared.schemes.Scheme.TheVariants.{Pbkdf2Sha256, Pbkdf2Sha512, Scrypt, ScryptCrypt, Sha256Crypt, Sha512Crypt}
-use Rattle.scheme_list.specs.declared.schemes.Scheme.TheVariants.{Scram, Sha1Crypt, Yescrypt}
+use Rattle.scheme_list.specs.declared.schemes.Scheme.TheVariants.{Pbkdf2Sha1, Phpass, SaltedDigest, Scram, Sha1Crypt, Yescrypt}
 use Rattle.phc_kdf.specs.Numbers.{number}
 use Rattle.sha_crypt.specs.Fields.{ShaFields}
 use Rattle.sha_crypt.specs.Records.{record_of}
@@ -27,6 +27,11 @@ use Rattle.sha1_crypt.specs.Text as of_sha1
 use Rattle.sha1_crypt.specs.declared.error.Sha1Fault.{Sha1Fault}
 use Rattle.scram_plain.specs.Text as of_scram
 use Rattle.scram_plain.specs.declared.error.ScramFault.{ScramFault}
+use Rattle.phpass_plain.specs.Text as of_phpass
+use Rattle.phpass_plain.specs.declared.error.PhpassFault.{PhpassFault}
+use Rattle.salted_digest.specs.Text.{text_hash}
+use Rattle.salted_digest.specs.declared.hash.DigestHash.{DigestHash}
+use Rattle.salted_digest.specs.declared.error.SaltedFault.{SaltedFault}
 use Rattle.yescrypt_plain.specs.Text.{scrypt_costs, yescrypt_costs}
 use Rattle.yescrypt_plain.specs.declared.error.TextFault.{TextFault}
 use Rattle.yescrypt_plain.specs.declared.params.ScryptParams.{ScryptParams}
@@ -87,6 +92,16 @@ abbrev pub scram_kind : Result ℕ ScramFault → TextKind
 scram_kind (Err e) = Invalid
 scram_kind (Ok rounds) = asks Scram (of_rounds rounds)
 
+-- phpass: the cost
+abbrev pub phpass_kind : Result ℕ PhpassFault → TextKind
+phpass_kind (Err e) = Invalid
+phpass_kind (Ok cost) = asks Phpass (of_cost cost)
+
+-- a salted digest: no number
+abbrev pub digest_text_kind : Result DigestHash SaltedFault → TextKind
+digest_text_kind (Err e) = Invalid
+digest_text_kind (Ok hash) = asks SaltedDigest no_costs
+
 -- yescrypt: the binary logarithm of N, r and t
 abbrev pub yescrypt_kind : Result YescryptParams TextFault → TextKind
 yescrypt_kind (Err e) = Invalid
@@ -142,9 +157,12 @@ module _ (accepted : PasswordHash → List ℕ → ℕ → Bool) where
   row_kind BcryptDigest stored = bcrypt_kind BcryptDigest (digest_cost stored)
   row_kind Sha1Crypt stored = sha1_kind (of_sha1.text_cost stored)
   row_kind Scram stored = scram_kind (of_scram.text_cost stored)
+  row_kind Phpass stored = phpass_kind (of_phpass.text_cost stored)
+  row_kind SaltedDigest stored = digest_text_kind (text_hash stored)
   row_kind Scrypt stored = record_kind Scrypt stored
   row_kind Pbkdf2Sha256 stored = record_kind Pbkdf2Sha256 stored
   row_kind Pbkdf2Sha512 stored = record_kind Pbkdf2Sha512 stored
+  row_kind Pbkdf2Sha1 stored = record_kind Pbkdf2Sha1 stored
   row_kind Argon2d stored = record_kind Argon2d stored
   row_kind Argon2i stored = record_kind Argon2i stored
   row_kind Argon2id stored = record_kind Argon2id stored

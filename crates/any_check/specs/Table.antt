@@ -8,7 +8,7 @@ use Rattle.scheme_list.specs.Schemes.{row_of, scheme_named}
 use Rattle.scheme_list.specs.declared.schemes.Scheme.{Scheme}
 use Rattle.scheme_list.specs.declared.schemes.Scheme.TheVariants.{Argon2d, Argon2i, Argon2id, Bcrypt, BcryptDigest, Md5Crypt}
 use Rattle.scheme_list.specs.declared.schemes.Scheme.TheVariants.{Pbkdf2Sha256, Pbkdf2Sha512, Scrypt, ScryptCrypt, Sha256Crypt, Sha512Crypt}
-use Rattle.scheme_list.specs.declared.schemes.Scheme.TheVariants.{Scram, Sha1Crypt, Yescrypt}
+use Rattle.scheme_list.specs.declared.schemes.Scheme.TheVariants.{Pbkdf2Sha1, Phpass, SaltedDigest, Scram, Sha1Crypt, Yescrypt}
 use Rattle.sha_crypt.specs.declared.errors.Family.{Family}
 use Rattle.sha_crypt.specs.declared.errors.Family.TheVariants.{Sha256, Sha512}
 use Rattle.phc_kdf.specs.Limits.{password_max}
@@ -31,6 +31,12 @@ use Rattle.sha1_crypt.specs.declared.error.Sha1Fault.TheVariants as of_sha1_faul
 use Rattle.scram_plain.specs.Check.{scram_answer}
 use Rattle.scram_plain.specs.declared.error.ScramFault.{ScramFault}
 use Rattle.scram_plain.specs.declared.error.ScramFault.TheVariants as of_scram_fault
+use Rattle.phpass_plain.specs.Check.{phpass_answer}
+use Rattle.phpass_plain.specs.declared.error.PhpassFault.{PhpassFault}
+use Rattle.phpass_plain.specs.declared.error.PhpassFault.TheVariants as of_phpass_fault
+use Rattle.salted_digest.specs.Check.{salted_answer}
+use Rattle.salted_digest.specs.declared.error.SaltedFault.{SaltedFault}
+use Rattle.salted_digest.specs.declared.error.SaltedFault.TheVariants as of_salted_fault
 use Rattle.yescrypt_plain.specs.Check.{is_verdict, scrypt_answer, yescrypt_answer}
 use Rattle.yescrypt_plain.specs.declared.error.CheckError.{CheckError}
 use Rattle.yescrypt_plain.specs.declared.error.CheckError.TheVariants as of_crypt
@@ -80,6 +86,16 @@ of_sha1 (Err e) = Err (cause.Sha1 e)
 abbrev pub of_scram : Result Bool ScramFault → Result Bool AnyError
 of_scram (Ok b) = Ok b
 of_scram (Err e) = Err (cause.Scram e)
+
+-- of `phpass_check`
+abbrev pub of_phpass : Result Bool PhpassFault → Result Bool AnyError
+of_phpass (Ok b) = Ok b
+of_phpass (Err e) = Err (cause.Phpass e)
+
+-- of `salted_check`
+abbrev pub of_salted : Result Bool SaltedFault → Result Bool AnyError
+of_salted (Ok b) = Ok b
+of_salted (Err e) = Err (cause.Salted e)
 
 -- of `bcrypt_check` and `digest_check`, for which another password is a fault
 abbrev pub of_bcrypt_check : Result (Unit {0}) BcryptError → Result Bool AnyError
@@ -135,9 +151,12 @@ module _ (accepted : PasswordHash → List ℕ → ℕ → Bool) (tag : List ℕ
   row BcryptDigest password stored = of_bcrypt_check (digest_answer password stored)
   row Sha1Crypt password stored = of_sha1 (sha1_answer password stored)
   row Scram password stored = of_scram (scram_answer password stored)
+  row Phpass password stored = of_phpass (phpass_answer password stored)
+  row SaltedDigest password stored = of_salted (salted_answer password stored)
   row Scrypt password stored = stored_row password stored
   row Pbkdf2Sha256 password stored = stored_row password stored
   row Pbkdf2Sha512 password stored = stored_row password stored
+  row Pbkdf2Sha1 password stored = stored_row password stored
   row Argon2d password stored = stored_row password stored
   row Argon2i password stored = stored_row password stored
   row Argon2id password stored = stored_row password stored
@@ -170,9 +189,12 @@ module _ (accepted : PasswordHash → List ℕ → ℕ → Bool) (needs_memory :
   row_may_lack (Some BcryptDigest) password stored = false
   row_may_lack (Some Sha1Crypt) password stored = false
   row_may_lack (Some Scram) password stored = false
+  row_may_lack (Some Phpass) password stored = false
+  row_may_lack (Some SaltedDigest) password stored = false
   row_may_lack (Some Scrypt) password stored = may_lack_memory accepted needs_memory tag password stored
   row_may_lack (Some Pbkdf2Sha256) password stored = may_lack_memory accepted needs_memory tag password stored
   row_may_lack (Some Pbkdf2Sha512) password stored = may_lack_memory accepted needs_memory tag password stored
+  row_may_lack (Some Pbkdf2Sha1) password stored = may_lack_memory accepted needs_memory tag password stored
   row_may_lack (Some Argon2d) password stored = may_lack_memory accepted needs_memory tag password stored
   row_may_lack (Some Argon2i) password stored = may_lack_memory accepted needs_memory tag password stored
   row_may_lack (Some Argon2id) password stored = may_lack_memory accepted needs_memory tag password stored
@@ -230,6 +252,19 @@ scram_word of_scram_fault.ServerKeyEncoding = codes "scram-b64"
 scram_word of_scram_fault.NotAscii = codes "not-ascii"
 scram_word fault = codes "scram-format"
 
+-- the word of a fault of a text of phpass; the last line is for the faults of its form
+abbrev pub phpass_word : PhpassFault → List ℕ
+phpass_word of_phpass_fault.Cost = codes "phpass-cost"
+phpass_word of_phpass_fault.HashCharacter = codes "phpass-b64"
+phpass_word of_phpass_fault.SpareBits = codes "phpass-b64"
+phpass_word fault = codes "phpass-format"
+
+-- the word of a fault of a text of a salted digest; the last line is for the faults of its form
+abbrev pub salted_word : SaltedFault → List ℕ
+salted_word of_salted_fault.SaltEncoding = codes "digest-b64"
+salted_word of_salted_fault.HashEncoding = codes "digest-b64"
+salted_word fault = codes "digest-format"
+
 -- those of `check_stored`, and a few for each further scheme; nothing is out of memory there
 abbrev pub any_word : Result Bool AnyError → List ℕ
 any_word (Ok b) = word (Ok b)
@@ -241,5 +276,7 @@ any_word (Err (cause.Yescrypt fault)) = yescrypt_word fault
 any_word (Err (cause.Scrypt fault)) = scrypt_word fault
 any_word (Err (cause.Sha1 fault)) = sha1_word fault
 any_word (Err (cause.Scram fault)) = scram_word fault
+any_word (Err (cause.Phpass fault)) = phpass_word fault
+any_word (Err (cause.Salted fault)) = salted_word fault
 any_word (Err cause.ZeroByte) = codes "zero-byte"
 any_word (Err cause.TooCostly) = codes "too-costly"

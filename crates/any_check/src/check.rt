@@ -3,7 +3,7 @@
 ghost use Rattle.std.specs.Prelude.{◌≡◌, ◌≤◌, Some, length};
 ghost use Rattle.mcf.specs.Grammar.{mcf};
 ghost use Rattle.phc_kdf.specs.Limits.{password_max};
-ghost use Rattle.any_check.specs.Table.{IsAnyVerdict, any_may_lack, any_verdict, md5_answer, of_bcrypt_check, of_md5, of_scram, of_scrypt_check, of_sha1, of_stored, of_yescrypt_check, row, row_may_lack, text_scheme};
+ghost use Rattle.any_check.specs.Table.{IsAnyVerdict, any_may_lack, any_verdict, md5_answer, of_bcrypt_check, of_md5, of_phpass, of_salted, of_scram, of_scrypt_check, of_sha1, of_stored, of_yescrypt_check, row, row_may_lack, text_scheme};
 ghost use Rattle.any_check.specs.Cost.{verdict_within, within_may_lack};
 
 use crate::cost::is_costly;
@@ -13,6 +13,8 @@ use bcrypt_digest::digest_check;
 use bcrypt_plain::{BcryptError, bcrypt_check};
 use mcf::PasswordHashRef;
 use md5_plain::{Md5Fault, magic_of, md5_verdict};
+use phpass_plain::{PhpassFault, phpass_check};
+use salted_digest::{SaltedFault, salted_check};
 use scram_plain::{ScramFault, scram_check};
 use sha1_crypt::{Sha1Fault, sha1_check};
 use std::alloc::Global;
@@ -60,6 +62,26 @@ fn of_scram(answer: Result<bool, ScramFault>) -> Result<bool, AnyError>
     match answer {
         Ok(matches) => Ok(matches),
         Err(e) => Err(AnyError::Scram(e)),
+    }
+}
+
+// An answer of `phpass_check`.
+fn of_phpass(answer: Result<bool, PhpassFault>) -> Result<bool, AnyError>
+    ensures { result ≡ of_phpass answer }
+{
+    match answer {
+        Ok(matches) => Ok(matches),
+        Err(e) => Err(AnyError::Phpass(e)),
+    }
+}
+
+// An answer of `salted_check`.
+fn of_salted(answer: Result<bool, SaltedFault>) -> Result<bool, AnyError>
+    ensures { result ≡ of_salted answer }
+{
+    match answer {
+        Ok(matches) => Ok(matches),
+        Err(e) => Err(AnyError::Salted(e)),
     }
 }
 
@@ -141,12 +163,15 @@ fn checked<K: PhcKdf>(
         Scheme::BcryptDigest => of_bcrypt_check(digest_check(password, stored)),
         Scheme::Sha1Crypt => of_sha1(sha1_check(password.as_bytes(), stored)),
         Scheme::Scram => of_scram(scram_check(password.as_bytes(), stored)),
+        Scheme::Phpass => of_phpass(phpass_check(password.as_bytes(), stored)),
+        Scheme::SaltedDigest => of_salted(salted_check(password.as_bytes(), stored)),
         Scheme::Sha256Crypt | Scheme::Sha512Crypt => of_stored(check_stored(
             alloc, kdf, password, stored,
         )),
         Scheme::Scrypt
         | Scheme::Pbkdf2Sha256
         | Scheme::Pbkdf2Sha512
+        | Scheme::Pbkdf2Sha1
         | Scheme::Argon2d
         | Scheme::Argon2i
         | Scheme::Argon2id => of_stored(check_stored(alloc, kdf, password, stored)),
@@ -156,7 +181,7 @@ fn checked<K: PhcKdf>(
 /// Checks a password against a stored text of any scheme, and answers whether it matches.
 ///
 /// What stands between the first two `$` of the text names the scheme ([`Scheme`]), and the answer is
-/// that of the scheme's own check: `md5_verdict` for md5-crypt, `bcrypt_check` for bcrypt, `digest_check` for bcrypt of a digest, `sha1_check` for sha1-crypt, `scram_check` for SCRAM, `yescrypt_check` and
+/// that of the scheme's own check: `md5_verdict` for md5-crypt, `bcrypt_check` for bcrypt, `digest_check` for bcrypt of a digest, `sha1_check` for sha1-crypt, `scram_check` for SCRAM, `phpass_check` for phpass, `salted_check` for salted digests, `yescrypt_check` and
 /// `scrypt_check` for `y` and `7`, in the tables that `kept` keeps, `check_stored` for SHA-crypt and for records, whose keys
 /// `kdf` derives. Only a record's key and these tables take memory.
 ///

@@ -2,10 +2,12 @@
 
 ghost use Rattle.std.specs.Prelude.{◌≡◌, ◌≢◌, ◌≤◌, Err, length};
 ghost use Rattle.stored_check.specs.declared.error.StoredError.TheVariants.{OutOfMemory};
-ghost use Rattle.any_check.specs.Table.{any_word, bcrypt_word, scram_word, scrypt_word, sha1_word, yescrypt_word};
+ghost use Rattle.any_check.specs.Table.{any_word, bcrypt_word, phpass_word, salted_word, scram_word, scrypt_word, sha1_word, yescrypt_word};
 
 use bcrypt_plain::BcryptFault;
 use md5_plain::Md5Fault;
+use phpass_plain::PhpassFault;
+use salted_digest::SaltedFault;
 use scram_plain::ScramFault;
 use sha1_crypt::Sha1Fault;
 use stored_check::StoredError;
@@ -32,6 +34,10 @@ pub enum AnyError {
     /// The text is no text of SCRAM that is taken, though it has an identifier of it; or the password isn't ASCII, and the text is of
     /// prepared passwords.
     Scram(ScramFault),
+    /// The text is no text of phpass that is taken, though its identifier is `P` or `H`.
+    Phpass(PhpassFault),
+    /// The text is no text of a salted digest that is taken, though its identifier is `smd5`, `ssha`, `ssha256` or `ssha512`.
+    Salted(SaltedFault),
     /// The text is valid, and the password has a zero byte, which its scheme doesn't tell from the end.
     ZeroByte,
     /// The text is valid, and its cost is above the bound.
@@ -104,10 +110,34 @@ fn sha1_word(fault: Sha1Fault) -> &'static str
     }
 }
 
+// The word of a fault of a text of phpass.
+fn phpass_word(fault: PhpassFault) -> &'static str
+    ensures word { result.now ≡ phpass_word fault }
+    ensures short { length result.now ≤ 17 }
+{
+    match fault {
+        PhpassFault::Cost => "phpass-cost",
+        PhpassFault::HashCharacter | PhpassFault::SpareBits => "phpass-b64",
+        _ => "phpass-format",
+    }
+}
+
+// The word of a fault of a text of a salted digest.
+fn salted_word(fault: SaltedFault) -> &'static str
+    ensures word { result.now ≡ salted_word fault }
+    ensures short { length result.now ≤ 17 }
+{
+    match fault {
+        SaltedFault::SaltEncoding | SaltedFault::HashEncoding => "digest-b64",
+        _ => "digest-format",
+    }
+}
+
 /// The word of an answer of [`check_any`](crate::check_any): `pwcheck`'s words; `no-scheme`; `md5-format` for each fault of a
 /// text of md5-crypt; `bcrypt-obsolete`, `bcrypt-cost`, `bcrypt-b64` and, for each other fault of a text of bcrypt, be a digest in front or not,
 /// `bcrypt-format`; `yescrypt-flavor`, `yescrypt-cost` and `yescrypt-format`; `scrypt-cost` and `scrypt-format` for faults
-/// of a text `$7$`; `sha1-cost`, `sha1-b64` and `sha1-format`; `scram-cost`, `scram-b64`, `scram-format` and `not-ascii`; `zero-byte`; and `too-costly`. Want of memory has none.
+/// of a text `$7$`; `sha1-cost`, `sha1-b64` and `sha1-format`; `scram-cost`, `scram-b64`, `scram-format` and `not-ascii`;
+/// `phpass-cost`, `phpass-b64` and `phpass-format`; `digest-b64` and `digest-format`; `zero-byte`; and `too-costly`. Want of memory has none.
 pub fn any_word(answer: &Result<bool, AnyError>) -> &'static str
     requires known { answer.now ≢ Err (AnyError.Stored OutOfMemory) }
     ensures word { result.now ≡ any_word answer.now }
@@ -123,6 +153,8 @@ pub fn any_word(answer: &Result<bool, AnyError>) -> &'static str
         Err(AnyError::Scrypt(fault)) => scrypt_word(fault),
         Err(AnyError::Sha1(fault)) => sha1_word(fault),
         Err(AnyError::Scram(fault)) => scram_word(fault),
+        Err(AnyError::Phpass(fault)) => phpass_word(fault),
+        Err(AnyError::Salted(fault)) => salted_word(fault),
         Err(AnyError::ZeroByte) => "zero-byte",
         Err(AnyError::TooCostly) => "too-costly",
     }

@@ -10,7 +10,7 @@ ghost use Rattle.sha_crypt.specs.Records.{record_of};
 ghost use Rattle.yescrypt_plain.specs.Text.{scrypt_costs, yescrypt_costs};
 ghost use Rattle.phc.specs.declared.password_hash.PasswordHash.{PasswordHash};
 ghost use Rattle.any_check.specs.Numbers.{no_costs};
-ghost use Rattle.any_check.specs.Kinds.{asks, bcrypt_kind, md5_fields_kind, md5_kind, phc_kind, record_costs, record_kind, row_kind, salted_kind, scram_kind, scrypt_kind, sha_kind, sha1_kind, sha_text_kind, text_kind, yescrypt_kind};
+ghost use Rattle.any_check.specs.Kinds.{asks, bcrypt_kind, md5_fields_kind, md5_kind, phc_kind, phpass_kind, record_costs, record_kind, row_kind, salted_kind, scram_kind, scrypt_kind, sha_kind, sha1_kind, sha_text_kind, digest_text_kind, text_kind, yescrypt_kind};
 
 use crate::md5_text::is_plain;
 use crate::{Costs, NO_COSTS, TextCosts, scheme_of_text, sha_scheme};
@@ -19,6 +19,8 @@ use bcrypt_plain::{BcryptFault, text_cost};
 use mcf::{Fields, PasswordHashRef};
 use md5_plain::{are_md5_fields, magic_of};
 use phc::PasswordHash;
+use phpass_plain::PhpassFault;
+use salted_digest::{DigestHash, SaltedFault, text_hash};
 use scheme_list::{CostFamily, Scheme};
 use scram_plain::ScramFault;
 use sha_crypt::{Family, ShaRecord};
@@ -76,7 +78,7 @@ fn record_costs(family: CostFamily, parsed: &PasswordHash) -> Costs
                 number(parsed, "p"),
             )
         }
-        CostFamily::Md5Crypt | CostFamily::ShaCrypt | CostFamily::Bcrypt | CostFamily::Yescrypt =>
+        CostFamily::NoNumber | CostFamily::ShaCrypt | CostFamily::Bcrypt | CostFamily::Yescrypt =>
             NO_COSTS,
     }
 }
@@ -198,6 +200,26 @@ fn scram_kind(rounds: Result<u32, ScramFault>) -> TextKind
     }
 }
 
+// A text of phpass, by its cost.
+fn phpass_kind(cost: Result<u32, PhpassFault>) -> TextKind
+    ensures { result ≡ phpass_kind cost }
+{
+    match cost {
+        Ok(cost) => asks(Scheme::Phpass, Costs::of_cost(cost as u64)),
+        Err(_) => TextKind::Invalid,
+    }
+}
+
+// A text of a salted digest, by its hash function.
+fn digest_text_kind(hash: Result<DigestHash, SaltedFault>) -> TextKind
+    ensures { result ≡ digest_text_kind hash }
+{
+    match hash {
+        Ok(_) => asks(Scheme::SaltedDigest, NO_COSTS),
+        Err(_) => TextKind::Invalid,
+    }
+}
+
 fn yescrypt_kind(stored: &str) -> TextKind
     ensures { result ≡ yescrypt_kind (yescrypt_costs stored.now) }
 {
@@ -236,9 +258,12 @@ fn row_kind<K: PhcKdf>(kdf: &K, scheme: Scheme, stored: &str) -> TextKind
         Scheme::BcryptDigest => bcrypt_kind(Scheme::BcryptDigest, digest_cost(stored)),
         Scheme::Sha1Crypt => sha1_kind(sha1_crypt::text_cost(stored)),
         Scheme::Scram => scram_kind(scram_plain::text_cost(stored)),
+        Scheme::Phpass => phpass_kind(phpass_plain::text_cost(stored)),
+        Scheme::SaltedDigest => digest_text_kind(text_hash(stored)),
         Scheme::Scrypt
         | Scheme::Pbkdf2Sha256
         | Scheme::Pbkdf2Sha512
+        | Scheme::Pbkdf2Sha1
         | Scheme::Argon2d
         | Scheme::Argon2i
         | Scheme::Argon2id => record_kind(kdf, scheme, stored),

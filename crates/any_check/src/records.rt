@@ -7,7 +7,7 @@ use scrypt_plain::ScryptPlain;
 use std::alloc::{AllocError, Global};
 use stored_check::PhcKdf;
 
-/// scrypt, PBKDF2 with either hash function and Argon2, each for the records with its identifiers: what
+/// scrypt, PBKDF2 with one of three hash functions and Argon2, each for the records with its identifiers: what
 /// [`RecordKdf`](crate::RecordKdf) does, but each key takes a table of its own.
 #[derive(Clone, Copy, Debug, PartialEq, Eq)]
 pub struct PlainRecords;
@@ -18,6 +18,10 @@ const SHA256: Pbkdf2Plain = Pbkdf2Plain {
 
 const SHA512: Pbkdf2Plain = Pbkdf2Plain {
     hash: Pbkdf2Hash::Sha512,
+};
+
+const SHA1: Pbkdf2Plain = Pbkdf2Plain {
+    hash: Pbkdf2Hash::Sha1,
 };
 
 impl PhcKdf for PlainRecords {
@@ -39,6 +43,8 @@ impl PhcKdf for PlainRecords {
             SHA256.accepts(parsed, salt, length)
         } else if id == "pbkdf2-sha512" {
             SHA512.accepts(parsed, salt, length)
+        } else if id == "pbkdf2-sha1" {
+            SHA1.accepts(parsed, salt, length)
         } else {
             Argon2Plain.accepts(parsed, salt, length)
         }
@@ -59,6 +65,8 @@ impl PhcKdf for PlainRecords {
             SHA256.derive(alloc, password, parsed, salt, out)
         } else if id == "pbkdf2-sha512" {
             SHA512.derive(alloc, password, parsed, salt, out)
+        } else if id == "pbkdf2-sha1" {
+            SHA1.derive(alloc, password, parsed, salt, out)
         } else {
             Argon2Plain.derive(alloc, password, parsed, salt, out)
         }

@@ -2,7 +2,7 @@
 
 ghost use Rattle.std.specs.Prelude.{◌≡◌, ◌≢◌, Err, MatchOption, codes, true};
 ghost use Rattle.stored_check.specs.declared.error.StoredError.TheVariants.{OutOfMemory};
-ghost use Rattle.pbkdf2_key.specs.declared.profile.Pbkdf2Hash.TheVariants.{Sha256, Sha512};
+ghost use Rattle.pbkdf2_key.specs.declared.profile.Pbkdf2Hash.TheVariants.{Sha1, Sha256, Sha512};
 ghost use Rattle.any_check.specs.Given.{given_may_lack, given_verdict};
 ghost use Rattle.any_check.specs.Table.{IsAnyVerdict};
 
@@ -16,11 +16,11 @@ use std::alloc::Global;
 use stored_check::StoredError;
 use yescrypt_plain::CryptKept;
 
-/// scrypt for the identifier `scrypt`, PBKDF2 with SHA-256 for `pbkdf2-sha256` and with SHA-512 for `pbkdf2-sha512`, and
-/// Argon2 for all others.
+/// scrypt for the identifier `scrypt`, PBKDF2 with SHA-256 for `pbkdf2-sha256`, with SHA-512 for `pbkdf2-sha512` and with SHA-1 for
+/// `pbkdf2-sha1`, and Argon2 for all others.
 pub type RecordKdf = EitherKdf<
     ScryptKept,
-    EitherKdf<Pbkdf2Plain, EitherKdf<Pbkdf2Plain, Argon2Kept>>,
+    EitherKdf<Pbkdf2Plain, EitherKdf<Pbkdf2Plain, EitherKdf<Pbkdf2Plain, Argon2Kept>>>,
 >;
 
 /// The derivation of keys for all records that have a verdict. The largest table of scrypt and that of Argon2 so far are
@@ -29,8 +29,10 @@ pub fn record_kdf(alloc: Global) -> RecordKdf
     ensures first { result.first ≡ codes "scrypt" }
     ensures second { result.b.first ≡ codes "pbkdf2-sha256" }
     ensures third { result.b.b.first ≡ codes "pbkdf2-sha512" }
+    ensures fourth { result.b.b.b.first ≡ codes "pbkdf2-sha1" }
     ensures sha256 { result.b.a.hash ≡ Sha256 }
     ensures sha512 { result.b.b.a.hash ≡ Sha512 }
+    ensures sha1 { result.b.b.b.a.hash ≡ Sha1 }
 {
     let sha256 = Pbkdf2Plain {
         hash: Pbkdf2Hash::Sha256,
@@ -38,10 +40,18 @@ pub fn record_kdf(alloc: Global) -> RecordKdf
     let sha512 = Pbkdf2Plain {
         hash: Pbkdf2Hash::Sha512,
     };
+    let sha1 = Pbkdf2Plain {
+        hash: Pbkdf2Hash::Sha1,
+    };
+    let sha1_or_argon2 = EitherKdf::new(
+        Ident::new_unwrap("pbkdf2-sha1"),
+        sha1,
+        Argon2Kept::new(alloc),
+    );
     let sha512_or_argon2 = EitherKdf::new(
         Ident::new_unwrap("pbkdf2-sha512"),
         sha512,
-        Argon2Kept::new(alloc),
+        sha1_or_argon2,
     );
     EitherKdf::new(
         Ident::new_unwrap("scrypt"),
@@ -61,8 +71,10 @@ pub struct AnyCheck {
     pub ghost first: { kdf.first ≡ codes "scrypt" },
     pub ghost second: { kdf.b.first ≡ codes "pbkdf2-sha256" },
     pub ghost third: { kdf.b.b.first ≡ codes "pbkdf2-sha512" },
+    pub ghost fourth: { kdf.b.b.b.first ≡ codes "pbkdf2-sha1" },
     pub ghost sha256: { kdf.b.a.hash ≡ Sha256 },
     pub ghost sha512: { kdf.b.b.a.hash ≡ Sha512 },
+    pub ghost sha1: { kdf.b.b.b.a.hash ≡ Sha1 },
 }
 
 impl AnyCheck {

@@ -2,7 +2,7 @@
 //! and each of these N runs has to end by want of memory, and the next one as usual. So no request is tried again, none is made
 //! that isn't needed, and a kept table is used again.
 
-use crate::tests::{DEAR, FAULTS, TEXTS, least};
+use crate::tests::{dear, faults, least, texts};
 use any_check::{
     AnyCheck, AnyError, CostFamily, PlainRecords, check_any, check_any_within, record_kdf,
     scheme_of_text,
@@ -53,9 +53,9 @@ fn is_without_a_table(stored: &str) -> bool {
 #[test]
 fn takes_0_requests_without_a_table(rt: HostRuntime) {
     let mut count: u64 = 0;
-    for stored in TEXTS {
+    for stored in texts() {
         if is_without_a_table(stored) {
-            all_match(&rt, rt.alloc(), &[stored]);
+            all_match(&rt, rt.alloc(), &[*stored]);
             count = count.saturating_add(1);
         }
     }
@@ -124,7 +124,7 @@ fn takes_2_requests_for_keys_in_tables_of_their_own(rt: HostRuntime) {
 fn takes_0_requests_for_texts_without_a_verdict(rt: HostRuntime) {
     let kdf = record_kdf(rt.alloc());
     let kept = CryptKept::new(rt.alloc());
-    for (stored, _) in FAULTS {
+    for (stored, _) in faults() {
         let answer = check_any(rt.alloc(), &kdf, &kept, "secret", stored);
         let is_wanting = answer == Err(AnyError::Stored(StoredError::OutOfMemory));
         assert!(rt; answer.is_err() && !is_wanting, "{stored}");
@@ -136,7 +136,7 @@ fn takes_0_requests_for_texts_without_a_verdict(rt: HostRuntime) {
 fn takes_0_requests_above_a_bound(rt: HostRuntime) {
     let kdf = record_kdf(rt.alloc());
     let kept = CryptKept::new(rt.alloc());
-    for stored in DEAR {
+    for stored in dear() {
         let answer = check_any_within(rt.alloc(), &kdf, &kept, &least(), "secret", stored);
         assert!(rt; answer == Err(AnyError::TooCostly), "{stored}");
     }

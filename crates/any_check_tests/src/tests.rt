@@ -1,4 +1,5 @@
-//! Texts that outside programs made: openssl, glibc's and libxcrypt's crypt, Python's hashlib, hmac and passlib, and the program argon2.
+//! Texts that outside programs made: openssl, glibc's and libxcrypt's crypt, Python's hashlib, hmac and passlib, the program argon2,
+//! OpenLDAP's slappasswd, Dovecot, 389-ds and htpasswd.
 
 use any_check::{
     AnyError, Costs, NO_COSTS, PlainRecords, Scheme, SchemeCosts, TextKind, any_word, check_any,
@@ -6,6 +7,8 @@ use any_check::{
 };
 use bcrypt_plain::BcryptFault;
 use md5_plain::Md5Fault;
+use phpass_plain::PhpassFault;
+use salted_digest::SaltedFault;
 use scram_plain::ScramFault;
 use sha1_crypt::Sha1Fault;
 use stored_check::StoredError;
@@ -20,7 +23,7 @@ fn word_of(answer: &Result<bool, AnyError>) -> &'static str {
 }
 
 // Texts of the password `secret`.
-pub const TEXTS: [&str; 23] = [
+const TEXTS: &[&str] = &[
     "$1$abcdefgh$cHJi5PXp/ki/ktXzqlk6I1",
     "$apr1$abcdefgh$h9FWgUz3n9YxylKLlR5SQ/",
     "$5$abcdefgh$gruCpC7VkOTspMQTTSAR8mtlO9Upms.fwqE5y16JVM.",
@@ -44,10 +47,22 @@ pub const TEXTS: [&str; 23] = [
     "$sha1$19$abcdefgh$nl4bYNUkvp1kTppWm6kb5cqPQqNG",
     "$scram-sha-256$19$c2FsdHNhbHRzYWx0$yKryWWaEJIQZh+JLbGHI0L6CiAe9Z/A045jMaYLvY5Q=$m68IZJjNEbv8HGR356PYAHysNh90ZvhvCDdy6qKIKYw=",
     "$scram-sha-256-raw$20$c2FsdHNhbHRzYWx0$RdX4ARLvYgtG49yrH5Ad+1cSP6sX3ne7wcvyE05dWd8=$nqZeGYnz3lpZ+Z9cF+fW31+zlAed1+TSM+lgpSCnf7Q=",
+    "$P$63CSgRZlssLJbqxzpCXYPhDoROG16t0",
+    "$H$5abcdefghRQTwXLGkACWdXkqlmTP.k1",
+    "$smd5$eqxaag==$8HSBkgbWtU2ZNtAT/chuyA==",
+    "$ssha$kYts+A==$N/O7ZPYFWQ9QtdpxAglBt23rONc=",
+    "$ssha$$5en6G6MezRroT3XKqkdPOmY/BfQ=",
+    "$ssha256$3xme0w==$ROfTnljnyvDpXJG9tjcgy5mIhpPVTOREnfMvABPrZb8=",
+    "$ssha512$GvCtCYhcG9k=$J37XHP+ir/NHsU3KWxpsW1E5qI1JbYSCLMsvRp8JLWp9qGsZFRUt+FzVtKiQcbF+wArqqKP0sW6Cuqjg/K97LQ==",
+    "$pbkdf2-sha1$i=998$c2FsdHNhbHRzYWx0$dfthYyTIsPBB/GS86Ihv/tqCRr0",
 ];
 
+pub fn texts() -> &'static [&'static str] {
+    TEXTS
+}
+
 // Texts without a verdict, and their words.
-pub const FAULTS: [(&str, &str); 45] = [
+const FAULTS: &[(&str, &str)] = &[
     ("$1$abcdefgh", "md5-format"),
     ("$1$abcdefghi$cHJi5PXp/ki/ktXzqlk6I1", "md5-format"),
     ("$apr1$", "mcf-delimiter"),
@@ -89,7 +104,11 @@ pub const FAULTS: [(&str, &str); 45] = [
         "kdf",
     ),
     (
-        "$pbkdf2-sha1$i=1000$c2FsdHNhbHRzYWx0$KoeIRlhBTyFrU8q8BApSMIIhObk",
+        "$pbkdf2-sha1$i=0$c2FsdHNhbHRzYWx0$KoeIRlhBTyFrU8q8BApSMIIhObk",
+        "kdf",
+    ),
+    (
+        "$pbkdf2-sha384$i=1000$c2FsdHNhbHRzYWx0$KoeIRlhBTyFrU8q8BApSMIIhObk",
         "no-scheme",
     ),
     ("$y$j75$0123456789ab", "yescrypt-format"),
@@ -154,6 +173,17 @@ pub const FAULTS: [(&str, &str); 45] = [
         "$scram-sha-256$19$c2FsdHNhbHRzYWx0$yKryWWaEJIQZh+JLbGHI0L6CiAe9Z/A045jMaYLvY5Q=$m68IZJjNEbv8HGR356PYAHysNh90ZvhvCDdy6qKIKYx=",
         "scram-b64",
     ),
+    ("$P$63CSgRZlssLJbqxzpCXYPhDoROG16t", "phpass-format"),
+    ("$P$43CSgRZlssLJbqxzpCXYPhDoROG16t0", "phpass-cost"),
+    ("$H$63CSgRZlssLJbqxzpCXYPhDoROG16t+", "phpass-b64"),
+    ("$P$63CSgRZlssLJbqxzpCXYPhDoROG16t2", "phpass-b64"),
+    ("$ssha$kYts+A==", "digest-format"),
+    (
+        "$ssha256$kYts+A==$N/O7ZPYFWQ9QtdpxAglBt23rONc=",
+        "digest-format",
+    ),
+    ("$smd5$eqxaag=$8HSBkgbWtU2ZNtAT/chuyA==", "digest-b64"),
+    ("$ssha$kYts+A==$N/O7ZPYFWQ9QtdpxAglBt23rONd=", "digest-b64"),
     ("abJnggxhB/yWI", "no-scheme"),
     ("{SHA}5en6G6MezRroT3XKqkdPOmY/BfQ=", "no-scheme"),
     (
@@ -167,67 +197,73 @@ pub const FAULTS: [(&str, &str); 45] = [
     ("", "no-scheme"),
 ];
 
+pub fn faults() -> &'static [(&'static str, &'static str)] {
+    FAULTS
+}
+
 #[test]
 fn words(rt: HostRuntime) {
     let kdf = record_kdf(rt.alloc());
     let kept = CryptKept::new(rt.alloc());
-    for stored in TEXTS {
+    for stored in texts() {
         let got = word_of(&check_any(rt.alloc(), &kdf, &kept, "secret", stored));
         assert!(rt; got == "match", "{stored}: {got}");
         let got = word_of(&check_any(rt.alloc(), &kdf, &kept, "Secret", stored));
         assert!(rt; got == "mismatch", "{stored}: {got}");
     }
-    for (stored, word) in FAULTS {
+    for (stored, word) in faults() {
         let got = word_of(&check_any(rt.alloc(), &kdf, &kept, "secret", stored));
-        assert!(rt; got == word, "{stored}: {got}");
+        assert!(rt; got == *word, "{stored}: {got}");
     }
 }
 
 // The least bound under which each text gets its verdict.
+const LEAST: SchemeCosts = SchemeCosts {
+    sha_crypt: Costs {
+        rounds: 5_000,
+        ..NO_COSTS
+    },
+    bcrypt: Costs {
+        cost: 8,
+        ..NO_COSTS
+    },
+    yescrypt: Costs {
+        ln: 10,
+        r: 8,
+        t: 2,
+        ..NO_COSTS
+    },
+    pbkdf2_sha256: Costs {
+        rounds: 1_000,
+        ..NO_COSTS
+    },
+    pbkdf2_sha512: Costs {
+        rounds: 1_000,
+        ..NO_COSTS
+    },
+    scrypt: Costs {
+        ln: 6,
+        r: 8,
+        p: 2,
+        ..NO_COSTS
+    },
+    argon2: Costs {
+        m: 128,
+        t: 2,
+        p: 2,
+        ..NO_COSTS
+    },
+};
+
 pub fn least() -> SchemeCosts {
-    SchemeCosts {
-        sha_crypt: Costs {
-            rounds: 5_000,
-            ..NO_COSTS
-        },
-        bcrypt: Costs {
-            cost: 5,
-            ..NO_COSTS
-        },
-        yescrypt: Costs {
-            ln: 10,
-            r: 8,
-            t: 2,
-            ..NO_COSTS
-        },
-        pbkdf2_sha256: Costs {
-            rounds: 1_000,
-            ..NO_COSTS
-        },
-        pbkdf2_sha512: Costs {
-            rounds: 1_000,
-            ..NO_COSTS
-        },
-        scrypt: Costs {
-            ln: 6,
-            r: 8,
-            p: 2,
-            ..NO_COSTS
-        },
-        argon2: Costs {
-            m: 128,
-            t: 2,
-            p: 2,
-            ..NO_COSTS
-        },
-    }
+    LEAST
 }
 
 #[test]
 fn bounds_reached(rt: HostRuntime) {
     let kdf = record_kdf(rt.alloc());
     let kept = CryptKept::new(rt.alloc());
-    for stored in TEXTS {
+    for stored in texts() {
         let got = word_of(&check_any_within(rt.alloc(), &kdf, &kept, &least(), "secret", stored));
         assert!(rt; got == "match", "{stored}: {got}");
         let got = word_of(&check_any_within(rt.alloc(), &kdf, &kept, &least(), "Secret", stored));
@@ -242,124 +278,197 @@ fn bounds_reached(rt: HostRuntime) {
         pbkdf2_sha512: NO_COSTS,
         argon2: NO_COSTS,
     };
-    for (stored, word) in FAULTS {
+    for (stored, word) in faults() {
         let got = word_of(&check_any_within(rt.alloc(), &kdf, &kept, &none, "secret", stored));
-        assert!(rt; got == word, "{stored}: {got}");
+        assert!(rt; got == *word, "{stored}: {got}");
     }
 }
+
+// The places of texts, and a bound below their costs that all other texts keep. bcrypt's bound is that of bcrypt of a digest and of
+// phpass too.
+const PASSED: &[(&[usize], SchemeCosts)] = &[
+    (
+        &[2, 4],
+        SchemeCosts {
+            sha_crypt: Costs {
+                rounds: 4_999,
+                ..NO_COSTS
+            },
+            ..LEAST
+        },
+    ),
+    (
+        &[6, 16, 23, 24],
+        SchemeCosts {
+            bcrypt: Costs {
+                cost: 4,
+                ..NO_COSTS
+            },
+            ..LEAST
+        },
+    ),
+    (
+        &[23],
+        SchemeCosts {
+            bcrypt: Costs {
+                cost: 7,
+                ..NO_COSTS
+            },
+            ..LEAST
+        },
+    ),
+    (
+        &[7],
+        SchemeCosts {
+            scrypt: Costs {
+                ln: 6,
+                r: 7,
+                p: 2,
+                ..NO_COSTS
+            },
+            ..LEAST
+        },
+    ),
+    (
+        &[14],
+        SchemeCosts {
+            scrypt: Costs {
+                ln: 5,
+                r: 8,
+                p: 2,
+                ..NO_COSTS
+            },
+            ..LEAST
+        },
+    ),
+    (
+        &[14],
+        SchemeCosts {
+            scrypt: Costs {
+                ln: 6,
+                r: 8,
+                p: 1,
+                ..NO_COSTS
+            },
+            ..LEAST
+        },
+    ),
+    (
+        &[12],
+        SchemeCosts {
+            yescrypt: Costs {
+                ln: 9,
+                r: 8,
+                t: 2,
+                ..NO_COSTS
+            },
+            ..LEAST
+        },
+    ),
+    (
+        &[12],
+        SchemeCosts {
+            yescrypt: Costs {
+                ln: 10,
+                r: 7,
+                t: 2,
+                ..NO_COSTS
+            },
+            ..LEAST
+        },
+    ),
+    (
+        &[13],
+        SchemeCosts {
+            yescrypt: Costs {
+                ln: 10,
+                r: 8,
+                t: 1,
+                ..NO_COSTS
+            },
+            ..LEAST
+        },
+    ),
+    (
+        &[8],
+        SchemeCosts {
+            pbkdf2_sha256: Costs {
+                rounds: 999,
+                ..NO_COSTS
+            },
+            ..LEAST
+        },
+    ),
+    (
+        &[8, 30],
+        SchemeCosts {
+            pbkdf2_sha256: Costs {
+                rounds: 997,
+                ..NO_COSTS
+            },
+            ..LEAST
+        },
+    ),
+    (
+        &[15],
+        SchemeCosts {
+            pbkdf2_sha512: Costs {
+                rounds: 998,
+                ..NO_COSTS
+            },
+            ..LEAST
+        },
+    ),
+    (
+        &[11],
+        SchemeCosts {
+            argon2: Costs {
+                m: 127,
+                t: 2,
+                p: 2,
+                ..NO_COSTS
+            },
+            ..LEAST
+        },
+    ),
+    (
+        &[10],
+        SchemeCosts {
+            argon2: Costs {
+                m: 128,
+                t: 1,
+                p: 2,
+                ..NO_COSTS
+            },
+            ..LEAST
+        },
+    ),
+    (
+        &[10],
+        SchemeCosts {
+            argon2: Costs {
+                m: 128,
+                t: 2,
+                p: 1,
+                ..NO_COSTS
+            },
+            ..LEAST
+        },
+    ),
+];
 
 #[test]
 fn bounds_passed(rt: HostRuntime) {
     let kdf = record_kdf(rt.alloc());
     let kept = CryptKept::new(rt.alloc());
-    for (number, low) in [
-        (
-            2usize,
-            SchemeCosts {
-                sha_crypt: Costs::of_rounds(4_999),
-                ..least()
-            },
-        ),
-        (
-            4,
-            SchemeCosts {
-                sha_crypt: Costs::of_rounds(4_999),
-                ..least()
-            },
-        ),
-        (
-            6,
-            SchemeCosts {
-                bcrypt: Costs::of_cost(4),
-                ..least()
-            },
-        ),
-        (
-            7,
-            SchemeCosts {
-                scrypt: Costs::of_ln_r_p(6, 7, 2),
-                ..least()
-            },
-        ),
-        (
-            14,
-            SchemeCosts {
-                scrypt: Costs::of_ln_r_p(5, 8, 2),
-                ..least()
-            },
-        ),
-        (
-            14,
-            SchemeCosts {
-                scrypt: Costs::of_ln_r_p(6, 8, 1),
-                ..least()
-            },
-        ),
-        (
-            12,
-            SchemeCosts {
-                yescrypt: Costs::of_ln_r_t(9, 8, 2),
-                ..least()
-            },
-        ),
-        (
-            12,
-            SchemeCosts {
-                yescrypt: Costs::of_ln_r_t(10, 7, 2),
-                ..least()
-            },
-        ),
-        (
-            13,
-            SchemeCosts {
-                yescrypt: Costs::of_ln_r_t(10, 8, 1),
-                ..least()
-            },
-        ),
-        (
-            8,
-            SchemeCosts {
-                pbkdf2_sha256: Costs::of_rounds(999),
-                ..least()
-            },
-        ),
-        (
-            15,
-            SchemeCosts {
-                pbkdf2_sha512: Costs::of_rounds(998),
-                ..least()
-            },
-        ),
-        (
-            11,
-            SchemeCosts {
-                argon2: Costs::of_m_t_p(127, 2, 2),
-                ..least()
-            },
-        ),
-        (
-            10,
-            SchemeCosts {
-                argon2: Costs::of_m_t_p(128, 1, 2),
-                ..least()
-            },
-        ),
-        (
-            10,
-            SchemeCosts {
-                argon2: Costs::of_m_t_p(128, 2, 1),
-                ..least()
-            },
-        ),
-    ] {
-        for (i, stored) in TEXTS.into_iter().enumerate() {
-            let got = word_of(&check_any_within(rt.alloc(), &kdf, &kept, &low, "secret", stored));
-            // bcrypt's bound is that of bcrypt of a digest too.
-            if i == number || (number == 6 && i == 16) {
-                assert!(rt; got == "too-costly", "{stored}: {got}");
-            } else if number != 2 && number != 4 {
-                assert!(rt; got == "match", "{stored}: {got}");
-            }
+    for (places, low) in PASSED {
+        for (place, stored) in texts().iter().enumerate() {
+            let got = word_of(&check_any_within(rt.alloc(), &kdf, &kept, low, "secret", stored));
+            let is_above = places.contains(&place);
+            assert!(rt;
+                got == if is_above { "too-costly" } else { "match" },
+                "{stored}: {got}"
+            );
         }
     }
 }
@@ -373,7 +482,7 @@ fn long_passwords(rt: HostRuntime) {
         panic!(rt; "letters are text")
     };
     let too_long = Err(AnyError::Stored(StoredError::PasswordTooLong));
-    for stored in TEXTS {
+    for stored in texts() {
         let answer = check_any(rt.alloc(), &kdf, &kept, long, stored);
         assert!(rt; answer == too_long, "{stored}: {answer:?}");
         let answer = check_any_within(rt.alloc(), &kdf, &kept, &least(), long, stored);
@@ -386,7 +495,7 @@ fn long_passwords(rt: HostRuntime) {
 }
 
 // Passwords and texts without a verdict, and the first cause.
-const CAUSES: [(&str, &str, AnyError); 8] = [
+const CAUSES: &[(&str, &str, AnyError)] = &[
     ("secret", "$1$abcdefgh", AnyError::Md5(Md5Fault::NoHash)),
     ("secret", "$2a$04", AnyError::Bcrypt(BcryptFault::NoHash)),
     ("secret", "$wp$2y$04", AnyError::Bcrypt(BcryptFault::Length)),
@@ -406,6 +515,13 @@ const CAUSES: [(&str, &str, AnyError); 8] = [
         "$scram-sha-256$19$c2FsdHNhbHRzYWx0$yKryWWaEJIQZh+JLbGHI0L6CiAe9Z/A045jMaYLvY5Q=$m68IZJjNEbv8HGR356PYAHysNh90ZvhvCDdy6qKIKYw=",
         AnyError::Scram(ScramFault::NotAscii),
     ),
+    ("secret", "$H$5", AnyError::Phpass(PhpassFault::Length)),
+    ("secret", "$ssha", AnyError::Salted(SaltedFault::NoSalt)),
+    (
+        "secret",
+        "$smd5$eqxaag==$8HSBkgbWtU2ZNtAT/chuyA=",
+        AnyError::Salted(SaltedFault::HashLength),
+    ),
     (
         "sec\0ret",
         "$2b$04$abcdefghijklmnopqrstuu2r9OfJnfCsdneAXAGHnS4UpFFP8WIrW",
@@ -413,9 +529,31 @@ const CAUSES: [(&str, &str, AnyError); 8] = [
     ),
 ];
 
-// A text of the password `péché`, which isn't prepared.
-const NOT_PREPARED: &str =
-    "$scram-sha-256-raw$18$MDEyMzQ1Njc4OWFiY2RlZg==$Kzs9hMQq005K9mauOQ1p7DS8xWB4w0JzRo+ecXj0CQQ=$CnGv9hKZrHe46JMhL6yKiORo+KML/55pU1wx9mdOicE=";
+// Passwords that some texts have a verdict on and others not, and the words.
+const OTHERS: &[(&str, &str, &str)] = &[
+    (
+        "sec\0ret",
+        "$2b$04$abcdefghijklmnopqrstuu2r9OfJnfCsdneAXAGHnS4UpFFP8WIrW",
+        "zero-byte",
+    ),
+    (
+        "sec\0ret",
+        "$bcrypt-sha256$2b,4$abcdefghijklmnopqrstuu$N9tMz1lMx9RK4tmPpgRXWaagQQdZIOO",
+        "mismatch",
+    ),
+    (
+        "péché",
+        "$scram-sha-256$19$c2FsdHNhbHRzYWx0$yKryWWaEJIQZh+JLbGHI0L6CiAe9Z/A045jMaYLvY5Q=$m68IZJjNEbv8HGR356PYAHysNh90ZvhvCDdy6qKIKYw=",
+        "not-ascii",
+    ),
+    (
+        "péché",
+        "$scram-sha-256-raw$18$MDEyMzQ1Njc4OWFiY2RlZg==$Kzs9hMQq005K9mauOQ1p7DS8xWB4w0JzRo+ecXj0CQQ=$CnGv9hKZrHe46JMhL6yKiORo+KML/55pU1wx9mdOicE=",
+        "match",
+    ),
+    ("a\0b", "$P$5abcdefghRLJD0mSaATn8.KP8wOdN//", "match"),
+    ("a\0c", "$P$5abcdefghRLJD0mSaATn8.KP8wOdN//", "mismatch"),
+];
 
 #[test]
 fn first_causes(rt: HostRuntime) {
@@ -423,16 +561,12 @@ fn first_causes(rt: HostRuntime) {
     let kept = CryptKept::new(rt.alloc());
     for (password, stored, cause) in CAUSES {
         let answer = check_any(rt.alloc(), &kdf, &kept, password, stored);
-        assert!(rt; answer == Err(cause), "{stored}: {answer:?}");
+        assert!(rt; answer == Err(*cause), "{stored}: {answer:?}");
     }
-    let got = word_of(&check_any(rt.alloc(), &kdf, &kept, "sec\0ret", TEXTS[5]));
-    assert!(rt; got == "zero-byte", "{got}");
-    let got = word_of(&check_any(rt.alloc(), &kdf, &kept, "sec\0ret", TEXTS[17]));
-    assert!(rt; got == "mismatch", "{got}");
-    let got = word_of(&check_any(rt.alloc(), &kdf, &kept, "péché", TEXTS[21]));
-    assert!(rt; got == "not-ascii", "{got}");
-    let got = word_of(&check_any(rt.alloc(), &kdf, &kept, "péché", NOT_PREPARED));
-    assert!(rt; got == "match", "{got}");
+    for (password, stored, word) in OTHERS {
+        let got = word_of(&check_any(rt.alloc(), &kdf, &kept, password, stored));
+        assert!(rt; got == *word, "{stored}: {got}");
+    }
 }
 
 #[test]
@@ -452,9 +586,14 @@ fn schemes(rt: HostRuntime) {
         ("$sha1$x", Scheme::Sha1Crypt),
         ("$scram-sha-256$x", Scheme::Scram),
         ("$scram-sha-256-raw", Scheme::Scram),
+        ("$P$B", Scheme::Phpass),
+        ("$H$", Scheme::Phpass),
+        ("$smd5", Scheme::SaltedDigest),
+        ("$ssha512$x", Scheme::SaltedDigest),
         ("$scrypt$x", Scheme::Scrypt),
         ("$argon2i", Scheme::Argon2i),
         ("$pbkdf2-sha512$x", Scheme::Pbkdf2Sha512),
+        ("$pbkdf2-sha1$x", Scheme::Pbkdf2Sha1),
     ] {
         assert!(rt; scheme_of_text(stored) == Some(scheme), "{stored}");
     }
@@ -479,7 +618,7 @@ fn no_scheme(rt: HostRuntime) {
 
 // Valid texts of which each digest takes a tenth of a second and more: of each variant and type, and where its texts have several
 // lengths, another one of more than 140 bytes or the shortest.
-pub const DEAR: [&str; 31] = [
+const DEAR: &[&str] = &[
     "$5$rounds=999999999$abcdefgh$gruCpC7VkOTspMQTTSAR8mtlO9Upms.fwqE5y16JVM.",
     "$5$rounds=999999999$a$gruCpC7VkOTspMQTTSAR8mtlO9Upms.fwqE5y16JVM.",
     "$6$rounds=999999999$abcdefgh$ltjgWl6579NluT/Vi1nwEvcil.G5Nbc4NiXZaNGStk8PSwGfQv72N2CKPPrVACtLtip/cZ/1GM/O6IND4WQhG.",
@@ -495,6 +634,8 @@ pub const DEAR: [&str; 31] = [
     "$sha1$4294967295$a$nl4bYNUkvp1kTppWm6kb5cqPQqNG",
     "$scram-sha-256$4294967295$c2FsdHNhbHRzYWx0$yKryWWaEJIQZh+JLbGHI0L6CiAe9Z/A045jMaYLvY5Q=$m68IZJjNEbv8HGR356PYAHysNh90ZvhvCDdy6qKIKYw=",
     "$scram-sha-256-raw$4294967295$YQ==$RdX4ARLvYgtG49yrH5Ad+1cSP6sX3ne7wcvyE05dWd8=$nqZeGYnz3lpZ+Z9cF+fW31+zlAed1+TSM+lgpSCnf7Q=",
+    "$P$S3CSgRZlssLJbqxzpCXYPhDoROG16t0",
+    "$H$Sabcdefgh3CSgRZlssLJbqxzpCXYPh1",
     "$y$jFT$0123456789ab$kb1fsIrDP1wOa4Q3gNpxZkfwQ3ce8kmPbnemuN65IT2",
     "$y$jFT$0123456789ab0123456789ab0123456789ab0123456789ab0123456789ab0123456789ab0123456789ab01$kb1fsIrDP1wOa4Q3gNpxZkfwQ3ce8kmPbnemuN65IT2",
     "$7$EU..../....SodiumChloride$V4S.p0ArbLXh9bvI9g1ReO/qmFMyvEX4e98XynaDdN9",
@@ -505,6 +646,8 @@ pub const DEAR: [&str; 31] = [
     "$pbkdf2-sha256$i=10000000$c2FsdHNhbHRzYWx0c2FsdHNhbHRzYWx0c2FsdHNhbHRzYWx0c2FsdHNhbHRzYWx0$GK6ZfhTx3pI28IQ6HYQzaUek5XduggVQ0zhLSF6WB1ROBlCW2ybd4hR7tgTVg/2i//vv5K7hcJGgBedoUEO6ag",
     "$pbkdf2-sha512$i=10000000$c2FsdHNhbHRzYWx0$GK6ZfhTx3pI28IQ6HYQzaUek5XduggVQ0zhLSF6WB1ROBlCW2ybd4hR7tgTVg/2i//vv5K7hcJGgBedoUEO6ag",
     "$pbkdf2-sha512$i=10000000$c2FsdHNhbHRzYWx0c2FsdHNhbHRzYWx0c2FsdHNhbHRzYWx0c2FsdHNhbHRzYWx0$GK6ZfhTx3pI28IQ6HYQzaUek5XduggVQ0zhLSF6WB1ROBlCW2ybd4hR7tgTVg/2i//vv5K7hcJGgBedoUEO6ag",
+    "$pbkdf2-sha1$i=10000000$c2FsdHNhbHRzYWx0$KoeIRlhBTyFrU8q8BApSMIIhObk",
+    "$pbkdf2-sha1$i=10000000$c2FsdHNhbHRzYWx0c2FsdHNhbHRzYWx0c2FsdHNhbHRzYWx0c2FsdHNhbHRzYWx0$GK6ZfhTx3pI28IQ6HYQzaUek5XduggVQ0zhLSF6WB1ROBlCW2ybd4hR7tgTVg/2i//vv5K7hcJGgBedoUEO6ag",
     "$argon2id$v=19$m=2097152,t=1,p=1$c2FsdHNhbHRzYWx0$Sm3MnLdCFk0Af+croKgebRoqqmhbKd88iiW3yUOXn78",
     "$argon2id$v=19$m=2097152,t=1,p=1$c2FsdHNhbHRzYWx0c2FsdHNhbHRzYWx0c2FsdHNhbHRzYWx0c2FsdHNhbHRzYWx0$GK6ZfhTx3pI28IQ6HYQzaUek5XduggVQ0zhLSF6WB1ROBlCW2ybd4hR7tgTVg/2i//vv5K7hcJGgBedoUEO6ag",
     "$argon2i$v=19$m=2097152,t=1,p=1$c2FsdHNhbHRzYWx0$Sm3MnLdCFk0Af+croKgebRoqqmhbKd88iiW3yUOXn78",
@@ -513,12 +656,16 @@ pub const DEAR: [&str; 31] = [
     "$argon2d$v=19$m=2097152,t=1,p=1$c2FsdHNhbHRzYWx0c2FsdHNhbHRzYWx0c2FsdHNhbHRzYWx0c2FsdHNhbHRzYWx0$GK6ZfhTx3pI28IQ6HYQzaUek5XduggVQ0zhLSF6WB1ROBlCW2ybd4hR7tgTVg/2i//vv5K7hcJGgBedoUEO6ag",
 ];
 
+pub fn dear() -> &'static [&'static str] {
+    DEAR
+}
+
 // A thousand digests of such a text take more time than a test has.
 #[test]
 fn nothing_is_hashed(rt: HostRuntime) {
     let kdf = record_kdf(rt.alloc());
     let kept = CryptKept::new(rt.alloc());
-    for stored in DEAR {
+    for stored in dear() {
         for _ in 0..1_000 {
             let answer = check_any_within(rt.alloc(), &kdf, &kept, &least(), "secret", stored);
             assert!(rt; answer == Err(AnyError::TooCostly), "{stored}");
@@ -529,11 +676,11 @@ fn nothing_is_hashed(rt: HostRuntime) {
 // Each text has a verdict exactly where its kind is valid.
 #[test]
 fn kinds(rt: HostRuntime) {
-    for stored in TEXTS {
+    for stored in texts() {
         let valid = matches!(text_kind(&PlainRecords, stored), TextKind::Valid(_));
         assert!(rt; valid, "{stored}");
     }
-    for (stored, word) in FAULTS {
+    for (stored, word) in faults() {
         let valid = matches!(text_kind(&PlainRecords, stored), TextKind::Valid(_));
         assert!(rt; !valid, "{stored} {word}");
     }

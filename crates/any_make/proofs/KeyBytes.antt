@@ -15,8 +15,8 @@ use Rattle.argon2_plain.specs.Argon2.{tag_from, variable_hash}
 use Rattle.argon2_plain.specs.Lengths.{length-tag_from}
 use Rattle.pbkdf2_key.specs.Lengths.{length-pbkdf2_sha256, length-pbkdf2_sha512}
 use Rattle.pbkdf2_key.specs.Pbkdf2.{Prf, output_block, output_blocks, pbkdf2, u}
-use Rattle.pbkdf2_key.specs.declared.profile.Pbkdf2Hash.{Pbkdf2Hash}
-use Rattle.pbkdf2_key.specs.declared.profile.Pbkdf2Hash.TheVariants.{Sha256, Sha512}
+use Rattle.any_make.specs.declared.scheme.Pbkdf2Hash.{Pbkdf2Hash}
+use Rattle.any_make.specs.declared.scheme.Pbkdf2Hash.TheVariants.{Sha256, Sha512}
 use Rattle.word_lists.specs.Lists.{xor_bytes}
 use Rattle.hmac_plain.specs.Hmac.{hmac, hmac_sha256, hmac_sha512}
 use Rattle.scrypt_plain.proofs.KeyBytes.{digest_below, scrypt_bytes}

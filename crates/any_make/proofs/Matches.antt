@@ -12,7 +12,7 @@ use Rattle.pieces.proofs.FaultLaws.{first_none, unless_none, value_found}
 use Rattle.sha_crypt.specs.declared.errors.Family.TheVariants.{Sha256, Sha512}
 use Rattle.any_check.specs.Records.{accepted, tag}
 use Rattle.any_check.specs.Table.{any_verdict}
-use Rattle.pbkdf2_key.specs.declared.profile.Pbkdf2Hash.TheVariants as hash
+use Rattle.any_make.specs.declared.scheme.Pbkdf2Hash.TheVariants as hash
 use Rattle.any_make.specs.Costs.{is_taken, password_length, salt_length, scheme_of, takes_zero}
 use Rattle.any_make.specs.Laws.{MadeMatches, NamedBack, OthersJudged, RecommendedTaken}
 use Rattle.any_make.specs.Made.{hash_text, made, make_fault}

@@ -16,8 +16,8 @@ use Rattle.phc.specs.Grammar.{is_name}
 use Rattle.phc.specs.Params.{Pairs, pairs_text}
 use Rattle.phc.specs.Record.{record_text}
 use Rattle.pbkdf2_key.specs.Profile as pbkdf2
-use Rattle.pbkdf2_key.specs.declared.profile.Pbkdf2Hash.{Pbkdf2Hash}
-use Rattle.pbkdf2_key.specs.declared.profile.Pbkdf2Hash.TheVariants.{Sha256, Sha512}
+use Rattle.any_make.specs.declared.scheme.Pbkdf2Hash.{Pbkdf2Hash}
+use Rattle.any_make.specs.declared.scheme.Pbkdf2Hash.TheVariants.{Sha256, Sha512}
 use Rattle.pieces.specs.Pieces.{pieces_at}
 use Rattle.scrypt_plain.specs.Bounds as scrypt_bounds
 use Rattle.scrypt_plain.specs.Profile as scrypt
@@ -26,7 +26,7 @@ use Rattle.yescrypt_plain.specs.declared.params.ScryptParams.{ScryptParams}
 use Rattle.any_check.specs.Records.{accepted, tag}
 use Rattle.any_check.specs.Table.{is_record, text_scheme}
 use Rattle.any_make.specs.Made.{hash_text}
-use Rattle.any_make.specs.Records.{argon2_key, argon2_params, argon2_record, pbkdf2_key, pbkdf2_record, scrypt_key, scrypt_record}
+use Rattle.any_make.specs.Records.{argon2_key, argon2_params, argon2_record, key_hash, pbkdf2_key, pbkdf2_record, scrypt_key, scrypt_record}
 use Rattle.any_make.specs.declared.scheme.Argon2Cost.{Argon2Cost}
 use Rattle.any_make.specs.declared.scheme.MakeCost.TheVariants as cost
 use Rattle.any_make.proofs.Judged.{IsJudged}
@@ -260,7 +260,7 @@ record IsRecordName (name : List ℕ) : Type 0 where
   pub other : scheme_of name ≡ None
   pub itself : pointwise nat_eq name name ≡ true
 
-pbkdf2_name : (hash : Pbkdf2Hash) → IsRecordName (pbkdf2.identifier hash)
+pbkdf2_name : (hash : Pbkdf2Hash) → IsRecordName (pbkdf2.identifier (key_hash hash))
 pbkdf2_name Sha256 = record { of_record = refl; of_text = refl; other = refl; itself = refl }
 pbkdf2_name Sha512 = record { of_record = refl; of_text = refl; other = refl; itself = refl }
 
@@ -275,7 +275,7 @@ pbkdf2_pairs rounds = (codes "i", decimal rounds) ∷ (codes "l", codes "32") �
 
 abbrev pbkdf2_parts : Pbkdf2Hash → ℕ → List ℕ → List ℕ → Parts
 pbkdf2_parts hash rounds salt key = record {
-  id = pbkdf2.identifier hash;
+  id = pbkdf2.identifier (key_hash hash);
   fields = pairs_text (pbkdf2_pairs rounds) ∷ encoding salt ∷ encoding key ∷ [];
 }
 
@@ -289,7 +289,7 @@ pbkdf2_joined Sha512 rounds salt key =
 
 -- a record with this identifier that its own hash function takes
 record_taken : (hash : Pbkdf2Hash) (rounds : ℕ) (salt key : List ℕ)
-    → pbkdf2.pbkdf2_accepts hash (pbkdf2_record hash rounds salt key) 32 ≡ true
+    → pbkdf2.pbkdf2_accepts (key_hash hash) (pbkdf2_record hash rounds salt key) 32 ≡ true
     → accepted (pbkdf2_record hash rounds salt key) salt 32 ≡ true
 unfolding pbkdf2.pbkdf2_accepts
 record_taken Sha256 rounds salt key is = is
@@ -297,7 +297,7 @@ record_taken Sha512 rounds salt key is = is
 
 record_tag : (hash : Pbkdf2Hash) (rounds : ℕ) (asked salt key : List ℕ)
     → tag asked (pbkdf2_record hash rounds salt key) salt 32
-    ≡ pbkdf2.pbkdf2_key hash asked (pbkdf2_record hash rounds salt key) salt 32
+    ≡ pbkdf2.pbkdf2_key (key_hash hash) asked (pbkdf2_record hash rounds salt key) salt 32
 record_tag Sha256 rounds asked salt key = refl
 record_tag Sha512 rounds asked salt key = refl
 

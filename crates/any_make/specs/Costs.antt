@@ -5,7 +5,7 @@ use Rattle.bcrypt_plain.specs.Text.{is_cost}
 use Rattle.scrypt_plain.specs.Bounds as scrypt
 use Rattle.sha_crypt.specs.Limits.{rounds_max, rounds_min}
 use Rattle.sha_crypt.specs.declared.errors.Family.TheVariants.{Sha256, Sha512}
-use Rattle.pbkdf2_key.specs.declared.profile.Pbkdf2Hash.TheVariants as of
+use Rattle.any_make.specs.declared.scheme.Pbkdf2Hash.TheVariants as of
 use Rattle.phc_kdf.specs.Limits.{password_max}
 use Rattle.yescrypt_plain.specs.Params as yescrypt
 use Rattle.any_make.specs.declared.scheme.MakeCost.{MakeCost}

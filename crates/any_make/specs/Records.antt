@@ -6,10 +6,13 @@ use Rattle.argon2_plain.specs.declared.params.Params.{Params}
 use Rattle.argon2_plain.specs.declared.variant.Variant.TheVariants.{Id}
 use Rattle.phc.specs.declared.password_hash.PasswordHash.{PasswordHash}
 use Rattle.pbkdf2_key.specs.Profile.{identifier, pbkdf2_with}
-use Rattle.pbkdf2_key.specs.declared.profile.Pbkdf2Hash.{Pbkdf2Hash}
+use Rattle.pbkdf2_key.specs.declared.profile.Pbkdf2Hash as derived
+use Rattle.pbkdf2_key.specs.declared.profile.Pbkdf2Hash.TheVariants as with
 use Rattle.scrypt_plain.specs.Scrypt.{scrypt}
 use Rattle.yescrypt_plain.specs.declared.params.ScryptParams.{ScryptParams}
 use Rattle.any_make.specs.declared.scheme.Argon2Cost.{Argon2Cost}
+use Rattle.any_make.specs.declared.scheme.Pbkdf2Hash.{Pbkdf2Hash}
+use Rattle.any_make.specs.declared.scheme.Pbkdf2Hash.TheVariants.{Sha256, Sha512}
 
 -- ---- scrypt: `$scrypt$ln=L,r=R,p=P$salt$key`, as passlib writes it
 
@@ -49,14 +52,19 @@ argon2_record c salt key = record {
 
 -- ---- PBKDF2: `$pbkdf2-sha256$i=N,l=32$salt$key`, or with SHA-512, as RustCrypto's pbkdf2 writes it
 
+-- the hash function of the key
+abbrev pub key_hash : Pbkdf2Hash → derived.Pbkdf2Hash
+key_hash Sha256 = with.Sha256
+key_hash Sha512 = with.Sha512
+
 -- the key
 abbrev pub pbkdf2_key : Pbkdf2Hash → ℕ → List ℕ → List ℕ → List ℕ
-pbkdf2_key hash rounds password salt = pbkdf2_with hash password salt rounds 32
+pbkdf2_key hash rounds password salt = pbkdf2_with (key_hash hash) password salt rounds 32
 
 -- the record of a salt and a key
 abbrev pub pbkdf2_record : Pbkdf2Hash → ℕ → List ℕ → List ℕ → PasswordHash
 pbkdf2_record hash rounds salt key = record {
-  algorithm = identifier hash;
+  algorithm = identifier (key_hash hash);
   version = None;
   params = (codes "i", decimal rounds) ∷ (codes "l", codes "32") ∷ [];
   salt = Some salt;
@@ -65,4 +73,4 @@ pbkdf2_record hash rounds salt key = record {
 
 -- what is before the rounds
 abbrev pub pbkdf2_start : Pbkdf2Hash → List ℕ
-pbkdf2_start hash = codes "$" ++ identifier hash ++ codes "$i="
+pbkdf2_start hash = codes "$" ++ identifier (key_hash hash) ++ codes "$i="

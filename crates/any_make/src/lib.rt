@@ -19,7 +19,6 @@ pub use error::{MakeFault, NameFault};
 pub use line::{MakeEnd, run_make};
 pub use make::{made_text, make_text};
 pub use names::scheme_named;
-pub use pbkdf2_key::Pbkdf2Hash;
-pub use scheme::{Argon2Cost, MakeCost, recommended};
+pub use scheme::{Argon2Cost, MakeCost, Pbkdf2Hash, recommended};
 pub use scheme_list::Scheme;
 pub use texts::TEXT_MAX;

@@ -9,11 +9,11 @@ ghost use Rattle.scrypt_plain.specs.Bounds as scrypt_bounds;
 ghost use Rattle.phc_kdf.specs.Limits.{password_max};
 ghost use Rattle.any_make.specs.Records.{argon2_key, argon2_record, pbkdf2_key, pbkdf2_record, pbkdf2_start, scrypt_key, scrypt_record};
 
-use crate::Argon2Cost;
 use crate::texts::TEXT_MAX;
+use crate::{Argon2Cost, Pbkdf2Hash};
 use argon2_plain::argon2;
 use base64ct::{Base64Unpadded, Encoding};
-use pbkdf2_key::{Pbkdf2Hash, pbkdf2_sha256, pbkdf2_sha512};
+use pbkdf2_key::{pbkdf2_sha256, pbkdf2_sha512};
 use pieces::short_bytes::ShortBytes;
 use scrypt_plain::scrypt;
 use std::alloc::{AllocError, Global};

@@ -6,7 +6,6 @@ ghost use Rattle.any_make.specs.Records.{argon2_params};
 
 use any_check::sha_scheme;
 use argon2_plain::{Params, Variant};
-use pbkdf2_key::Pbkdf2Hash;
 use scheme_list::Scheme;
 use sha_crypt::{Family, ROUNDS_MAX, ROUNDS_MIN};
 use stored_check::PASSWORD_MAX;
@@ -21,6 +20,13 @@ pub struct Argon2Cost {
     pub passes: u32,
     /// The lanes, `p`.
     pub lanes: u32,
+}
+
+/// The hash functions under PBKDF2 of which texts are made. Records with SHA-1 are read for migration alone.
+#[derive(Clone, Copy, Debug, PartialEq, Eq)]
+pub enum Pbkdf2Hash {
+    Sha256,
+    Sha512,
 }
 
 /// A scheme with what its text costs.

@@ -755,14 +755,24 @@ const NO_NAMES: &[&str] = &[
     "scrypt ",
     "sha256",
     "scrypt-crypt",
-    "pbkdf2-sha1",
+    "scram-sha-256",
     "argon2d",
+];
+
+// Schemes that are weak by themselves.
+const WEAK_NAMES: &[&str] = &[
+    "md5-crypt",
+    "sha1-crypt",
+    "phpass",
+    "salted-digest",
+    "pbkdf2-sha1",
 ];
 
 #[test]
 fn no_names(rt: HostRuntime) {
-    assert!(rt; scheme_named("md5-crypt") == Err(NameFault::Weak));
-    assert!(rt; scheme_named("sha1-crypt") == Err(NameFault::Weak));
+    for name in WEAK_NAMES {
+        assert!(rt; scheme_named(name).err() == Some(NameFault::Weak), "{name}");
+    }
     for name in NO_NAMES {
         assert!(rt;
             scheme_named(name).err() == Some(NameFault::Unknown),

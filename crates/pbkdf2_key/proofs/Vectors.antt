@@ -2,8 +2,9 @@
 use Rattle.std.proofs.Common.{◌≡◌, [], ◌∷◌, codes, refl}
 use Rattle.sha2.specs.Sha256.{sha256, digest_bytes, hash_after, compress, rounds, schedule, first_words}
 use Rattle.sha2.specs.Sha512 as S512
+use Rattle.sha1.specs.Sha1 as S1
 use Rattle.hmac_plain.specs.Hmac.{hmac}
-use Rattle.pbkdf2_key.specs.Pbkdf2.{pbkdf2, pbkdf2_sha256, pbkdf2_sha512, output_blocks, output_block, u}
+use Rattle.pbkdf2_key.specs.Pbkdf2.{pbkdf2, pbkdf2_sha1, pbkdf2_sha256, pbkdf2_sha512, output_blocks, output_block, u}
 
 -- The keys are those of Python's hashlib.pbkdf2_hmac and of OpenSSL.
 
@@ -33,3 +34,22 @@ key_of_two_rounds_of_sha512 : pbkdf2_sha512 (codes "password") (codes "salt") 2 
 unfolding pbkdf2 output_blocks output_block u hmac S512.sha512 S512.digest_bytes S512.hash_after S512.compress S512.rounds
     S512.schedule S512.first_words
 key_of_two_rounds_of_sha512 = refl
+
+-- ---- SHA-1
+
+-- RFC 6070, test case 1
+key_of_one_round_of_sha1 : pbkdf2_sha1 (codes "password") (codes "salt") 1 20
+    ≡ 0x0c ∷ 0x60 ∷ 0xc8 ∷ 0x0f ∷ 0x96 ∷ 0x1f ∷ 0x0e ∷ 0x71 ∷ 0xf3 ∷ 0xa9 ∷ 0xb5 ∷ 0x24 ∷ 0xaf ∷ 0x60 ∷ 0x12 ∷ 0x06
+    ∷ 0x2f ∷ 0xe0 ∷ 0x37 ∷ 0xa6 ∷ []
+unfolding pbkdf2 output_blocks output_block u hmac S1.sha1 S1.digest_bytes S1.hash_after S1.compress S1.rounds S1.schedule
+    S1.first_words
+key_of_one_round_of_sha1 = refl
+
+-- two rounds, and a second block that is cut: the first 20 bytes are those of RFC 6070, test case 2
+key_of_two_rounds_of_sha1 : pbkdf2_sha1 (codes "password") (codes "salt") 2 33
+    ≡ 0xea ∷ 0x6c ∷ 0x01 ∷ 0x4d ∷ 0xc7 ∷ 0x2d ∷ 0x6f ∷ 0x8c ∷ 0xcd ∷ 0x1e ∷ 0xd9 ∷ 0x2a ∷ 0xce ∷ 0x1d ∷ 0x41 ∷ 0xf0
+    ∷ 0xd8 ∷ 0xde ∷ 0x89 ∷ 0x57 ∷ 0xca ∷ 0xe9 ∷ 0x31 ∷ 0x36 ∷ 0x26 ∷ 0x65 ∷ 0x37 ∷ 0xa8 ∷ 0xd7 ∷ 0xbf ∷ 0x4b ∷ 0x76
+    ∷ 0xc5 ∷ []
+unfolding pbkdf2 output_blocks output_block u hmac S1.sha1 S1.digest_bytes S1.hash_after S1.compress S1.rounds S1.schedule
+    S1.first_words
+key_of_two_rounds_of_sha1 = refl

@@ -1,7 +1,7 @@
 -- Laws over the definitions.
 use Rattle.std.specs.Prelude.{◌≡◌, ℕ, ◌≤◌, ◌<◌, List, length, take}
 use Rattle.hmac_plain.specs.Hmac.{hmac_sha512}
-use Rattle.pbkdf2_key.specs.Pbkdf2.{Prf, pbkdf2, pbkdf2_sha256, pbkdf2_sha512}
+use Rattle.pbkdf2_key.specs.Pbkdf2.{Prf, pbkdf2, pbkdf2_sha1, pbkdf2_sha256, pbkdf2_sha512}
 
 -- a code of HMAC-SHA-512 has 64 bytes
 abbrev pub CodeLength : Type 0
@@ -11,9 +11,9 @@ CodeLength = (key text : List ℕ) → length (hmac_sha512 key text) ≡ 64
 abbrev pub HasKeyLength : (List ℕ → List ℕ → ℕ → ℕ → List ℕ) → Type 0
 HasKeyLength derived = (password salt : List ℕ) (rounds n : ℕ) → length (derived password salt rounds n) ≡ n
 
--- that of both
+-- that of all three
 abbrev pub KeyLength : Type 0
-KeyLength = HasKeyLength pbkdf2_sha256 × HasKeyLength pbkdf2_sha512
+KeyLength = HasKeyLength pbkdf2_sha1 × HasKeyLength pbkdf2_sha256 × HasKeyLength pbkdf2_sha512
 
 -- a shorter key is the beginning of a longer one, whatever the pseudorandom function, if its outputs have h_len bytes
 abbrev pub ShorterKey : Type 0

@@ -9,10 +9,12 @@ use Rattle.phc.specs.declared.password_hash.PasswordHash.{PasswordHash}
 use Rattle.word_lists.specs.Lists.{xor_bytes}
 use Rattle.hmac_plain.specs.Hmac.{hmac_sha256, hmac_sha512}
 use Rattle.hmac_plain.specs.Lengths.{length-hmac_sha256, length-hmac_sha512}
-use Rattle.pbkdf2_key.specs.Pbkdf2.{Prf, u, output_block, output_blocks, pbkdf2, pbkdf2_sha256, pbkdf2_sha512}
+use Rattle.hmac_sha1.specs.Hmac.{hmac_sha1}
+use Rattle.hmac_sha1.specs.Lengths.{length-hmac_sha1}
+use Rattle.pbkdf2_key.specs.Pbkdf2.{Prf, u, output_block, output_blocks, pbkdf2, pbkdf2_sha1, pbkdf2_sha256, pbkdf2_sha512}
 use Rattle.pbkdf2_key.specs.Profile.{rounds_of, key_after, pbkdf2_key, pbkdf2_with}
 use Rattle.pbkdf2_key.specs.declared.profile.Pbkdf2Hash.{Pbkdf2Hash}
-use Rattle.pbkdf2_key.specs.declared.profile.Pbkdf2Hash.TheVariants.{Sha256, Sha512}
+use Rattle.pbkdf2_key.specs.declared.profile.Pbkdf2Hash.TheVariants.{Sha1, Sha256, Sha512}
 
 length-xor : (xs ys : List ℕ) → length xs ≡ length ys → length (xor_bytes xs ys) ≡ length xs
 length-xor [] ys e = refl
@@ -55,6 +57,9 @@ module _ (prf : Prf) (h : ℕ) (long : HasLength prf h) where
       let fits = enough n h least in
       length-take-le n (output_blocks prf h p s c (div_ceil n h)) (omega (arith, all, fits))
 
+pub length-pbkdf2_sha1 : (p s : List ℕ) (c n : ℕ) → length (pbkdf2_sha1 p s c n) ≡ n
+length-pbkdf2_sha1 = length-pbkdf2 hmac_sha1 20 length-hmac_sha1 (omega arith)
+
 pub length-pbkdf2_sha256 : (p s : List ℕ) (c n : ℕ) → length (pbkdf2_sha256 p s c n) ≡ n
 length-pbkdf2_sha256 = length-pbkdf2 hmac_sha256 32 length-hmac_sha256 (omega arith)
 
@@ -62,6 +67,7 @@ pub length-pbkdf2_sha512 : (p s : List ℕ) (c n : ℕ) → length (pbkdf2_sha51
 length-pbkdf2_sha512 = length-pbkdf2 hmac_sha512 64 length-hmac_sha512 (omega arith)
 
 length-pbkdf2_with : (hash : Pbkdf2Hash) (p s : List ℕ) (c n : ℕ) → length (pbkdf2_with hash p s c n) ≡ n
+length-pbkdf2_with Sha1 = length-pbkdf2_sha1
 length-pbkdf2_with Sha256 = length-pbkdf2_sha256
 length-pbkdf2_with Sha512 = length-pbkdf2_sha512
 

@@ -1,5 +1,5 @@
 -- PBKDF2 (RFC 8018, section 5.2) over any pseudorandom function PRF whose outputs have hLen bytes, on lists of bytes; and
--- the two of this crate.
+-- the three of this crate.
 --
 -- The standard asks for a count c of at least 1 and a key of at most (2^32 - 1) * hLen bytes. Here c = 0 gives zeros, and
 -- INT(i) is the number of a block below 2^32; the conditions of the calls and the profile keep within both.
@@ -7,6 +7,7 @@ use Rattle.std.specs.Prelude.{ℕ, zero, suc, ◌+◌, List, [], ◌++◌, repli
 use Rattle.std.specs.Int.{w32, div_ceil, to_be_bytes}
 use Rattle.word_lists.specs.Lists.{xor_bytes}
 use Rattle.hmac_plain.specs.Hmac.{hmac_sha256, hmac_sha512}
+use Rattle.hmac_sha1.specs.Hmac.{hmac_sha1}
 
 -- a pseudorandom function, of a key and a text
 abbrev pub Prf : Type 0
@@ -31,6 +32,10 @@ output_blocks prf h_len p s c (suc n) = output_blocks prf h_len p s c n ++ outpu
 -- PBKDF2(P, S, c, dkLen): as many blocks of hLen bytes as it takes, dkLen / hLen rounded up, the last cut
 unfoldable pub pbkdf2 : Prf → ℕ → List ℕ → List ℕ → ℕ → ℕ → List ℕ
 pbkdf2 prf h_len p s c dk_len = take dk_len (output_blocks prf h_len p s c (div_ceil dk_len h_len))
+
+-- with HMAC-SHA-1, whose outputs have 20 bytes
+abbrev pub pbkdf2_sha1 : List ℕ → List ℕ → ℕ → ℕ → List ℕ
+pbkdf2_sha1 = pbkdf2 hmac_sha1 20
 
 -- with HMAC-SHA-256, whose outputs have 32 bytes
 abbrev pub pbkdf2_sha256 : List ℕ → List ℕ → ℕ → ℕ → List ℕ

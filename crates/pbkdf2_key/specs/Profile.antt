@@ -5,12 +5,13 @@ use Rattle.std.specs.Cmp.Lexicographic.{pointwise}
 use Rattle.phc.specs.Limits.{output_max, output_min}
 use Rattle.phc.specs.declared.password_hash.PasswordHash.{PasswordHash}
 use Rattle.phc_kdf.specs.Numbers.{number}
-use Rattle.pbkdf2_key.specs.Pbkdf2.{pbkdf2_sha256, pbkdf2_sha512}
+use Rattle.pbkdf2_key.specs.Pbkdf2.{pbkdf2_sha1, pbkdf2_sha256, pbkdf2_sha512}
 use Rattle.pbkdf2_key.specs.declared.profile.Pbkdf2Hash.{Pbkdf2Hash}
-use Rattle.pbkdf2_key.specs.declared.profile.Pbkdf2Hash.TheVariants.{Sha256, Sha512}
+use Rattle.pbkdf2_key.specs.declared.profile.Pbkdf2Hash.TheVariants.{Sha1, Sha256, Sha512}
 
 -- the identifier of a hash function's records
 abbrev pub identifier : Pbkdf2Hash → List ℕ
+identifier Sha1 = codes "pbkdf2-sha1"
 identifier Sha256 = codes "pbkdf2-sha256"
 identifier Sha512 = codes "pbkdf2-sha512"
 
@@ -43,6 +44,7 @@ pbkdf2_accepts hash parsed n =
 
 -- PBKDF2 with a hash function
 abbrev pub pbkdf2_with : Pbkdf2Hash → List ℕ → List ℕ → ℕ → ℕ → List ℕ
+pbkdf2_with Sha1 = pbkdf2_sha1
 pbkdf2_with Sha256 = pbkdf2_sha256
 pbkdf2_with Sha512 = pbkdf2_sha512
 

@@ -7,7 +7,7 @@ pub fn code_length()
     ensures { CodeLength }
 {}
 
-/// A key has as many bytes as were asked for, with either hash function.
+/// A key has as many bytes as were asked for, with each hash function.
 pub fn key_length()
     ensures { KeyLength }
 {}

@@ -1,14 +1,18 @@
-//! What the derivation needs of a pseudorandom function, and the two that it is made with.
+//! What the derivation needs of a pseudorandom function, and the three that it is made with.
 
 ghost use Rattle.std.specs.Prelude.{◌≡◌, ℕ, List, [], ◌++◌, length};
 ghost use Rattle.hmac_plain.specs.Held.{HoldsHmac};
 ghost use Rattle.hmac_plain.specs.Hmac.{hmac_sha256, hmac_sha512};
 ghost use Rattle.hmac_plain.specs.Lengths.{length-hmac_sha256, length-hmac_sha512};
+ghost use Rattle.hmac_sha1.specs.Held.{HoldsHmacSha1};
+ghost use Rattle.hmac_sha1.specs.Hmac.{hmac_sha1};
+ghost use Rattle.hmac_sha1.specs.Lengths.{length-hmac_sha1};
 ghost use Rattle.sha2.specs.Hashers.{Holds256, Holds512};
 ghost use Rattle.sha2.specs.Sha256.{sha256};
 ghost use Rattle.sha2.specs.Sha512.{sha512};
 
 use hmac_plain::{HmacSha256, HmacSha512};
+use hmac_sha1::HmacSha1;
 
 /// A message under a key, to which more can be added, and its code of `N` bytes.
 pub(crate) trait Prf<const N: usize>: Drop {
@@ -90,6 +94,34 @@ impl Prf<64> for HmacSha512 {
 
     #[inline(always)]
     fn finish(self) -> [u8; 64] {
+        self.finalize()
+    }
+}
+
+impl Prf<20> for HmacSha1 {
+    ghost code = { hmac_sha1 };
+
+    ghost holds = { λ s key text. HoldsHmacSha1 s key text };
+
+    ghost long = { length-hmac_sha1 };
+
+    #[inline(always)]
+    fn keyed(key: &[u8]) -> HmacSha1 {
+        HmacSha1::new(key)
+    }
+
+    #[inline(always)]
+    fn feed(&mut self, piece: &[u8]) {
+        self.update(piece);
+    }
+
+    #[inline(always)]
+    fn copy(&self) -> HmacSha1 {
+        self.copy()
+    }
+
+    #[inline(always)]
+    fn finish(self) -> [u8; 20] {
         self.finalize()
     }
 }

@@ -5,7 +5,7 @@ ghost use Rattle.phc_kdf.specs.Numbers.{number};
 ghost use Rattle.pbkdf2_key.specs.Lengths.{length-pbkdf2_key};
 ghost use Rattle.pbkdf2_key.specs.Profile.{are_params, are_rounds, identifier, is_number, pbkdf2_accepts, pbkdf2_key, pbkdf2_with, rounds_of};
 
-use crate::{pbkdf2_sha256, pbkdf2_sha512};
+use crate::{pbkdf2_sha1, pbkdf2_sha256, pbkdf2_sha512};
 use phc::{ParamsString, PasswordHash};
 use phc_kdf::PhcKdf;
 use std::alloc::{AllocError, Global};
@@ -15,16 +15,19 @@ use std::alloc::{AllocError, Global};
 pub enum Pbkdf2Hash {
     Sha256,
     Sha512,
+    /// For records that wait for migration.
+    Sha1,
 }
 
 impl Pbkdf2Hash {
-    /// The identifier of its records: `pbkdf2-sha256` or `pbkdf2-sha512`.
+    /// The identifier of its records: `pbkdf2-sha256`, `pbkdf2-sha512` or `pbkdf2-sha1`.
     pub fn identifier(self) -> &'static str
         ensures identifier { result.now ≡ identifier self }
     {
         match self {
             Pbkdf2Hash::Sha256 => "pbkdf2-sha256",
             Pbkdf2Hash::Sha512 => "pbkdf2-sha512",
+            Pbkdf2Hash::Sha1 => "pbkdf2-sha1",
         }
     }
 }
@@ -33,7 +36,7 @@ impl Pbkdf2Hash {
 ///
 /// It takes a record exactly where its identifier is that of the hash function, it has no version, its parameters are `i`,
 /// once, and `l`, at most once, in any order, each a decimal, `i` is 1 to 10,000,000, `l` is the length of the hash, and
-/// the hash has 10 to 64 bytes. Its key is that of [`pbkdf2_sha256`] or of [`pbkdf2_sha512`] after `i` rounds. It never
+/// the hash has 10 to 64 bytes. Its key is that of [`pbkdf2_sha256`], [`pbkdf2_sha512`] or [`pbkdf2_sha1`] after `i` rounds. It never
 /// needs memory. Texts that passlib writes under the same identifiers, as `$pbkdf2-sha256$29000$salt$hash`, are no such
 /// records and aren't taken.
 #[derive(Clone, Copy, Debug, PartialEq, Eq)]
@@ -109,6 +112,7 @@ fn derive_with(hash: Pbkdf2Hash, password: &[u8], salt: &[u8], rounds: u32, out:
     match hash {
         Pbkdf2Hash::Sha256 => pbkdf2_sha256(password, salt, rounds, out),
         Pbkdf2Hash::Sha512 => pbkdf2_sha512(password, salt, rounds, out),
+        Pbkdf2Hash::Sha1 => pbkdf2_sha1(password, salt, rounds, out),
     }
 }
 

@@ -7,6 +7,6 @@
 pub mod laws;
 mod run;
 
-pub use pbkdf2_key::{Pbkdf2Hash, Pbkdf2Plain, pbkdf2_sha256, pbkdf2_sha512};
+pub use pbkdf2_key::{Pbkdf2Hash, Pbkdf2Plain, pbkdf2_sha1, pbkdf2_sha256, pbkdf2_sha512};
 pub use phc_kdf::EitherKdf;
 pub use run::{run_either, run_either_limited};

@@ -6,7 +6,7 @@ use pbkdf2_plain::{Pbkdf2Hash, Pbkdf2Plain, run_either};
 use stored_check::{StoredError, check_stored};
 
 // A record of each hash function, whose password is `password`: as OpenSSL and Python's hashlib give the keys.
-const RECORDS: [(Pbkdf2Hash, &str); 2] = [
+const RECORDS: [(Pbkdf2Hash, &str); 3] = [
     (
         Pbkdf2Hash::Sha256,
         "$pbkdf2-sha256$i=1000,l=32$c2FsdHNhbHRzYWx0$sYIePhT5IXESDKvnouJXtE5pTJ6Znbmef4vViYmc9Uc",
@@ -14,6 +14,10 @@ const RECORDS: [(Pbkdf2Hash, &str); 2] = [
     (
         Pbkdf2Hash::Sha512,
         "$pbkdf2-sha512$i=999$c2FsdHNhbHRzYWx0$8N07HlNE0KGKiZaNfzRpL/X+YSDHNOkcoyz9w4RrUqWJtJVlZC6G1uFP8DIUI6WZaO/NuYT4awbld/qfm5pcTw",
+    ),
+    (
+        Pbkdf2Hash::Sha1,
+        "$pbkdf2-sha1$i=998$c2FsdHNhbHRzYWx0$gqZFs98WgVJw95yKyonam+6zC+o",
     ),
 ];
 

@@ -16,6 +16,10 @@ use Rattle.sha1_crypt.specs.declared.error.Sha1Fault.{Sha1Fault}
 use Rattle.sha1_crypt.specs.declared.error.Sha1Fault.TheVariants as of_sha1
 use Rattle.scram_plain.specs.declared.error.ScramFault.{ScramFault}
 use Rattle.scram_plain.specs.declared.error.ScramFault.TheVariants as of_scram
+use Rattle.phpass_plain.specs.declared.error.PhpassFault.{PhpassFault}
+use Rattle.phpass_plain.specs.declared.error.PhpassFault.TheVariants as of_phpass
+use Rattle.salted_digest.specs.declared.error.SaltedFault.{SaltedFault}
+use Rattle.salted_digest.specs.declared.error.SaltedFault.TheVariants as of_salted
 use Rattle.any_check.specs.declared.error.AnyError.{AnyError}
 use Rattle.any_check.specs.declared.error.AnyError.TheVariants as of_any
 use Rattle.pwcheck_c.specs.declared.answer.Answer.{Answer}
@@ -24,6 +28,7 @@ use Rattle.pwcheck_c.specs.declared.answer.Answer.TheVariants.{BcryptB64, Bcrypt
 use Rattle.pwcheck_c.specs.declared.answer.Answer.TheVariants.{Md5Format, NoScheme, ScryptCost, ScryptFormat, YescryptCost}
 use Rattle.pwcheck_c.specs.declared.answer.Answer.TheVariants.{YescryptFlavor, YescryptFormat, ZeroByte}
 use Rattle.pwcheck_c.specs.declared.answer.Answer.TheVariants.{NotAscii, ScramB64, ScramCost, ScramFormat, Sha1B64, Sha1Cost, Sha1Format}
+use Rattle.pwcheck_c.specs.declared.answer.Answer.TheVariants.{DigestB64, DigestFormat, PhpassB64, PhpassCost, PhpassFormat}
 
 -- ---- numbers
 
@@ -81,6 +86,11 @@ answers =
     ∷ ScramB64
     ∷ ScramFormat
     ∷ NotAscii
+    ∷ PhpassCost
+    ∷ PhpassB64
+    ∷ PhpassFormat
+    ∷ DigestB64
+    ∷ DigestFormat
     ∷ []
 
 -- the answer of a number, if it is one's
@@ -114,6 +124,11 @@ answer_word ScramCost = codes "scram-cost"
 answer_word ScramB64 = codes "scram-b64"
 answer_word ScramFormat = codes "scram-format"
 answer_word NotAscii = codes "not-ascii"
+answer_word PhpassCost = codes "phpass-cost"
+answer_word PhpassB64 = codes "phpass-b64"
+answer_word PhpassFormat = codes "phpass-format"
+answer_word DigestB64 = codes "digest-b64"
+answer_word DigestFormat = codes "digest-format"
 answer_word (Checked (Err of_stored.OutOfMemory)) = codes "no-memory"
 answer_word (Checked verdict) = word verdict
 
@@ -159,6 +174,19 @@ scram_cause of_scram.ServerKeyEncoding = ScramB64
 scram_cause of_scram.NotAscii = NotAscii
 scram_cause fault = ScramFormat
 
+-- a fault of a text of phpass; the last line is for the faults of its form
+abbrev pub phpass_cause : PhpassFault → Answer
+phpass_cause of_phpass.Cost = PhpassCost
+phpass_cause of_phpass.HashCharacter = PhpassB64
+phpass_cause of_phpass.SpareBits = PhpassB64
+phpass_cause fault = PhpassFormat
+
+-- a fault of a text of a salted digest; the last line is for the faults of its form
+abbrev pub salted_cause : SaltedFault → Answer
+salted_cause of_salted.SaltEncoding = DigestB64
+salted_cause of_salted.HashEncoding = DigestB64
+salted_cause fault = DigestFormat
+
 -- what `check_any` answers; the verdicts and the causes of `check_stored` keep their numbers
 abbrev pub cause_answer : Result Bool AnyError → Answer
 cause_answer (Ok b) = Checked (Ok b)
@@ -170,5 +198,7 @@ cause_answer (Err (of_any.Yescrypt fault)) = yescrypt_cause fault
 cause_answer (Err (of_any.Scrypt fault)) = scrypt_cause fault
 cause_answer (Err (of_any.Sha1 fault)) = sha1_cause fault
 cause_answer (Err (of_any.Scram fault)) = scram_cause fault
+cause_answer (Err (of_any.Phpass fault)) = phpass_cause fault
+cause_answer (Err (of_any.Salted fault)) = salted_cause fault
 cause_answer (Err of_any.ZeroByte) = ZeroByte
 cause_answer (Err of_any.TooCostly) = OverCost

@@ -2,11 +2,13 @@
 
 ghost use Rattle.std.specs.Prelude.{◌≡◌, Some};
 ghost use Rattle.std.specs.List.{slice_get};
-ghost use Rattle.pwcheck_c.specs.Answers.{answer_of, answer_word, bcrypt_cause, cause_answer, scram_cause, scrypt_cause, sha1_cause, yescrypt_cause};
+ghost use Rattle.pwcheck_c.specs.Answers.{answer_of, answer_word, bcrypt_cause, cause_answer, phpass_cause, salted_cause, scram_cause, scrypt_cause, sha1_cause, yescrypt_cause};
 
 use any_check::AnyError;
 use base64ct::Error;
 use bcrypt_plain::BcryptFault;
+use phpass_plain::PhpassFault;
+use salted_digest::SaltedFault;
 use scram_plain::ScramFault;
 use sha1_crypt::Sha1Fault;
 use stored_check::{McfFault, PhcFault, ShaFault, ShaFormat, StoredError, word};
@@ -61,11 +63,21 @@ pub enum Answer {
     ScramFormat,
     /// The password isn't ASCII, and the text of SCRAM is of prepared passwords.
     NotAscii,
+    /// The cost of phpass is none that is taken.
+    PhpassCost,
+    /// The hash of phpass is that of no digest.
+    PhpassB64,
+    /// The text of phpass has another fault.
+    PhpassFormat,
+    /// The salt or the hash of a salted digest is no Base64 with padding.
+    DigestB64,
+    /// The text of a salted digest has another fault.
+    DigestFormat,
 }
 
 /// The answers by their numbers: the verdicts, the causes of this library's own, and the others in the order in which
 /// they are found; what came later goes last.
-pub const ANSWERS: [Answer; 50] = [
+pub const ANSWERS: [Answer; 55] = [
     Answer::Checked(Ok(true)),
     Answer::Checked(Ok(false)),
     Answer::NotText,
@@ -116,6 +128,11 @@ pub const ANSWERS: [Answer; 50] = [
     Answer::ScramB64,
     Answer::ScramFormat,
     Answer::NotAscii,
+    Answer::PhpassCost,
+    Answer::PhpassB64,
+    Answer::PhpassFormat,
+    Answer::DigestB64,
+    Answer::DigestFormat,
 ];
 
 // The number of a fault of the modular crypt format.
@@ -208,6 +225,11 @@ impl Answer {
             Answer::ScramB64 => 47,
             Answer::ScramFormat => 48,
             Answer::NotAscii => 49,
+            Answer::PhpassCost => 50,
+            Answer::PhpassB64 => 51,
+            Answer::PhpassFormat => 52,
+            Answer::DigestB64 => 53,
+            Answer::DigestFormat => 54,
         }
     }
 
@@ -248,6 +270,11 @@ impl Answer {
             Answer::ScramB64 => "scram-b64",
             Answer::ScramFormat => "scram-format",
             Answer::NotAscii => "not-ascii",
+            Answer::PhpassCost => "phpass-cost",
+            Answer::PhpassB64 => "phpass-b64",
+            Answer::PhpassFormat => "phpass-format",
+            Answer::DigestB64 => "digest-b64",
+            Answer::DigestFormat => "digest-format",
             Answer::Checked(Err(StoredError::OutOfMemory)) => "no-memory",
             Answer::Checked(verdict) => word(&verdict),
         }
@@ -304,6 +331,27 @@ fn scram_cause(fault: ScramFault) -> Answer
     }
 }
 
+// The answer for a fault of a text of phpass.
+fn phpass_cause(fault: PhpassFault) -> Answer
+    ensures { result ≡ phpass_cause fault }
+{
+    match fault {
+        PhpassFault::Cost => Answer::PhpassCost,
+        PhpassFault::HashCharacter | PhpassFault::SpareBits => Answer::PhpassB64,
+        _ => Answer::PhpassFormat,
+    }
+}
+
+// The answer for a fault of a text of a salted digest.
+fn salted_cause(fault: SaltedFault) -> Answer
+    ensures { result ≡ salted_cause fault }
+{
+    match fault {
+        SaltedFault::SaltEncoding | SaltedFault::HashEncoding => Answer::DigestB64,
+        _ => Answer::DigestFormat,
+    }
+}
+
 // The answer for a fault of a text of sha1-crypt.
 fn sha1_cause(fault: Sha1Fault) -> Answer
     ensures { result ≡ sha1_cause fault }
@@ -329,6 +377,8 @@ pub fn cause_answer(answer: Result<bool, AnyError>) -> Answer
         Err(AnyError::Scrypt(fault)) => scrypt_cause(fault),
         Err(AnyError::Sha1(fault)) => sha1_cause(fault),
         Err(AnyError::Scram(fault)) => scram_cause(fault),
+        Err(AnyError::Phpass(fault)) => phpass_cause(fault),
+        Err(AnyError::Salted(fault)) => salted_cause(fault),
         Err(AnyError::ZeroByte) => Answer::ZeroByte,
         Err(AnyError::TooCostly) => Answer::OverCost,
     }

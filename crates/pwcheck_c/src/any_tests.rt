@@ -82,7 +82,7 @@ fn has_word(number: i32, word: &str) -> bool {
 
 #[test]
 fn causes_by_number(rt: HostRuntime) {
-    let rows: [(&[u8], i32, &str); 22] = [
+    let rows: [(&[u8], i32, &str); 27] = [
         (b"\xff", 2, "not-utf8"),
         (b"*", 31, "no-scheme"),
         (b"", 31, "no-scheme"),
@@ -137,6 +137,11 @@ fn causes_by_number(rt: HostRuntime) {
         (b"$scram-sha-256$0$c2FsdA==$x$x", 46, "scram-cost"),
         (b"$scram-sha-256$19$c2FsdA$x$x", 47, "scram-b64"),
         (b"$scram-sha-256$19$c2FsdA==", 48, "scram-format"),
+        (b"$P$43CSgRZlssLJbqxzpCXYPhDoROG16t0", 50, "phpass-cost"),
+        (b"$H$63CSgRZlssLJbqxzpCXYPhDoROG16t+", 51, "phpass-b64"),
+        (b"$P$63CSgRZlssLJ", 52, "phpass-format"),
+        (b"$ssha$c2FsdA$x", 53, "digest-b64"),
+        (b"$smd5$c2FsdA==", 54, "digest-format"),
     ];
     for (stored, number, word) in rows {
         let got = pwcheck_check_any(rt.alloc(), b"secret", stored, &NONE);

@@ -51,7 +51,8 @@ scheme, its costs and a judgement, with tabs between them: ok, weak (with what i
 (the text begins with * or !), empty, unsupported (pwtool has no verdict on it; with the name of
 its form), invalid (it has a fault), badline (no user) or toolong. After the rows comes how many
 there are of each. With --from ldif the file is a dump of a directory: each userPassword of an entry
-is a line, whose user is the first uid of the entry, or else its dn. md5-crypt and sha1-crypt are weak in any case. A control character of a user is shown as ?, in
+is a line, whose user is the first uid of the entry, or else its dn. md5-crypt, sha1-crypt, phpass,
+salted-digest and pbkdf2-sha1 are weak in any case. A control character of a user is shown as ?, in
 JSON as an escape. Status 0 is for accounts that are ok or locked, 1 for some other;
 pwtool --help has the rest.";
 

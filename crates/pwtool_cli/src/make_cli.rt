@@ -26,9 +26,9 @@ What the numbers may be:
   bcrypt         cost 4 to 31
   pbkdf2-sha256, pbkdf2-sha512   rounds 1 to 10000000
   sha512-crypt, sha256-crypt     rounds 1000 to 999999999
-No text of md5-crypt and of sha1-crypt is made, and none of an empty password without --empty. The
-kit of this program can't keep a terminal from showing what is typed, so it reads none, unless
---echo is given.
+No text of md5-crypt, sha1-crypt, phpass, salted-digest and pbkdf2-sha1 is made, and none of an empty
+password without --empty. The kit of this program can't keep a terminal from showing what is typed,
+so it reads none, unless --echo is given.
 To type a password unseen:
   (trap 'stty echo' EXIT INT; stty -echo; head -n 1) | pwtool make yescrypt
 Status 0: the text is written; 1: no text is made of the line; pwtool --help has the rest.";

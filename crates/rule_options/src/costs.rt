@@ -31,7 +31,7 @@ fn costs() -> [CostOption; 12] {
             1_000,
             4_294_967_295,
         ),
-        cost("max-bcrypt-cost", "bcrypt: cost, 4 to 31", 4, 31),
+        cost("max-bcrypt-cost", "bcrypt, phpass: cost, 4 to 31", 4, 31),
         cost("max-yescrypt-ln", "yescrypt: log2 of N, 2 to 23", 2, 23),
         cost("max-yescrypt-r", "yescrypt: r, 1 to 524287", 1, 524_287),
         cost("max-yescrypt-t", "yescrypt: t, 0 to 1024", 0, 1_024),

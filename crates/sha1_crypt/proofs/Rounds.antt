@@ -5,11 +5,11 @@ use Rattle.std.specs.Int.{w32, to_be_bytes}
 use Rattle.base64ct.specs.Encoding.{EachBelow}
 use Rattle.base64ct.proofs.GoodBlocks.{below-append}
 use Rattle.hmac_plain.specs.Hmac.{hmac}
-use Rattle.hmac_plain.specs.Lengths.{length-hmac}
+use Rattle.hmac_sha1.specs.Hmac.{hmac_sha1}
+use Rattle.hmac_sha1.specs.Lengths.{length-hmac_sha1}
 use Rattle.pieces.proofs.NumberBytes.{high_first}
 use Rattle.sha1.specs.Sha1.{digest_bytes, sha1}
-use Rattle.sha1_crypt.specs.Digest.{after_rounds, first_message, hmac_sha1, sha1_digest}
-use Rattle.sha1_crypt.specs.Fits.{length-sha1}
+use Rattle.sha1_crypt.specs.Digest.{after_rounds, first_message, sha1_digest}
 
 pub one_round : (password message : List ℕ) → hmac_sha1 password message ≡ after_rounds password message 1
 unfolding after_rounds
@@ -45,7 +45,7 @@ unfolding after_rounds
 after_some password message zero some = absurd (omega (arith, some))
 after_some password message (suc n) some =
     let before : List ℕ = after_rounds password message n in
-    record { long = length-hmac sha1 64 20 length-sha1 password before; below = hmac_below password before }
+    record { long = length-hmac_sha1 password before; below = hmac_below password before }
 
 pub is_digest : (password salt : List ℕ) (rounds : ℕ) → 1 ≤ rounds → IsDigest (sha1_digest password salt rounds)
 unfolding sha1_digest

@@ -5,15 +5,8 @@ use Rattle.base64ct.specs.Encoding.{encoding, whole_bytes, groups, bits, sixes, 
 use Rattle.hmac_plain.specs.Hmac.{hmac}
 use Rattle.sha1.specs.Sha1.{sha1, digest_bytes, hash_after, compress, rounds, schedule, first_words}
 use Rattle.sha_crypt.specs.HashField.{hash_field}
-use Rattle.sha1_crypt.specs.Digest.{after_rounds, hmac_sha1, sha1_digest}
+use Rattle.sha1_crypt.specs.Digest.{after_rounds, sha1_digest}
 use Rattle.sha1_crypt.specs.Field.{sha1_field}
-
--- RFC 2202, test case 2 of HMAC-SHA-1
-short_key : hmac_sha1 (codes "Jefe") (codes "what do ya want for nothing?")
-    ≡ 0xef ∷ 0xfc ∷ 0xdf ∷ 0x6a ∷ 0xe5 ∷ 0xeb ∷ 0x2f ∷ 0xa2 ∷ 0xd2 ∷ 0x74 ∷ 0x16 ∷ 0xd5 ∷ 0xf1 ∷ 0x84 ∷ 0xdf ∷ 0x9c
-    ∷ 0x25 ∷ 0x9a ∷ 0x7c ∷ 0x79 ∷ []
-unfolding hmac sha1 digest_bytes hash_after compress rounds schedule first_words
-short_key = refl
 
 -- two rounds: the bytes are those of Python's hmac, and libxcrypt's crypt writes them in the text `$sha1$2$s$` of `pw` as below
 two_rounds : sha1_digest (codes "pw") (codes "s") 2

@@ -2,12 +2,7 @@
 -- 'sha1crypt'): HMAC (RFC 2104) over SHA-1 (RFC 3174, FIPS 180-4) with the password as key, again and again.
 use Rattle.std.specs.Prelude.{ℕ, zero, suc, List, ◌++◌, codes}
 use Rattle.std.specs.Fmt.{decimal}
-use Rattle.sha1.specs.Sha1.{sha1}
-use Rattle.hmac_plain.specs.Hmac.{hmac}
-
--- HMAC-SHA-1, whose hash function works on blocks of 64 bytes
-abbrev pub hmac_sha1 : List ℕ → List ℕ → List ℕ
-hmac_sha1 = hmac sha1 64
+use Rattle.hmac_sha1.specs.Hmac.{hmac_sha1}
 
 -- the message of the first code: the salt, `$sha1$`, and the rounds in decimal digits
 abbrev pub first_message : List ℕ → ℕ → List ℕ

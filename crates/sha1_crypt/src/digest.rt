@@ -2,10 +2,11 @@
 
 ghost use Rattle.std.specs.Prelude.{◌≡◌, ◌≤◌, ℕ, List, [], ◌++◌};
 ghost use Rattle.std.specs.Fmt.{decimal};
-ghost use Rattle.sha1_crypt.specs.Digest.{first_message, hmac_sha1, sha1_digest};
-ghost use Rattle.sha1_crypt.specs.Held.{HoldsKeyed};
+ghost use Rattle.hmac_sha1.specs.Held.{HoldsHmacSha1};
+ghost use Rattle.hmac_sha1.specs.Hmac.{hmac_sha1};
+ghost use Rattle.sha1_crypt.specs.Digest.{first_message, sha1_digest};
 
-use crate::hasher::HmacSha1;
+use hmac_sha1::HmacSha1;
 use pieces::short_bytes::ShortBytes;
 
 // A number in decimal digits.
@@ -20,7 +21,7 @@ fn decimal_text(n: u32) -> ShortBytes<20>
 // The code of a message, which is added to what `keyed` holds.
 #[inline(always)]
 fn code_of(keyed: &HmacSha1, message: &[u8]) -> [u8; 20]
-    ensures { (password : List ℕ) → HoldsKeyed keyed.now password []
+    ensures { (password : List ℕ) → HoldsHmacSha1 keyed.now password []
         → result ≡ hmac_sha1 password message.now }
 {
     let mut state = keyed.copy();
@@ -30,7 +31,7 @@ fn code_of(keyed: &HmacSha1, message: &[u8]) -> [u8; 20]
 
 // The code of the first message.
 fn first_code(keyed: &HmacSha1, salt: &[u8], rounds: u32) -> [u8; 20]
-    ensures { (password : List ℕ) → HoldsKeyed keyed.now password []
+    ensures { (password : List ℕ) → HoldsHmacSha1 keyed.now password []
         → result ≡ hmac_sha1 password (first_message salt.now rounds) }
 {
     let mut state = keyed.copy();

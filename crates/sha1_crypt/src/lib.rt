@@ -13,7 +13,6 @@ mod compare;
 mod digest;
 mod error;
 mod field;
-mod hasher;
 pub mod laws;
 mod text;
 

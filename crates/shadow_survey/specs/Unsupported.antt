@@ -30,8 +30,7 @@ row of.GostYescrypt = form (codes "gost-yescrypt") (codes "$gy$")
 row of.Sm3crypt = form (codes "sm3crypt") (codes "$sm3$")
 row of.Sm3Yescrypt = form (codes "sm3-yescrypt") (codes "$sm3y$")
 -- the documentation of passlib
-row of.Phpass = either (codes "phpass") (codes "$P$") (codes "$H$")
-row of.Pbkdf2Sha1 = either (codes "pbkdf2-sha1") (codes "$pbkdf2$") (codes "unsupported-pbkdf2-sha1")
+row of.PasslibPbkdf2 = form (codes "passlib $pbkdf2$") (codes "$pbkdf2$")
 row of.Scram = either (codes "scram") (codes "$scram$") (codes "unsupported-scram")
 -- slapd-passwd(5) of OpenLDAP; htpasswd(1) has {SHA} too
 row of.LdapSha = either (codes "ldap {SHA}") (codes "{SHA}") (codes "{sha}")
@@ -56,7 +55,7 @@ row of.Unknown = form (codes "clear text or unknown") []
 abbrev pub forms : List UnsupportedForm
 forms =
     of.Descrypt ∷ of.Bsdicrypt ∷ of.Nt ∷ of.Sunmd5 ∷ of.GostYescrypt ∷ of.Sm3crypt ∷ of.Sm3Yescrypt
-    ∷ of.Phpass ∷ of.Pbkdf2Sha1 ∷ of.Scram ∷ of.LdapSha ∷ of.LdapSsha ∷ of.LdapMd5 ∷ of.LdapSmd5 ∷ of.Ldap ∷ of.Sha1 ∷ of.Md5 ∷ of.Sha2 ∷ of.ClearText ∷ of.Another ∷ of.Faulty ∷ of.MysqlNative
+    ∷ of.PasslibPbkdf2 ∷ of.Scram ∷ of.LdapSha ∷ of.LdapSsha ∷ of.LdapMd5 ∷ of.LdapSmd5 ∷ of.Ldap ∷ of.Sha1 ∷ of.Md5 ∷ of.Sha2 ∷ of.ClearText ∷ of.Another ∷ of.Faulty ∷ of.MysqlNative
     ∷ of.Unknown ∷ []
 
 -- the place of a form among them
@@ -68,22 +67,21 @@ place of.Sunmd5 = 3
 place of.GostYescrypt = 4
 place of.Sm3crypt = 5
 place of.Sm3Yescrypt = 6
-place of.Phpass = 7
-place of.Pbkdf2Sha1 = 8
-place of.Scram = 9
-place of.LdapSha = 10
-place of.LdapSsha = 11
-place of.LdapMd5 = 12
-place of.LdapSmd5 = 13
-place of.Ldap = 14
-place of.Sha1 = 15
-place of.Md5 = 16
-place of.Sha2 = 17
-place of.ClearText = 18
-place of.Another = 19
-place of.Faulty = 20
-place of.MysqlNative = 21
-place of.Unknown = 22
+place of.PasslibPbkdf2 = 7
+place of.Scram = 8
+place of.LdapSha = 9
+place of.LdapSsha = 10
+place of.LdapMd5 = 11
+place of.LdapSmd5 = 12
+place of.Ldap = 13
+place of.Sha1 = 14
+place of.Md5 = 15
+place of.Sha2 = 16
+place of.ClearText = 17
+place of.Another = 18
+place of.Faulty = 19
+place of.MysqlNative = 20
+place of.Unknown = 21
 
 -- ---- which form a text has
 

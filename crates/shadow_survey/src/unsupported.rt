@@ -24,10 +24,8 @@ pub enum UnsupportedForm {
     Sm3crypt,
     /// yescrypt with SM3, `$sm3y$` (crypt(5)).
     Sm3Yescrypt,
-    /// phpass' own form, `$P$` and `$H$` (passlib).
-    Phpass,
-    /// PBKDF2 with SHA-1, `$pbkdf2$` (passlib).
-    Pbkdf2Sha1,
+    /// PBKDF2 with SHA-1 in passlib's form, `$pbkdf2$`, which a converter reads.
+    PasslibPbkdf2,
     /// SCRAM, `$scram$` (passlib).
     Scram,
     /// `{SHA}` (slapd-passwd(5), htpasswd(1)).
@@ -59,7 +57,7 @@ pub enum UnsupportedForm {
 }
 
 /// How many forms there are.
-pub(crate) const FORM_COUNT: usize = 23;
+pub(crate) const FORM_COUNT: usize = 22;
 
 // The forms, in the order in which they are tried and told.
 const FORMS: [UnsupportedForm; FORM_COUNT] = [
@@ -70,8 +68,7 @@ const FORMS: [UnsupportedForm; FORM_COUNT] = [
     UnsupportedForm::GostYescrypt,
     UnsupportedForm::Sm3crypt,
     UnsupportedForm::Sm3Yescrypt,
-    UnsupportedForm::Phpass,
-    UnsupportedForm::Pbkdf2Sha1,
+    UnsupportedForm::PasslibPbkdf2,
     UnsupportedForm::Scram,
     UnsupportedForm::LdapSha,
     UnsupportedForm::LdapSsha,
@@ -141,8 +138,7 @@ impl UnsupportedForm {
             UnsupportedForm::GostYescrypt => ("gost-yescrypt", "$gy$", "$gy$"),
             UnsupportedForm::Sm3crypt => ("sm3crypt", "$sm3$", "$sm3$"),
             UnsupportedForm::Sm3Yescrypt => ("sm3-yescrypt", "$sm3y$", "$sm3y$"),
-            UnsupportedForm::Phpass => ("phpass", "$P$", "$H$"),
-            UnsupportedForm::Pbkdf2Sha1 => ("pbkdf2-sha1", "$pbkdf2$", "unsupported-pbkdf2-sha1"),
+            UnsupportedForm::PasslibPbkdf2 => ("passlib $pbkdf2$", "$pbkdf2$", "$pbkdf2$"),
             UnsupportedForm::Scram => ("scram", "$scram$", "unsupported-scram"),
             UnsupportedForm::LdapSha => ("ldap {SHA}", "{SHA}", "{sha}"),
             UnsupportedForm::LdapSsha => ("ldap {SSHA}", "{SSHA}", "{ssha}"),

@@ -21,7 +21,7 @@ const LEAST: LeastCosts = LeastCosts {
 };
 
 // Texts of other programs, as any_check's tests have them, with their row behind the user.
-const ROWS: [(&str, &str); 37] = [
+const ROWS: [(&str, &str); 43] = [
     (
         "$1$abcdefgh$cHJi5PXp/ki/ktXzqlk6I1",
         "md5-crypt\t-\tweak: md5-crypt",
@@ -92,6 +92,23 @@ const ROWS: [(&str, &str); 37] = [
         "-\t-\tinvalid",
     ),
     (
+        "$P$63CSgRZlssLJbqxzpCXYPhDoROG16t0",
+        "phpass\tcost=8\tweak: phpass",
+    ),
+    (
+        "$H$5abcdefghRQTwXLGkACWdXkqlmTP.k1",
+        "phpass\tcost=7\tweak: phpass",
+    ),
+    ("$P$43CSgRZlssLJbqxzpCXYPhDoROG16t0", "-\t-\tinvalid"),
+    (
+        "$ssha$kYts+A==$N/O7ZPYFWQ9QtdpxAglBt23rONc=",
+        "salted-digest\t-\tweak: salted-digest",
+    ),
+    (
+        "$ssha$kYts+A==$N/O7ZPYFWQ9QtdpxAglBt23rONd=",
+        "-\t-\tinvalid",
+    ),
+    (
         "$scrypt$ln=4,r=8,p=1$c2FsdHNhbHRzYWx0$09/untC+3Bg44eiJQ8bqhTXgE2ali+ykLaojkJZlF9U",
         "scrypt\tln=4,r=8,p=1\tweak: p=1 over 16 KiB",
     ),
@@ -107,6 +124,10 @@ const ROWS: [(&str, &str); 37] = [
     (
         "$pbkdf2-sha512$i=998$c2FsdHNhbHRzYWx0$KGIXG/2o3jbqSZNSZvJ6I0r4Q8AhB9qftXcOZhJNT3mp5TBLniPbd+oMu9Yo/NZZyvx2xM6wz80XIb2DRB0Geg",
         "pbkdf2-sha512\trounds=998\tweak: 998 rounds",
+    ),
+    (
+        "$pbkdf2-sha1$i=998$c2FsdHNhbHRzYWx0$dfthYyTIsPBB/GS86Ihv/tqCRr0",
+        "pbkdf2-sha1\trounds=998\tweak: pbkdf2-sha1",
     ),
     (
         "$argon2id$v=19$m=64,t=1,p=1$c2FsdHNhbHRzYWx0$Sm3MnLdCFk0Af+croKgebRoqqmhbKd88iiW3yUOXn78",
@@ -306,9 +327,9 @@ fn numbers_as_numbers(rt: HostRuntime) -> Result<(), Fail> {
     Ok(())
 }
 
-// Texts of `secret` that libxcrypt 4.4.33 (`crypt`), passlib 1.7.4 and phpass' form of it make, and shapes of those that
-// neither makes, with their form.
-const FORMS: [(&str, UnsupportedForm, &str); 31] = [
+// Texts of `secret` that libxcrypt 4.4.33 (`crypt`) and passlib 1.7.4 make, and shapes of those that neither makes, with their
+// form.
+const FORMS: [(&str, UnsupportedForm, &str); 28] = [
     (
         "*14E65567ABDB5135D0CFD9A70B3032C179A49EE7",
         UnsupportedForm::MysqlNative,
@@ -353,24 +374,9 @@ const FORMS: [(&str, UnsupportedForm, &str); 31] = [
         "sm3-yescrypt",
     ),
     (
-        "$P$6XoURWQxCkhkHhRVPCpro.6nTk2alE/",
-        UnsupportedForm::Phpass,
-        "phpass",
-    ),
-    (
-        "$H$6IWVjS43Lh/tjrTLy3sQt1i7cKhnE4/",
-        UnsupportedForm::Phpass,
-        "phpass",
-    ),
-    (
         "$pbkdf2$20$cq61lvJey1kLodTam7NWCg$x37x/kfK1wss1PY/3KUJIAzZXi8",
-        UnsupportedForm::Pbkdf2Sha1,
-        "pbkdf2-sha1",
-    ),
-    (
-        "unsupported-pbkdf2-sha1",
-        UnsupportedForm::Pbkdf2Sha1,
-        "pbkdf2-sha1",
+        UnsupportedForm::PasslibPbkdf2,
+        "passlib $pbkdf2$",
     ),
     (
         "$scram$20$wphTqrV27j0n5Lz3$sha-1=1yYoMMMw366",

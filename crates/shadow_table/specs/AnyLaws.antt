@@ -38,7 +38,7 @@ use Rattle.any_check.specs.declared.error.AnyError.{AnyError}
 use Rattle.any_check.specs.declared.error.AnyError.TheVariants.{Stored}
 use Rattle.scheme_list.specs.declared.schemes.Scheme.{Scheme}
 use Rattle.scheme_list.specs.declared.schemes.Scheme.TheVariants.{Argon2d, Argon2i, Argon2id, Pbkdf2Sha256}
-use Rattle.scheme_list.specs.declared.schemes.Scheme.TheVariants.{Pbkdf2Sha512, Scrypt, ScryptCrypt, Yescrypt}
+use Rattle.scheme_list.specs.declared.schemes.Scheme.TheVariants.{Pbkdf2Sha1, Pbkdf2Sha512, Scrypt, ScryptCrypt, Yescrypt}
 use Rattle.pw_file.specs.Policy.{IsFresh, IsLawful}
 use Rattle.shadow_table.specs.AnyTexts.{any_texts}
 use Rattle.shadow_table.specs.Rules.{bytes_of_salt, fault_of_salt, fresh_text, is_put, is_too_costly, keeps, keeps_beside, text_made}
@@ -272,6 +272,7 @@ row_judged password text (Some ScryptCrypt) h = scrypt_judged password text h
 row_judged password text (Some Scrypt) h = record_judged password text h
 row_judged password text (Some Pbkdf2Sha256) h = record_judged password text h
 row_judged password text (Some Pbkdf2Sha512) h = record_judged password text h
+row_judged password text (Some Pbkdf2Sha1) h = record_judged password text h
 row_judged password text (Some Argon2d) h = record_judged password text h
 row_judged password text (Some Argon2i) h = record_judged password text h
 row_judged password text (Some Argon2id) h = record_judged password text h

@@ -2,7 +2,9 @@ use Rattle.std.proofs.Common.{rules, ◌≡◌, ◌∙◌, ℕ, List, true, Some
 use Rattle.sha_crypt.specs.declared.errors.Family.TheVariants.{Sha256, Sha512}
 use Rattle.scram_plain.specs.Check.{scram_answer}
 use Rattle.sha1_crypt.specs.Check.{sha1_answer}
-use Rattle.any_check.specs.Table.{is_record, of_bcrypt_check, of_scram, of_scrypt_check, of_sha1, of_yescrypt_check}
+use Rattle.phpass_plain.specs.Check.{phpass_answer}
+use Rattle.salted_digest.specs.Check.{salted_answer}
+use Rattle.any_check.specs.Table.{is_record, of_bcrypt_check, of_phpass, of_salted, of_scram, of_scrypt_check, of_sha1, of_yescrypt_check}
 use Rattle.any_check.proofs.Rows.{record_row, sha_row}
 use Rattle.any_check.proofs.check.checked.Goals as goal
 
@@ -44,6 +46,18 @@ returns-in-Scram g c =
     rw (c.in-Scram.is, c.of_scram.ensures)
     (inl (ap of_scram
     (c.scram_check.ensures.answer ∙ ap (λ (p : List ℕ). scram_answer p c.args.stored.now) c.as_bytes-in-Scram.ensures.value)))
+
+pub returns-in-Phpass : goal.returns-in-Phpass
+returns-in-Phpass g c =
+    rw (c.in-Phpass.is, c.of_phpass.ensures)
+    (inl (ap of_phpass
+    (c.phpass_check.ensures.answer ∙ ap (λ (p : List ℕ). phpass_answer p c.args.stored.now) c.as_bytes-in-Phpass.ensures.value)))
+
+pub returns-in-SaltedDigest : goal.returns-in-SaltedDigest
+returns-in-SaltedDigest g c =
+    rw (c.in-SaltedDigest.is, c.of_salted.ensures)
+    (inl (ap of_salted
+    (c.salted_check.ensures.answer ∙ ap (λ (p : List ℕ). salted_answer p c.args.stored.now) c.as_bytes-in-SaltedDigest.ensures.value)))
 
 pub returns-in-Sha256Crypt : goal.returns-in-Sha256Crypt
 returns-in-Sha256Crypt g c = elim c.in-Sha256Crypt.is [

@@ -1,6 +1,6 @@
 use Rattle.std.proofs.Common.{[], ◌++◌, ap, ◌∙◌, List, ℕ}
 use Rattle.std.specs.Prelude.{codes}
-use Rattle.sha1_crypt.specs.Digest.{hmac_sha1}
+use Rattle.hmac_sha1.specs.Hmac.{hmac_sha1}
 use Rattle.sha1_crypt.proofs.digest.first_code.Goals as goal
 
 pub returns : goal.returns

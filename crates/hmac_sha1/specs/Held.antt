@@ -3,12 +3,12 @@ use Rattle.std.specs.Prelude.{ℕ, List}
 use Rattle.hmac_plain.specs.Held.{HoldsHmac}
 use Rattle.hmac_plain.specs.declared.code.Hmac.{Hmac}
 use Rattle.sha1.specs.Sha1.{Holds, sha1}
-use Rattle.sha1_crypt.specs.declared.hasher.Sha1Hasher.{Sha1Hasher}
+use Rattle.hmac_sha1.specs.declared.hasher.Sha1Hasher.{Sha1Hasher}
 
 -- the hasher has taken in this message
 abbrev pub HoldsSha1 : Sha1Hasher → List ℕ → Type 0
 HoldsSha1 s m = Holds s.state m
 
 -- the two hashers of HMAC-SHA-1 have taken in this key and this text
-abbrev pub HoldsKeyed : Hmac 64 20 Sha1Hasher → List ℕ → List ℕ → Type 0
-HoldsKeyed s key text = HoldsHmac sha1 64 HoldsSha1 s key text
+abbrev pub HoldsHmacSha1 : Hmac 64 20 Sha1Hasher → List ℕ → List ℕ → Type 0
+HoldsHmacSha1 s key text = HoldsHmac sha1 64 HoldsSha1 s key text

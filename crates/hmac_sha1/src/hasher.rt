@@ -1,20 +1,17 @@
 //! SHA-1 as a hash function for HMAC.
 
 ghost use Rattle.sha1.specs.Sha1.{sha1};
-ghost use Rattle.sha1_crypt.specs.Fits.{fits_20, length-sha1, small_64};
-ghost use Rattle.sha1_crypt.specs.Held.{HoldsSha1};
+ghost use Rattle.hmac_sha1.specs.Fits.{fits_20, length-sha1, small_64};
+ghost use Rattle.hmac_sha1.specs.Held.{HoldsSha1};
 
-use hmac_plain::{HashFunction, Hmac};
+use hmac_plain::HashFunction;
 use sha1::Sha1;
 
 /// A hasher of SHA-1. It is a type of this crate, since an implementation of another crate's trait has to name one.
 #[derive(Drop)]
-pub(crate) struct Sha1Hasher {
+pub struct Sha1Hasher {
     state: Sha1,
 }
-
-/// HMAC over SHA-1.
-pub(crate) type HmacSha1 = Hmac<64, 20, Sha1Hasher>;
 
 impl HashFunction<64, 20> for Sha1Hasher {
     ghost hash = { sha1 };
