@@ -6,8 +6,7 @@ use Rattle.std.proofs.lemmas.Bool.Decides.{nat_tests}
 use Rattle.base64ct.specs.Alphabets.{base64}
 use Rattle.base64ct.specs.Encoding.{EachBelow, encoding}
 use Rattle.mcf.specs.Grammar.{parts_of_pieces}
-use Rattle.pieces.specs.Pieces.{LacksByte, pieces_at}
-use Rattle.pieces.proofs.ByteTests.{is_not, lacks}
+use Rattle.pieces.specs.Pieces.{pieces_at}
 use Rattle.pieces.proofs.Cuts.{cut_joined, lacks_none}
 use Rattle.salted_digest.specs.Check.{IsSalt, answer_by, salted_answer}
 use Rattle.salted_digest.specs.Digest.{digest_size, salted_digest}
@@ -16,6 +15,7 @@ use Rattle.salted_digest.specs.declared.error.SaltedFault.{SaltedFault}
 use Rattle.salted_digest.specs.declared.hash.DigestHash.{DigestHash}
 use Rattle.salted_digest.specs.declared.hash.DigestHash.TheVariants.{Md5, Sha1, Sha256, Sha512}
 use Rattle.salted_digest.proofs.Encoded.{written_lacks}
+use Rattle.salted_digest.proofs.Texts.{identifier_lacks}
 use Rattle.scheme_list.specs.Schemes.{scheme_named}
 use Rattle.scheme_list.specs.declared.schemes.Scheme.{Scheme}
 use Rattle.scheme_list.specs.declared.schemes.Scheme.TheVariants.{SaltedDigest}
@@ -25,12 +25,6 @@ use Rattle.foreign_text.specs.Digests.{digest_text}
 use Rattle.foreign_text.proofs.Digested.{digest_read_again}
 
 -- ---- the scheme
-
-identifier_lacks : (hash : DigestHash) → LacksByte 36 (identifier hash)
-identifier_lacks Md5 = lacks (is_not 36) 36 refl (identifier Md5) refl
-identifier_lacks Sha1 = lacks (is_not 36) 36 refl (identifier Sha1) refl
-identifier_lacks Sha256 = lacks (is_not 36) 36 refl (identifier Sha256) refl
-identifier_lacks Sha512 = lacks (is_not 36) 36 refl (identifier Sha512) refl
 
 named : (hash : DigestHash) → scheme_named (identifier hash) ≡ Some SaltedDigest
 named Md5 = refl

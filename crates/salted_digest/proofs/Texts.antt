@@ -120,7 +120,7 @@ parts_joined text p h = by_text text (text_fields text) p refl h
 
 -- ---- a text is read back
 
-identifier_lacks : (hash : DigestHash) → LacksByte 36 (identifier hash)
+pub identifier_lacks : (hash : DigestHash) → LacksByte 36 (identifier hash)
 identifier_lacks Md5 = lacks (is_not 36) 36 refl (identifier Md5) refl
 identifier_lacks Sha1 = lacks (is_not 36) 36 refl (identifier Sha1) refl
 identifier_lacks Sha256 = lacks (is_not 36) 36 refl (identifier Sha256) refl

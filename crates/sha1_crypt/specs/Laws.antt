@@ -2,7 +2,6 @@
 use Rattle.std.specs.Prelude.{◌≡◌, ◌↔◌, ℕ, true, List, length, Ok, is_ok}
 use Rattle.base64ct.specs.Encoding.{EachBelow}
 use Rattle.sha1_crypt.specs.Check.{IsHashText, sha1_answer, text_of}
-use Rattle.sha1_crypt.specs.Digest.{sha1_digest}
 use Rattle.sha1_crypt.specs.Field.{sha1_field}
 use Rattle.sha1_crypt.specs.Text.{Parts, text_cost, text_parts}
 

@@ -1,4 +1,4 @@
-use Rattle.std.proofs.Common.{sym, ◌∙◌, rules, arith}
+use Rattle.std.proofs.Common.{sym, ◌∙◌, arith}
 use Rattle.sha1_crypt.proofs.Fields.{answer_found, answer_none, field_length}
 use Rattle.sha1_crypt.proofs.field.decode_sha1.Goals as goal
 
