@@ -4,10 +4,12 @@
 usage: checks/dist.py      (it ends with 1 where dist/ doesn't hold together, or claims to be of these sources and differs)
 
 dist/ is made by packaging/dist.sh. Its sums are compared in any case. Where its SOURCES are those that stand here, each program that was
-built here, by `rt ci` or `rt run` or for x86-64-v3 by packaging/newer.py, and the header have to be the same bytes.
+built here, by `rt ci` or `rt run` or for x86-64-v3 by packaging/newer.py, and the header have to be the same bytes. The version of the GNU C
+library that the pages and the packages name has to be the newest that a program or a shared library asks for.
 """
 import hashlib
 import os
+import re
 import sys
 
 TOP = os.path.dirname(os.path.dirname(os.path.abspath(__file__)))
@@ -46,12 +48,25 @@ def built(name):
     return None
 
 
+NAMED = (("README.md", r"GNU C library ([0-9.]+[0-9])"), ("packaging/README.release.md", r"library ([0-9]+\.[0-9]+)"), ("packaging/deb.sh", r"libc6 \(>= ([0-9.]+)\)"))
+
+
+def other_versions(sums):
+    """The files that name another version of the GNU C library than the newest one that what is in dist/ asks for."""
+    asked = {found.decode() for name in sums for found in re.findall(rb"GLIBC_([0-9]+\.[0-9]+)", content("dist", name))}
+    newest = max(asked, key=lambda version: [int(part) for part in version.split(".")])
+    for path, pattern in NAMED:
+        named = re.findall(pattern, content(path).decode())
+        if set(named) != {newest}:
+            yield f"{path} names the GNU C library {', '.join(named) or '-'}, and dist/ asks for {newest}"
+
+
 def main():
     if not os.path.isdir(os.path.join(TOP, "dist")):
         print("dist: there is none")
         return
     sums = listed()
-    faults = list(bad_sums(sums))
+    faults = [*bad_sums(sums), *other_versions(sums)]
     if content("dist", "SOURCES").decode().strip() != checksum():
         print(f"dist: {len(sums)} files, of other sources than those here")
     else:

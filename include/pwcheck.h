@@ -256,7 +256,7 @@ struct pwcheck_limits {
 /* Checks a password against a stored text of every scheme: SHA-crypt ($5$, $6$), md5-crypt ($1$, $apr1$), bcrypt
  * ($2a$, $2b$, $2y$), bcrypt of a digest ($bcrypt-sha256$, $bcrypt-sha256-hex$, $wp$), sha1-crypt ($sha1$), SCRAM
  * ($scram-sha-256$, $scram-sha-256-raw$), phpass ($P$, $H$), a digest of a password and a salt ($smd5$, $ssha$, $ssha256$,
- * $ssha512$), yescrypt ($y$), scrypt ($7$), or a PHC record of scrypt, PBKDF2 (with SHA-256, SHA-512 or SHA-1) or
+ * $ssha512$), yescrypt ($y$), scrypt ($7$), or a PHC record of scrypt, PBKDF2 (pbkdf2-sha256, -sha512, pbkdf2-sha1) or
  * Argon2. A valid text that asks for more than a limit is answered by PWCHECK_OVER_COST, and nothing is hashed for it.
  * Compare the answer with PWCHECK_MATCH, and with nothing less. Limits whose size is no multiple of 4 from 4 to 1,024,
  * or that bound a number which this version doesn't know, are PWCHECK_OUT_OF_RANGE, and nothing is read of the text.
