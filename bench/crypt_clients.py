@@ -170,7 +170,7 @@ NO_RANDOM = r"""
 ssize_t getrandom(void *bytes, size_t count, unsigned flags)
 {
     /* Python itself draws 24 bytes as it begins. */
-    if (count > 16)
+    if (count > 20)
         return syscall(SYS_getrandom, bytes, count, flags);
     const char *given = getenv("GIVEN");
     if (given)
