@@ -152,8 +152,7 @@ const TEXTS: &[u8] =
     nobody:{SSHA384}x\n\
     \n";
 
-const JOINED: &[u8] =
-    b"ann\tmatch\nbob\tmismatch\ncarl\tno-password\neve\tmatch\nfay\tempty\n\
+const JOINED: &[u8] = b"ann\tmatch\nbob\tmismatch\ncarl\tno-password\neve\tmatch\nfay\tempty\n\
     locked\tlocked\nclear\tunsupported-cleartext\nnobody\tunsupported-sha2\nbadline\n";
 
 #[test]
