@@ -80,73 +80,75 @@ fn has_word(number: i32, word: &str) -> bool {
     n < 18 && &out[..n] == word.as_bytes() && out[n] == 0
 }
 
+// A text, the number of its cause, and the word.
+const CAUSES: &[(&[u8], i32, &str)] = &[
+    (b"\xff", 2, "not-utf8"),
+    (b"*", 31, "no-scheme"),
+    (b"", 31, "no-scheme"),
+    (b"$1$abcdefgh", 32, "md5-format"),
+    (
+        b"$2x$04$abcdefghijklmnopqrstuu2r9OfJnfCsdneAXAGHnS4UpFFP8WIrW",
+        33,
+        "bcrypt-obsolete",
+    ),
+    (
+        b"$2b$03$abcdefghijklmnopqrstuu2r9OfJnfCsdneAXAGHnS4UpFFP8WIrW",
+        34,
+        "bcrypt-cost",
+    ),
+    (
+        b"$2b$04$abcdefghijklmnopqrstuv2r9OfJnfCsdneAXAGHnS4UpFFP8WIrW",
+        35,
+        "bcrypt-b64",
+    ),
+    (
+        b"$2b$04$abcdefghijklmnopqrstuu2r9OfJnfCsdneAXAGHnS4UpFFP8WIr",
+        36,
+        "bcrypt-format",
+    ),
+    (
+        b"$y$/75$0123456789ab$kb1fsIrDP1wOa4Q3gNpxZkfwQ3ce8kmPbnemuN65IT2",
+        37,
+        "yescrypt-flavor",
+    ),
+    (
+        b"$y$jT5$0123456789ab$kb1fsIrDP1wOa4Q3gNpxZkfwQ3ce8kmPbnemuN65IT2",
+        38,
+        "yescrypt-cost",
+    ),
+    (b"$y$j75$0123456789ab", 39, "yescrypt-format"),
+    (
+        b"$7$T/..../....SodiumChloride$nlEbTww0ryKdVNlzWsYxiiWbBXRoFx2X8iNJtJTvzX.",
+        40,
+        "scrypt-cost",
+    ),
+    (b"$7$4/..../....SodiumChloride", 41, "scrypt-format"),
+    (b"$5$rounds=1$abcdefgh$x", 15, "sha-rounds"),
+    (b"$scrypt$ln=4,r=8,p=1$c2FsdHNhbHRzYWx0", 28, "no-hash"),
+    (b"!$6$abcdefgh$x", 5, "mcf-delimiter"),
+    (b"$sha1$0$salt$x", 43, "sha1-cost"),
+    (
+        b"$sha1$19$abcdefgh$nl4bYNUkvp1kTppWm6kb5cqPQqN-",
+        44,
+        "sha1-b64",
+    ),
+    (b"$sha1$19$abcdefgh", 45, "sha1-format"),
+    (b"$scram-sha-256$0$c2FsdA==$x$x", 46, "scram-cost"),
+    (b"$scram-sha-256$19$c2FsdA$x$x", 47, "scram-b64"),
+    (b"$scram-sha-256$19$c2FsdA==", 48, "scram-format"),
+    (b"$P$43CSgRZlssLJbqxzpCXYPhDoROG16t0", 50, "phpass-cost"),
+    (b"$H$63CSgRZlssLJbqxzpCXYPhDoROG16t+", 51, "phpass-b64"),
+    (b"$P$63CSgRZlssLJ", 52, "phpass-format"),
+    (b"$ssha$c2FsdA$x", 53, "digest-b64"),
+    (b"$smd5$c2FsdA==", 54, "digest-format"),
+];
+
 #[test]
 fn causes_by_number(rt: HostRuntime) {
-    let rows: [(&[u8], i32, &str); 27] = [
-        (b"\xff", 2, "not-utf8"),
-        (b"*", 31, "no-scheme"),
-        (b"", 31, "no-scheme"),
-        (b"$1$abcdefgh", 32, "md5-format"),
-        (
-            b"$2x$04$abcdefghijklmnopqrstuu2r9OfJnfCsdneAXAGHnS4UpFFP8WIrW",
-            33,
-            "bcrypt-obsolete",
-        ),
-        (
-            b"$2b$03$abcdefghijklmnopqrstuu2r9OfJnfCsdneAXAGHnS4UpFFP8WIrW",
-            34,
-            "bcrypt-cost",
-        ),
-        (
-            b"$2b$04$abcdefghijklmnopqrstuv2r9OfJnfCsdneAXAGHnS4UpFFP8WIrW",
-            35,
-            "bcrypt-b64",
-        ),
-        (
-            b"$2b$04$abcdefghijklmnopqrstuu2r9OfJnfCsdneAXAGHnS4UpFFP8WIr",
-            36,
-            "bcrypt-format",
-        ),
-        (
-            b"$y$/75$0123456789ab$kb1fsIrDP1wOa4Q3gNpxZkfwQ3ce8kmPbnemuN65IT2",
-            37,
-            "yescrypt-flavor",
-        ),
-        (
-            b"$y$jT5$0123456789ab$kb1fsIrDP1wOa4Q3gNpxZkfwQ3ce8kmPbnemuN65IT2",
-            38,
-            "yescrypt-cost",
-        ),
-        (b"$y$j75$0123456789ab", 39, "yescrypt-format"),
-        (
-            b"$7$T/..../....SodiumChloride$nlEbTww0ryKdVNlzWsYxiiWbBXRoFx2X8iNJtJTvzX.",
-            40,
-            "scrypt-cost",
-        ),
-        (b"$7$4/..../....SodiumChloride", 41, "scrypt-format"),
-        (b"$5$rounds=1$abcdefgh$x", 15, "sha-rounds"),
-        (b"$scrypt$ln=4,r=8,p=1$c2FsdHNhbHRzYWx0", 28, "no-hash"),
-        (b"!$6$abcdefgh$x", 5, "mcf-delimiter"),
-        (b"$sha1$0$salt$x", 43, "sha1-cost"),
-        (
-            b"$sha1$19$abcdefgh$nl4bYNUkvp1kTppWm6kb5cqPQqN-",
-            44,
-            "sha1-b64",
-        ),
-        (b"$sha1$19$abcdefgh", 45, "sha1-format"),
-        (b"$scram-sha-256$0$c2FsdA==$x$x", 46, "scram-cost"),
-        (b"$scram-sha-256$19$c2FsdA$x$x", 47, "scram-b64"),
-        (b"$scram-sha-256$19$c2FsdA==", 48, "scram-format"),
-        (b"$P$43CSgRZlssLJbqxzpCXYPhDoROG16t0", 50, "phpass-cost"),
-        (b"$H$63CSgRZlssLJbqxzpCXYPhDoROG16t+", 51, "phpass-b64"),
-        (b"$P$63CSgRZlssLJ", 52, "phpass-format"),
-        (b"$ssha$c2FsdA$x", 53, "digest-b64"),
-        (b"$smd5$c2FsdA==", 54, "digest-format"),
-    ];
-    for (stored, number, word) in rows {
+    for (stored, number, word) in CAUSES {
         let got = pwcheck_check_any(rt.alloc(), b"secret", stored, &NONE);
-        assert_eq!(rt; got, number, "{stored:?}");
-        assert!(rt; has_word(number, word), "{word}");
+        assert_eq!(rt; got, *number, "{stored:?}");
+        assert!(rt; has_word(*number, word), "{word}");
     }
     assert!(rt; has_word(42, "zero-byte"));
     let bcrypt = TEXTS[4].as_bytes();
