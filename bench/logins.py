@@ -118,7 +118,7 @@ def rows():
 def drawn(rows):
     """Two bars a scheme: ours, and below it that of the peer."""
     left, unit = 230, 480 / max(float(row[key]) for row in rows for key in ("ours", "theirs"))
-    parts = [text(10, 20, "The time of a login in milliseconds: shorter is faster"), text(10, 38, f"{rows[0]['machine']}; commit {rows[0]['commit']}", "small")]
+    parts = [text(10, 20, "The time of a login in milliseconds: shorter is faster"), text(10, 38, f"{rows[0]['machine']}; commit {rows[0]['commit']}; load {rows[0]['load']}", "small")]
     for place, row in enumerate(rows):
         y = 54 + 50 * place
         parts.append(text(10, y + 13, row["scheme"]))

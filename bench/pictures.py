@@ -157,7 +157,7 @@ STEPS = (
     ("password and text", "cut at the last tab", "badline, password-too-long"),
     ("scheme", "by the text's identifier: bcrypt", "no-scheme"),
     ("cost and salt", "read, and held to the bounds: cost 12", "too-costly, or a fault of the text, as bcrypt-cost"),
-    ("hash", "computed of password, cost and salt", "none: out of memory ends the run with status 5"),
+    ("hash", "computed of password, cost and salt", "zero-byte, not-ascii; out of memory ends the run (5)"),
     ("word", "the hash is compared with that of the text", "match, mismatch"),
 )
 

@@ -672,9 +672,9 @@ def imports(tool, path):
     tool.case(["table", path, "export"], "", f"ann:{MD5}\nbob:!x\ncarl:{text}\ndora:{text}\n", 0)
     with open(os.path.join(TOP, "examples/dump.ldif"), "rb") as file:
         dump = tool.file("dump", file.read())
-    tool.case(["table", path, "import", dump, "--from", "ldif"], "", "ok\nbad-command\nok\nok\nbad-command\nok\nbad-command\n", 1)
+    tool.case(["table", path, "import", dump, "--from", "ldif"], "", "ok\nok\nok\nok\nbad-command\nok\nok\n", 1)
     tool.case(["table", path], "check\tann\tcorrect horse\ncheck\tcarl\tx\ncheck\tdora\topen sesame\ncheck\tcn=replicator,dc=example,dc=com\tx\n",
-              "match\nlocked\nmatch\nno-user\n", 1)
+              "match\nlocked\nmatch\nmismatch\n", 1)
     for words in (["export", "--from", "ldap"], ["--from", "ldap"], ["export", users], ["import", users, "--from", "nobody"]):
         tool.case(["table", path, *words], "", "", 64)
 

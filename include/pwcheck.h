@@ -141,8 +141,8 @@ enum pwcheck_answer {
     PWCHECK_PHPASS_COST = 50,       /* the character of the cost of a text $P$ or $H$ is none of 5 to 9 and A to S */
     PWCHECK_PHPASS_B64 = 51,        /* the hash of a text $P$ or $H$ is that of no digest */
     PWCHECK_PHPASS_FORMAT = 52,     /* the text $P$ or $H$ has another fault */
-    PWCHECK_DIGEST_B64 = 53,        /* the salt or the hash of a text $smd5$, $ssha$, $ssha256$ or $ssha512$ is no Base64
-                                     * with padding */
+    PWCHECK_DIGEST_B64 = 53,        /* the salt of a text $smd5$, $ssha$, $ssha256$ or $ssha512$ is no Base64 with padding,
+                                     * or the hash is that of no digest */
     PWCHECK_DIGEST_FORMAT = 54      /* such a text has another fault */
 };
 

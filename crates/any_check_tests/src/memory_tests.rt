@@ -59,7 +59,7 @@ fn takes_0_requests_without_a_table(rt: HostRuntime) {
             count = count.saturating_add(1);
         }
     }
-    assert!(rt; count >= 9, "{count}");
+    assert!(rt; count == 24, "{count}");
 }
 
 #[test]

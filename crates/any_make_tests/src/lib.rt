@@ -6,4 +6,6 @@
 #[cfg(test)]
 mod memory_tests;
 #[cfg(test)]
+mod run_tests;
+#[cfg(test)]
 mod tests;

@@ -15,7 +15,7 @@ use Rattle.pwcheck_c.specs.declared.answer.Answer.TheVariants.{Checked, NotText}
 
 -- ---- a password and a stored text
 
--- the bounds by the families of `any_check`: one on PBKDF2 with either hash function
+-- the bounds by the families of `any_check`: one on PBKDF2 with each hash function
 abbrev pub bounds_of : Limits → SchemeCosts
 bounds_of l = record {
   sha_crypt = of_rounds l.sha_rounds;

@@ -69,7 +69,7 @@ pub enum Answer {
     PhpassB64,
     /// The text of phpass has another fault.
     PhpassFormat,
-    /// The salt or the hash of a salted digest is no Base64 with padding.
+    /// The salt of a salted digest is no Base64 with padding, or the hash is that of no digest.
     DigestB64,
     /// The text of a salted digest has another fault.
     DigestFormat,

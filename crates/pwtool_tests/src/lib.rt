@@ -7,4 +7,6 @@
 #[cfg(test)]
 mod form_tests;
 #[cfg(test)]
+mod tally_tests;
+#[cfg(test)]
 mod tests;

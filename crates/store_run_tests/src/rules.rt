@@ -141,13 +141,17 @@ fn upgrades_never_weaken(rt: HostRuntime) {
     }
 }
 
-// More rounds than the fresh text's, of a scheme that isn't weak by itself and of one that is.
-const ROUNDS: [(&str, &str); 2] = [
+// More rounds than the fresh text's, of a scheme that isn't weak by itself and of two that are.
+const ROUNDS: [(&str, &str); 3] = [
     (
         "$5$rounds=1500$abcdefgh$qXUmNmbLEOn5YPWvewYoPCAAHp5vzLn73xcpCUC256C",
         "kept",
     ),
     ("$sha1$19$abcdefgh$nl4bYNUkvp1kTppWm6kb5cqPQqNG", "upgraded"),
+    (
+        "$pbkdf2-sha1$i=998$c2FsdHNhbHRzYWx0$dfthYyTIsPBB/GS86Ihv/tqCRr0",
+        "upgraded",
+    ),
 ];
 
 #[test]
