@@ -137,11 +137,10 @@ def of_hashlib():
 
     for cost in ((4, 8, 1), (10, 8, 1), (8, 4, 3)):
         yield "hashlib.scrypt ln={},r={},p={}".format(*cost), VERDICT, lambda password, cost=cost: scrypt(password, *cost)
-    for name in ("sha256", "sha512"):
+    for name in ("sha1", "sha256", "sha512"):
         for rounds in (1, 1000, 20000):
             yield (f"hashlib.pbkdf2_hmac {name} i={rounds}", VERDICT,
                    lambda password, name=name, rounds=rounds: pbkdf2(name, password, rounds))
-    yield "hashlib.pbkdf2_hmac sha1", NO_SCHEME, lambda password: pbkdf2("sha1", password, 1000)
 
 
 def of_crypt():
@@ -251,6 +250,9 @@ def costs(text):
     found = re.match(r"\$2[aby]\$(\d\d)\$", text)
     if found:
         return {"--max-bcrypt-cost": int(found[1])}
+    found = re.match(r"\$bcrypt-sha256\$(?:v=2,t=2b,r=|2[ab],)(\d+)\$", text)
+    if found:
+        return {"--max-bcrypt-cost": int(found[1])}
     found = re.match(r"\$[PH]\$(.)", text)
     if found:
         return {"--max-bcrypt-cost": CHARACTERS.index(found[1])}
@@ -306,10 +308,10 @@ def of_users(folder, rows):
 
 
 def join_word(row):
-    """The word of `join`: a text that is empty or begins with `*` or `!` is not judged."""
+    """The word of `join`: a text that is empty or begins with `*` or `!` is not judged, but for MySQL 4.1's `*` and 40 hexadecimal digits."""
     if not row[2]:
         return "empty"
-    return "locked" if row[2][0] in "*!" else row[3]
+    return "locked" if row[2][0] in "*!" and not re.fullmatch(r"\*[0-9A-Fa-f]{40}", row[2]) else row[3]
 
 
 def compare(what, rows, found, wanted):
