@@ -118,7 +118,7 @@ enum pwcheck_answer {
     PWCHECK_OVER_COST = 30,         /* no verdict: the text is valid, and its cost is above the bound;
                                      * pwcheck_check_limited and pwcheck_check_any alone */
 
-    /* 31 to 49, from version 1.1 on: pwcheck_check_any alone */
+    /* 31 to 54, from version 1.1 on: pwcheck_check_any alone */
     PWCHECK_NO_SCHEME = 31,         /* no scheme has the identifier of the text */
     PWCHECK_MD5_FORMAT = 32,        /* the text of md5-crypt has a fault */
     PWCHECK_BCRYPT_OBSOLETE = 33,   /* $2$ or $2x$, which are obsolete */
@@ -137,7 +137,13 @@ enum pwcheck_answer {
     PWCHECK_SCRAM_COST = 46,        /* the rounds of a text of SCRAM are none of 1 to 4,294,967,295, plainly written */
     PWCHECK_SCRAM_B64 = 47,         /* the salt or a key of a text of SCRAM is no Base64 with padding */
     PWCHECK_SCRAM_FORMAT = 48,      /* the text of SCRAM has another fault */
-    PWCHECK_NOT_ASCII = 49          /* the password isn't ASCII, and the text of SCRAM is of prepared passwords */
+    PWCHECK_NOT_ASCII = 49,         /* the password isn't ASCII, and the text of SCRAM is of prepared passwords */
+    PWCHECK_PHPASS_COST = 50,       /* the character of the cost of a text $P$ or $H$ is none of 5 to 9 and A to S */
+    PWCHECK_PHPASS_B64 = 51,        /* the hash of a text $P$ or $H$ is that of no digest */
+    PWCHECK_PHPASS_FORMAT = 52,     /* the text $P$ or $H$ has another fault */
+    PWCHECK_DIGEST_B64 = 53,        /* the salt of a text $smd5$, $ssha$, $ssha256$ or $ssha512$ is no Base64 with padding,
+                                     * or the hash is that of no digest */
+    PWCHECK_DIGEST_FORMAT = 54      /* such a text has another fault */
 };
 
 /* What the other calls answer. */
@@ -221,11 +227,11 @@ int32_t pwcheck_check_limited(const uint8_t *password, size_t password_len, cons
 struct pwcheck_limits {
     uint32_t size;                  /* sizeof(struct pwcheck_limits) */
     uint32_t sha_rounds;            /* rounds of SHA-crypt, 1,000 to 999,999,999, and of sha1-crypt, 1 to 4,294,967,295 */
-    uint32_t bcrypt_cost;           /* cost of bcrypt, 4 to 31: 2^cost turns */
+    uint32_t bcrypt_cost;           /* cost of bcrypt, 4 to 31, and of phpass, 7 to 30: 2^cost turns */
     uint32_t yescrypt_ln;           /* yescrypt: the binary logarithm of N, 2 to 23; the table takes 128 r N bytes */
     uint32_t yescrypt_r;
     uint32_t yescrypt_t;            /* 0 to 1,024: so many turns more than the default */
-    uint32_t pbkdf2_rounds;         /* i of PBKDF2, 1 to 10,000,000 */
+    uint32_t pbkdf2_rounds;         /* i of PBKDF2, 1 to 10,000,000, and rounds of SCRAM, 1 to 4,294,967,295 */
     uint32_t scrypt_ln;             /* scrypt, of a record or of a text $7$: the table takes 128 r 2^ln bytes */
     uint32_t scrypt_r;
     uint32_t scrypt_p;
@@ -249,10 +255,12 @@ struct pwcheck_limits {
 
 /* Checks a password against a stored text of every scheme: SHA-crypt ($5$, $6$), md5-crypt ($1$, $apr1$), bcrypt
  * ($2a$, $2b$, $2y$), bcrypt of a digest ($bcrypt-sha256$, $bcrypt-sha256-hex$, $wp$), sha1-crypt ($sha1$), SCRAM
- * ($scram-sha-256$, $scram-sha-256-raw$), yescrypt ($y$), scrypt ($7$), or a PHC record of scrypt, PBKDF2 (with SHA-256 or SHA-512) or Argon2. A valid text that asks
- * for more than a limit is answered by PWCHECK_OVER_COST, and nothing is hashed for it. Compare the answer with
- * PWCHECK_MATCH, and with nothing less. Limits whose size is no multiple of 4 from 4 to 1,024, or that bound a number
- * which this version doesn't know, are PWCHECK_OUT_OF_RANGE, and nothing is read of the text. From version 1.1 on. */
+ * ($scram-sha-256$, $scram-sha-256-raw$), phpass ($P$, $H$), a digest of a password and a salt ($smd5$, $ssha$, $ssha256$,
+ * $ssha512$), yescrypt ($y$), scrypt ($7$), or a PHC record of scrypt, PBKDF2 (pbkdf2-sha256, -sha512, pbkdf2-sha1) or
+ * Argon2. A valid text that asks for more than a limit is answered by PWCHECK_OVER_COST, and nothing is hashed for it.
+ * Compare the answer with PWCHECK_MATCH, and with nothing less. Limits whose size is no multiple of 4 from 4 to 1,024,
+ * or that bound a number which this version doesn't know, are PWCHECK_OUT_OF_RANGE, and nothing is read of the text.
+ * From version 1.1 on. */
 PWCHECK_MUST_USE PWCHECK_NONNULL
 int32_t pwcheck_check_any(const uint8_t *password, size_t password_len, const uint8_t *stored, size_t stored_len,
                           const struct pwcheck_limits *limits);
