@@ -45,6 +45,10 @@ def padded(field):
     return base64_of(field, True)
 
 
+def unpadded(field):
+    return base64_of(field, False)
+
+
 def adapted(field):
     need("+" not in field, None)
     return base64_of(field.replace(".", "+"), False)
@@ -172,12 +176,26 @@ def werkzeug(text):
     return record(cost, salt, characters, key, small)
 
 
+def mattermost(rest):
+    name = rest[:7]
+    need(name in ("SHA256,", "SHA512,"), "unsupported-scheme")
+    need(rest[7:9] == "w=", "foreign-form")
+    numbers, salt, key = cut(rest[9:], "$", 3)
+    rounds, size = cut(numbers, ",", 2)
+    need(size.startswith("l="), "foreign-form")
+    made = record(pbkdf2(name[:6].lower(), rounds), salt, unpadded, key, unpadded)
+    need(number(size[2:], "foreign-hash-length") == len(unpadded(key)), "foreign-hash-length")
+    return made
+
+
 def passlib(text):
     for name in ("sha256", "sha512"):
         rest = after(text, f"$pbkdf2-{name}$")
         if rest is not None and re.match("[0-9]", rest, re.ASCII):
             rounds, salt, key = cut(rest, "$", 3)
             return record(pbkdf2(name, rounds), salt, adapted, key, adapted)
+    if (rest := after(text, "$pbkdf2$f=")) is not None:
+        return mattermost(rest)
     if (rest := after(text, "$pbkdf2$")) is not None:
         rounds, salt, key = cut(rest, "$", 3)
         return record(pbkdf2("sha1", rounds), salt, adapted, key, adapted)
@@ -223,6 +241,31 @@ def unread_tag(text):
     return unread(text, [(word, *(form for tag in tags for form in ("{" + tag + "}", "{" + tag.lower() + "}"))) for word, *tags in rows])
 
 
+AIX = {"sha1": 20, "sha256": 32, "sha512": 64}
+
+
+def aix_bytes(size):
+    """Reads a key of AIX's: numbers of 24 bits, of three bytes with the first one highest, in characters of which the first has the lowest bits.
+    What has no three bytes at the end is filled up with bytes of zero, and of its characters one more than of its bytes is written."""
+    def read_key(field):
+        need(len(field) == size // 3 * 4 + size % 3 + 1 and all(one in CRYPT for one in field), None)
+        key = bytearray()
+        for at in range(0, len(field), 4):
+            number_24 = sum(CRYPT.index(one) << 6 * place for place, one in enumerate(field[at:at + 4]))
+            if at // 4 < size // 3:
+                key += number_24.to_bytes(3, "big")
+            else:
+                need(number_24 & (0xff if size % 3 == 2 else 0xffff) == 0, None)
+        return bytes(key)
+    return read_key
+
+
+def aix(name, rest):
+    cost, salt, key = cut(rest, "$", 3)
+    need(re.fullmatch("[0-2][0-9]|3[01]", cost, re.ASCII), "foreign-rounds")
+    return record(f"pbkdf2-{name}$i={2 ** int(cost)}", salt, characters, key, aix_bytes(AIX[name]))
+
+
 def ldap(text):
     if (rest := tagged(text, "CRYPT")) is not None:
         return crypts(rest)
@@ -235,6 +278,9 @@ def ldap(text):
             rounds, salt, key = cut(rest, "$", 3)
             reader = padded if key.endswith("=") else adapted
             return record(pbkdf2(name, rounds), salt, reader, key, reader)
+    for name in AIX:
+        if (rest := after(text, "{s" + name + "}")) is not None and "$" in rest:
+            return aix(name, rest)
     return digest_of(text, ("MD5", bare_digest, "smd5")) or unread_tag(text)
 
 

@@ -2,10 +2,11 @@
 use Rattle.std.proofs.Common.{◌≡◌, ◌⊎◌, ℕ, ◌+◌, Bool, true, false, List, [], ◌∷◌, length, refl, ap, ◌∙◌, sym, inl, inr, Ok, Err}
 use Rattle.std.specs.Prelude.{nat_le, nat_lt, ◌++◌, take, drop, codes, ◌==◌, ◌&&◌, Option, Some, None, Result, if◌then◌else◌}
 use Rattle.std.specs.List.{list_any}
-use Rattle.base64ct.specs.Alphabets.{base64, base64_crypt, base64_pbkdf2}
+use Rattle.base64ct.specs.Alphabets.{base64, base64_crypt, base64_pbkdf2, base64_unpadded}
 use Rattle.base64ct.specs.Decoding.{decoding}
 use Rattle.phc.specs.Record.{record_text}
 use Rattle.pieces.specs.Pieces.{behind, pieces_at}
+use Rattle.foreign_text.specs.Aix.{aix, aix_fields, aix_key, by_power, two_digits, with_dollar}
 use Rattle.foreign_text.specs.Answers.{Answer, as_it_is, stored_or_unread}
 use Rattle.foreign_text.specs.AspNet.{aspnet, aspnet_bytes, aspnet_hash, aspnet_sized, aspnet_v3, aspnet_with, by_format, first_of, number_at}
 use Rattle.foreign_text.specs.Cisco.{cisco, cisco_fields, cisco_type, is_crypt_field}
@@ -19,7 +20,8 @@ use Rattle.foreign_text.specs.Elasticsearch.{elasticsearch}
 use Rattle.foreign_text.specs.Encoded.{either_pbkdf2, encoded_pbkdf2}
 use Rattle.foreign_text.specs.Fields.{Four, Two, field_bytes, five_of, four_of, in_four, in_two, number_of, pbkdf2_cost, plain_hex, scrypt_cost, small_hex, three_of, two_of}
 use Rattle.foreign_text.specs.Grub.{grub, grub_fields, grub_pbkdf2}
-use Rattle.foreign_text.specs.Ldap.{crypt_fault, is_colon, ldap, ldap_argon2, ldap_bcrypt, ldap_crypt, ldap_digests, ldif, whole_text}
+use Rattle.foreign_text.specs.Ldap.{crypt_fault, is_colon, ldap, ldap_aix, ldap_argon2, ldap_bcrypt, ldap_crypt, ldap_digests, ldif, whole_text}
+use Rattle.foreign_text.specs.Mattermost.{mattermost, mattermost_fields, mattermost_numbers, mattermost_pbkdf2, mattermost_sized, size_field}
 use Rattle.foreign_text.specs.MediaWiki.{mediawiki, mediawiki_cost, mediawiki_fields, mediawiki_pbkdf2}
 use Rattle.foreign_text.specs.Mosquitto.{mosquitto}
 use Rattle.foreign_text.specs.Names.{begins, behind_tag, ldap_unread}
@@ -46,6 +48,11 @@ use Rattle.foreign_text.specs.declared.kdf.Pbkdf2Hash.{Pbkdf2Hash}
 use Rattle.foreign_text.specs.declared.kdf.Pbkdf2Hash.TheVariants.{Sha1, Sha256, Sha512}
 use Rattle.foreign_text.proofs.Made.{First, IsMade, by_front, by_test, either_made, encoded_made, five_made, given, held}
 use Rattle.foreign_text.proofs.Made.{made_first, no_ok, same_ok, signed, stays, three_made, with_kdf_made}
+
+sized_made : (stored : List ℕ) (t : Bool) (answer : Answer) → if_sized t answer ≡ Ok stored → answer ≡ Ok stored
+sized_made stored true answer h = h
+sized_made stored false (Err e) h = no_ok _ stored h
+sized_made stored false (Ok text) h = no_ok _ stored h
 
 -- ---- makers whose own texts don't begin with `$`
 
@@ -141,6 +148,18 @@ module _ (text stored : List ℕ) where
       by_field name (bare_field digest.Md5) (behind_tag text (codes "{MD5}") (codes "{md5}")) _ (bare_first digest.Md5)
       (tags_first name)
 
+  aix_made : (hash : Pbkdf2Hash) (rest : List ℕ) → aix hash rest ≡ Ok stored → First stored
+  aix_made hash rest h =
+      made_first stored (three_made (aix_fields hash) (three_of (pieces_at 36 rest)) stored
+      (λ c s k. with_kdf_made (by_power hash (two_digits c)) (Some s) (aix_key hash k) stored) h)
+
+  aix_first : ldap_aix text ≡ Ok stored → First stored
+  aix_first =
+      by_front (aix Sha1) (with_dollar (behind text (codes "{ssha1}"))) _ stored (aix_made Sha1)
+      (by_front (aix Sha256) (with_dollar (behind text (codes "{ssha256}"))) _ stored (aix_made Sha256)
+      (by_front (aix Sha512) (with_dollar (behind text (codes "{ssha512}"))) _ stored (aix_made Sha512)
+      (ldap_made_first (ldap_unread text))))
+
   ldap_first : ldap text ≡ Ok stored → First stored
   unfolding ldap
   ldap_first =
@@ -158,7 +177,7 @@ module _ (text stored : List ℕ) where
       (λ rest h. made_first stored (either_made Sha1 rest stored h))
       (by_front (either_pbkdf2 Sha1) (behind_tag text (codes "{PBKDF2}") (codes "{pbkdf2}")) _ stored
       (λ rest h. made_first stored (either_made Sha1 rest stored h))
-      (ldap_made_first (ldap_unread text))))))))
+      aix_first))))))
 
   -- ---- a text of SCRAM begins with `$`
 
@@ -213,16 +232,11 @@ module _ (text stored : List ℕ) where
   unread_first : stored_or_unread text ≡ Ok stored → First stored
   unread_first h = signed [] text stored (Unread unread_other) h
 
-  sized_made : (t : Bool) (answer : Answer) → if_sized t answer ≡ Ok stored → answer ≡ Ok stored
-  sized_made true answer h = h
-  sized_made false (Err e) h = no_ok _ stored h
-  sized_made false (Ok text) h = no_ok _ stored h
-
   key_first : (rest : List ℕ) → dovecot_fields rest ≡ Ok stored → First stored
   key_first rest h =
       made_first stored (three_made dovecot_key (three_of (pieces_at 36 rest)) stored
       (λ s r k i. with_kdf_made (pbkdf2_cost Sha1 r) (Some s) (small_hex k) stored
-      (sized_made (is_size (Some 20) (small_hex k)) (with_kdf (pbkdf2_cost Sha1 r) (Some s) (small_hex k)) i)) h)
+      (sized_made stored (is_size (Some 20) (small_hex k)) (with_kdf (pbkdf2_cost Sha1 r) (Some s) (small_hex k)) i)) h)
 
   dovecot_digests_first : (name : unread.Unread) → or_unread (dovecot_digests text) name ≡ Ok stored → First stored
   dovecot_digests_first name =
@@ -299,7 +313,7 @@ module _ (text stored : List ℕ) where
       by_front mediawiki_pbkdf2 (behind text (codes ":pbkdf2:")) _ stored
       (λ rest h. made_first stored (five_made mediawiki_fields (five_of (pieces_at 58 rest)) stored
       (λ name r n s k i. with_kdf_made (mediawiki_cost name r) (field_bytes base64 s) (field_bytes base64 k) stored
-      (sized_made (is_size (number_of n) (field_bytes base64 k))
+      (sized_made stored (is_size (number_of n) (field_bytes base64 k))
       (with_kdf (mediawiki_cost name r) (field_bytes base64 s) (field_bytes base64 k)) i)) h))
       (λ h. no_ok _ stored h)
 
@@ -351,14 +365,38 @@ module _ (text stored : List ℕ) where
       (λ digit h. inr (encoded_made base64_pbkdf2 hash rest stored h))
       (λ h. inl (same_ok text stored h))
 
+  mattermost_made : (rest : List ℕ) → mattermost rest ≡ Ok stored → IsMade stored
+  unfolding mattermost
+  mattermost_made rest =
+      by_front (mattermost_pbkdf2 Sha256) (behind rest (codes "SHA256,w=")) _ stored (of_hash Sha256)
+      (by_front (mattermost_pbkdf2 Sha512) (behind rest (codes "SHA512,w=")) _ stored (of_hash Sha512) (λ h. no_ok _ stored h)) where
+        of_size : (hash : Pbkdf2Hash) (rounds salt key : List ℕ) (size : Result (List ℕ) ForeignFault)
+            → mattermost_sized hash rounds salt key size ≡ Ok stored → IsMade stored
+        of_size hash rounds salt key (Err e) h = no_ok _ stored h
+        of_size hash rounds salt key (Ok size) h =
+            with_kdf_made (pbkdf2_cost hash rounds) (field_bytes base64_unpadded salt) (field_bytes base64_unpadded key) stored
+            (sized_made stored (is_size (number_of size) (field_bytes base64_unpadded key))
+            (with_kdf (pbkdf2_cost hash rounds) (field_bytes base64_unpadded salt) (field_bytes base64_unpadded key)) h)
+
+        of_numbers : (hash : Pbkdf2Hash) (salt key : List ℕ) (numbers : Result Two ForeignFault)
+            → mattermost_numbers hash salt key numbers ≡ Ok stored → IsMade stored
+        of_numbers hash salt key (Err e) h = no_ok _ stored h
+        of_numbers hash salt key (Ok f) h = of_size hash f.first salt key (size_field f.second) h
+
+        of_hash : (hash : Pbkdf2Hash) (fields : List ℕ) → mattermost_pbkdf2 hash fields ≡ Ok stored → IsMade stored
+        of_hash hash fields =
+            three_made (mattermost_fields hash) (three_of (pieces_at 36 fields)) stored
+            (λ n s k. of_numbers hash s k (two_of (pieces_at 44 n)))
+
   passlib_gives : passlib text ≡ Ok stored → (text ≡ stored) ⊎ IsMade stored
   unfolding passlib
   passlib_gives =
       by_front (passlib_pbkdf2 Sha256 text) (behind text (codes "$pbkdf2-sha256$")) _ stored (of_pbkdf2 Sha256)
       (by_front (passlib_pbkdf2 Sha512 text) (behind text (codes "$pbkdf2-sha512$")) _ stored (of_pbkdf2 Sha512)
+      (by_front mattermost (behind text (codes "$pbkdf2$f=")) _ stored (λ rest h. inr (mattermost_made rest h))
       (by_front (encoded_pbkdf2 base64_pbkdf2 Sha1) (behind text (codes "$pbkdf2$")) _ stored
       (λ rest h. inr (encoded_made base64_pbkdf2 Sha1 rest stored h))
-      (λ h. inl (stays text stored h))))
+      (λ h. inl (stays text stored h)))))
 
   cisco_fields_made : (kdf : Kdf) (pieces : List (List ℕ)) → cisco_fields kdf pieces ≡ Ok stored → IsMade stored
   cisco_fields_made kdf [] h = no_ok _ stored h

@@ -1,3 +1,4 @@
+mod Fours
 mod Lengths
 mod PaddedTexts
 pub mod Records

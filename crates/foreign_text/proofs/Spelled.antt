@@ -13,7 +13,7 @@ use Rattle.std.proofs.lemmas.Fmt.{decimal_nonempty}
 use Rattle.std.proofs.lemmas.List.{length-append}
 use Rattle.std.proofs.lemmas.Option.{none-some, same_Some}
 use Rattle.std.proofs.Math.Seq.{drop-append_seam, take-append_seam}
-use Rattle.pieces.specs.Pieces.{LacksByte, pieces_at}
+use Rattle.pieces.specs.Pieces.{begins, LacksByte, pieces_at}
 use Rattle.pieces.proofs.ByteTests.{all_append, all_weaker, lacks, passes_at}
 use Rattle.pieces.proofs.Cuts.{first_cut, one_piece}
 use Rattle.pieces.proofs.PlainNumbers.{decimal_read}
@@ -309,10 +309,20 @@ digit_held rounds salt key small =
     let rest : List ℕ = 36 ∷ (encoding base64_pbkdf2 salt ++ 36 ∷ encoding base64_pbkdf2 key) in
     digit_first (decimal rounds) rest (decimal_digits rounds small) some
 
+-- so that they aren't Mattermost's, whose first field is a name
+digit_is_no_name : (b : ℕ) → is_ascii_digit b ≡ true → nat_eq 102 b ≡ false
+digit_is_no_name b h = grind (arith, nat_tests)
+
+no_name : (text : List ℕ) → begins_with_digit text ≡ true → begins text (codes "f=") ≡ false
+no_name [] h = refl
+no_name (b ∷ text) h = rw (digit_is_no_name b h) refl
+
 pub passlib_kept : (hash : Pbkdf2Hash) (rounds : ℕ) (salt key : List ℕ) → AreHeld (Pbkdf2 hash rounds) salt key
     → converted Passlib (passlib_spelling hash rounds salt key) ≡ Ok (made_text (Pbkdf2 hash rounds) salt key)
 unfolding converted passlib
-passlib_kept Sha1 rounds salt key held = adapted_read rounds salt key Sha1 held
+passlib_kept Sha1 rounds salt key held =
+    let fields : List ℕ = three (decimal rounds) (encoding base64_pbkdf2 salt) (encoding base64_pbkdf2 key) in
+    rw (no_name fields (digit_held rounds salt key held.cost_fits)) (adapted_read rounds salt key Sha1 held)
 passlib_kept Sha256 rounds salt key held =
     rw (digit_held rounds salt key held.cost_fits) (adapted_read rounds salt key Sha256 held)
 passlib_kept Sha512 rounds salt key held =

@@ -8,3 +8,7 @@ colon = 58
 -- `.`
 abbrev pub full_stop : ℕ
 full_stop = 46
+
+-- `,`
+abbrev pub comma : ℕ
+comma = 44

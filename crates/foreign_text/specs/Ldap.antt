@@ -1,7 +1,8 @@
 -- Texts of LDAP's `userPassword`: a tag, and what the module of that name writes.
 use Rattle.std.specs.Prelude.{ℕ, Bool, ◌||◌, ◌==◌, List, length, nat_lt, Option, Ok, Err, if◌then◌else◌, codes}
 use Rattle.std.specs.List.{list_any}
-use Rattle.pieces.specs.Pieces.{or_behind}
+use Rattle.pieces.specs.Pieces.{behind, or_behind}
+use Rattle.foreign_text.specs.Aix.{aix, with_dollar}
 use Rattle.foreign_text.specs.Answers.{Answer, as_it_is}
 use Rattle.foreign_text.specs.Characters.{colon}
 use Rattle.foreign_text.specs.Digests.{bare_field, digest_tags, or_field, or_unread}
@@ -42,6 +43,13 @@ ldap_digests text = or_field (bare_field Md5) (behind_tag text (codes "{MD5}") (
 abbrev pub ldap_made : List ℕ → Answer
 ldap_made text = or_unread (ldap_digests text) (ldap_unread text)
 
+-- AIX's texts, whose tags have small letters and after which a `$` comes, or those
+abbrev pub ldap_aix : List ℕ → Answer
+ldap_aix text =
+    or_behind (aix Sha1) (with_dollar (behind text (codes "{ssha1}")))
+    (or_behind (aix Sha256) (with_dollar (behind text (codes "{ssha256}")))
+    (or_behind (aix Sha512) (with_dollar (behind text (codes "{ssha512}"))) (ldap_made text)))
+
 -- `{PBKDF2-SHA256}ROUNDS$SALT$KEY` and `{PBKDF2-SHA512}..`, and with SHA-1 `{PBKDF2}..` and `{PBKDF2-SHA1}..`: 389 Directory Server
 -- (2.3, pwdhash) pads its fields, OpenLDAP (pw-pbkdf2) and passlib don't
 unfoldable pub ldap : List ℕ → Answer
@@ -53,7 +61,7 @@ ldap text =
     (or_behind (either_pbkdf2 Sha512) (behind_tag text (codes "{PBKDF2-SHA512}") (codes "{pbkdf2-sha512}"))
     (or_behind (either_pbkdf2 Sha1) (behind_tag text (codes "{PBKDF2-SHA1}") (codes "{pbkdf2-sha1}"))
     (or_behind (either_pbkdf2 Sha1) (behind_tag text (codes "{PBKDF2}") (codes "{pbkdf2}"))
-    (ldap_made text)))))))
+    (ldap_aix text)))))))
 
 -- a colon
 abbrev pub is_colon : ℕ → Bool

@@ -9,7 +9,9 @@ pub mod Scram
 pub mod Digests
 pub mod Django
 pub mod Werkzeug
+pub mod Aix
 pub mod Ldap
+pub mod Mattermost
 pub mod Passlib
 pub mod Dovecot
 pub mod Spring

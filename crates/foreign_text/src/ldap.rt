@@ -3,10 +3,11 @@
 ghost use Rattle.std.specs.Prelude.{◌≡◌, ℕ, List, Ok};
 ghost use Rattle.std.specs.List.{list_any};
 ghost use Rattle.pieces.specs.Pieces.{lent};
-ghost use Rattle.foreign_text.specs.Ldap.{crypt_fault, is_colon, is_locked_crypt, ldap, ldap_crypt, ldap_digests, ldap_made, ldif, whole_text};
+ghost use Rattle.foreign_text.specs.Ldap.{crypt_fault, is_colon, is_locked_crypt, ldap, ldap_aix, ldap_crypt, ldap_digests, ldap_made, ldif, whole_text};
 ghost use Rattle.foreign_text.specs.Names.{behind_tag, is_tagged, ldap_digest, ldap_sha2, ldap_unread};
 ghost use Rattle.foreign_text.specs.Views.{as_answer};
 
+use crate::aix::{aix, behind_aix};
 use crate::answers::{as_it_is, either_pbkdf2, put_made};
 use crate::digests::{bare_field, digest_tags};
 use crate::kdf::{MadeText, Pbkdf2Hash};
@@ -120,6 +121,22 @@ fn ldap_made<'a>(text: &str, made: &mut MadeText) -> Result<Option<&'a str>, For
     }
 }
 
+// The stored text of a text of AIX, or that of a digest.
+fn ldap_aix<'a>(text: &str, made: &mut MadeText) -> Result<Option<&'a str>, ForeignFault>
+    ensures { as_answer result made.new ≡ ldap_aix text.now }
+{
+    if let Some(rest) = behind_aix(text, "{ssha1}") {
+        return aix(Pbkdf2Hash::Sha1, rest, made);
+    }
+    if let Some(rest) = behind_aix(text, "{ssha256}") {
+        return aix(Pbkdf2Hash::Sha256, rest, made);
+    }
+    if let Some(rest) = behind_aix(text, "{ssha512}") {
+        return aix(Pbkdf2Hash::Sha512, rest, made);
+    }
+    ldap_made(text, made)
+}
+
 /// The stored text of a text of LDAP.
 #[tactic(auto, unfolding(crate::specs::Ldap::ldap))]
 pub(crate) fn ldap<'a>(text: &'a str, made: &mut MadeText) -> Result<Option<&'a str>, ForeignFault>
@@ -146,7 +163,7 @@ pub(crate) fn ldap<'a>(text: &'a str, made: &mut MadeText) -> Result<Option<&'a 
     if let Some(rest) = behind_tag(text, "{PBKDF2}", "{pbkdf2}") {
         return either_pbkdf2(Pbkdf2Hash::Sha1, rest, made);
     }
-    ldap_made(text, made)
+    ldap_aix(text, made)
 }
 
 // A part of a text, which has no colon.

@@ -6,6 +6,7 @@
 //! memory taken.
 #![tactic(auto)]
 
+mod aix;
 mod answers;
 mod aspnet;
 mod cisco;
@@ -20,6 +21,7 @@ mod grub;
 mod kdf;
 pub mod laws;
 mod ldap;
+mod mattermost;
 mod mediawiki;
 mod mosquitto;
 mod padded;

@@ -7,6 +7,7 @@ ghost use Rattle.foreign_text.specs.Views.{as_answer};
 use crate::ForeignFault;
 use crate::answers::{encoded_pbkdf2, stored_or_unread};
 use crate::kdf::{MadeText, Pbkdf2Hash};
+use crate::mattermost::mattermost;
 use base64ct::Base64Pbkdf2;
 use pieces::behind;
 
@@ -49,6 +50,9 @@ pub(crate) fn passlib<'a>(
     }
     if let Some(rest) = behind(text, "$pbkdf2-sha512$") {
         return passlib_pbkdf2(Pbkdf2Hash::Sha512, text, rest, made);
+    }
+    if let Some(rest) = behind(text, "$pbkdf2$f=") {
+        return mattermost(rest, made);
     }
     if let Some(rest) = behind(text, "$pbkdf2$") {
         return encoded_pbkdf2::<Base64Pbkdf2>(Pbkdf2Hash::Sha1, rest, made);

@@ -10,4 +10,6 @@ mod digests;
 #[cfg(test)]
 mod makers;
 #[cfg(test)]
+mod pbkdf2_texts;
+#[cfg(test)]
 mod tests;

@@ -1,0 +1,314 @@
+//! Texts of Mattermost and of AIX. Those of AIX are hashcat's published ones, of the password `hashcat`; those of Mattermost were made by
+//! Python's hashlib by the published form. The records were put together by a transcription in Python.
+
+use crate::asked::{fault_of, is_converted};
+use foreign_text::{Foreign, ForeignFault, Unread};
+
+// Foreign texts, and the stored texts for them.
+const CONVERTED: &[(Foreign, &str, &str)] = &[
+    (
+        Foreign::Ldap,
+        "{ssha512}06$bJbkFGJAB30L2e23$bXiXjyH5YGIyoWWmEVwq67nCU5t7GLy9HkCzrodRCQCx3r9VvG98o7O3V0r9cVrX3LPPGuHqT5LLn0oGCuI1..",
+        "$pbkdf2-sha512$i=64$Ykpia0ZHSkFCMzBMMmUyMw$jujnHT+v+USkyii028hQOzJIJ5HgL+XS/OwTdp039OcOhL3FKLS7FaJ0L3Chj3hobbXF2T6SXXHfS0CzDU6O",
+    ),
+    (
+        Foreign::Ldap,
+        "{ssha256}06$aJckFGJAB30LTe10$ohUsB7LBPlgclE3hJg9x042DLJvQyxVCX.nZZLEz.g2",
+        "$pbkdf2-sha256$i=64$YUpja0ZHSkFCMzBMVGUxMA$4gt0NXJNosxbtFQx9LsVPEGCc7VXOh9+lzAj/QXl",
+    ),
+    (
+        Foreign::Ldap,
+        "{ssha1}06$bJbkFGJAB30L2e23$dCESGOsP7jaIIAJ1QAcmaGeG.kr",
+        "$pbkdf2-sha1$i=64$Ykpia0ZHSkFCMzBMMmUyMw$eQOpb4aSUmvJDVMUyoMcSqSm",
+    ),
+    (
+        Foreign::Ldif,
+        "{ssha1}06$bJbkFGJAB30L2e23$dCESGOsP7jaIIAJ1QAcmaGeG.kr",
+        "$pbkdf2-sha1$i=64$Ykpia0ZHSkFCMzBMMmUyMw$eQOpb4aSUmvJDVMUyoMcSqSm",
+    ),
+    (
+        Foreign::Ldap,
+        "{ssha1}31$bJbkFGJAB30L2e23$dCESGOsP7jaIIAJ1QAcmaGeG.kr",
+        "$pbkdf2-sha1$i=2147483648$Ykpia0ZHSkFCMzBMMmUyMw$eQOpb4aSUmvJDVMUyoMcSqSm",
+    ),
+    (
+        Foreign::Passlib,
+        "$pbkdf2$f=SHA256,w=1000,l=32$pU3KGCUwux1tEyze1iN7Lg$K2oiI9e+dKs8cg/Majj0XQrh3+XFihOTaGQ/CIKqT10",
+        "$pbkdf2-sha256$i=1000$pU3KGCUwux1tEyze1iN7Lg$K2oiI9e+dKs8cg/Majj0XQrh3+XFihOTaGQ/CIKqT10",
+    ),
+    (
+        Foreign::Passlib,
+        "$pbkdf2$f=SHA512,w=1000,l=32$2R4/ch/LGXEXRJTWSTydXA$R9HiEVy8a0Pyb02yRyf6s6hqgTNdYHFi4e1G8uswZL4",
+        "$pbkdf2-sha512$i=1000$2R4/ch/LGXEXRJTWSTydXA$R9HiEVy8a0Pyb02yRyf6s6hqgTNdYHFi4e1G8uswZL4",
+    ),
+    (
+        Foreign::Passlib,
+        "$pbkdf2$f=SHA512,w=1000,l=64$NGC+MSAeaf7aoO7ouZl/XA$VJyttQt/YAc9KEsD3cQanYoR8Vm82+5T9wKlZsM2kcNYu75u4XHPm5OtjxOljy5BBEt50xcClsn068Egqlv05w",
+        "$pbkdf2-sha512$i=1000$NGC+MSAeaf7aoO7ouZl/XA$VJyttQt/YAc9KEsD3cQanYoR8Vm82+5T9wKlZsM2kcNYu75u4XHPm5OtjxOljy5BBEt50xcClsn068Egqlv05w",
+    ),
+];
+
+fn converted() -> &'static [(Foreign, &'static str, &'static str)] {
+    CONVERTED
+}
+
+#[test]
+fn texts_of_pbkdf2(rt: HostRuntime) {
+    for (foreign, text, stored) in converted() {
+        assert!(rt; is_converted(*foreign, text, stored), "{text}");
+        assert!(rt; is_converted(*foreign, stored, stored), "{stored}");
+    }
+}
+
+// Texts with a fault, the first of those that they have.
+const FAULTS: &[(Foreign, &str, ForeignFault)] = &[
+    (
+        Foreign::Ldap,
+        "{ssha512}06$bJbkFGJAB30L2e23$bXiXjyH5YGIyoWWmEVwq67nCU5t7GLy9HkCzrodRCQCx3r9VvG98o7O3V0r9cVrX3LPPGuHqT5LLn0oGCuI1..$",
+        ForeignFault::Form,
+    ),
+    (
+        Foreign::Ldap,
+        "{ssha512}06$bJbkFGJAB30L2e23bXiXjyH5YGIyoWWmEVwq67nCU5t7GLy9HkCzrodRCQCx3r9VvG98o7O3V0r9cVrX3LPPGuHqT5LLn0oGCuI1..",
+        ForeignFault::Form,
+    ),
+    (
+        Foreign::Ldap,
+        "{ssha512}6$bJbkFGJAB30L2e23$bXiXjyH5YGIyoWWmEVwq67nCU5t7GLy9HkCzrodRCQCx3r9VvG98o7O3V0r9cVrX3LPPGuHqT5LLn0oGCuI1..",
+        ForeignFault::Rounds,
+    ),
+    (
+        Foreign::Ldap,
+        "{ssha512}006$bJbkFGJAB30L2e23$bXiXjyH5YGIyoWWmEVwq67nCU5t7GLy9HkCzrodRCQCx3r9VvG98o7O3V0r9cVrX3LPPGuHqT5LLn0oGCuI1..",
+        ForeignFault::Rounds,
+    ),
+    (
+        Foreign::Ldap,
+        "{ssha512}32$bJbkFGJAB30L2e23$bXiXjyH5YGIyoWWmEVwq67nCU5t7GLy9HkCzrodRCQCx3r9VvG98o7O3V0r9cVrX3LPPGuHqT5LLn0oGCuI1..",
+        ForeignFault::Rounds,
+    ),
+    (
+        Foreign::Ldap,
+        "{ssha512}0x$bJbkFGJAB30L2e23$bXiXjyH5YGIyoWWmEVwq67nCU5t7GLy9HkCzrodRCQCx3r9VvG98o7O3V0r9cVrX3LPPGuHqT5LLn0oGCuI1..",
+        ForeignFault::Rounds,
+    ),
+    (
+        Foreign::Ldap,
+        "{ssha512}$bJbkFGJAB30L2e23$bXiXjyH5YGIyoWWmEVwq67nCU5t7GLy9HkCzrodRCQCx3r9VvG98o7O3V0r9cVrX3LPPGuHqT5LLn0oGCuI1..",
+        ForeignFault::Rounds,
+    ),
+    (
+        Foreign::Ldap,
+        "{ssha512}06$bJbkFGJ$bXiXjyH5YGIyoWWmEVwq67nCU5t7GLy9HkCzrodRCQCx3r9VvG98o7O3V0r9cVrX3LPPGuHqT5LLn0oGCuI1..",
+        ForeignFault::SaltLength,
+    ),
+    (
+        Foreign::Ldap,
+        "{ssha512}06$bbbbbbbbbbbbbbbbbbbbbbbbbbbbbbbbbbbbbbbbbbbbbbbbb$bXiXjyH5YGIyoWWmEVwq67nCU5t7GLy9HkCzrodRCQCx3r9VvG98o7O3V0r9cVrX3LPPGuHqT5LLn0oGCuI1..",
+        ForeignFault::SaltLength,
+    ),
+    (
+        Foreign::Ldap,
+        "{ssha512}06$bJbkFGJAB30L2e23$bXiXjyH5YGIyoWWmEVwq67nCU5t7GLy9HkCzrodRCQCx3r9VvG98o7O3V0r9cVrX3LPPGuHqT5LLn0oGCuI1.",
+        ForeignFault::Hash,
+    ),
+    (
+        Foreign::Ldap,
+        "{ssha512}06$bJbkFGJAB30L2e23$bXiXjyH5YGIyoWWmEVwq67nCU5t7GLy9HkCzrodRCQCx3r9VvG98o7O3V0r9cVrX3LPPGuHqT5LLn0oGCuI1...",
+        ForeignFault::Hash,
+    ),
+    (
+        Foreign::Ldap,
+        "{ssha512}06$bJbkFGJAB30L2e23$bXiXjyH5YGIyoWWmEVwq67nCU5t7GLy9HkCzrodRCQCx3r9VvG98o7O3V0r9cVrX3LPPGuHqT5LLn0oGCuI1./",
+        ForeignFault::Hash,
+    ),
+    (
+        Foreign::Ldap,
+        "{ssha512}06$bJbkFGJAB30L2e23$+XiXjyH5YGIyoWWmEVwq67nCU5t7GLy9HkCzrodRCQCx3r9VvG98o7O3V0r9cVrX3LPPGuHqT5LLn0oGCuI1..",
+        ForeignFault::Hash,
+    ),
+    (
+        Foreign::Ldap,
+        "{ssha512}06$bJbkFGJAB30L2e23$b=iXjyH5YGIyoWWmEVwq67nCU5t7GLy9HkCzrodRCQCx3r9VvG98o7O3V0r9cVrX3LPPGuHqT5LLn0oGCuI1..",
+        ForeignFault::Hash,
+    ),
+    (
+        Foreign::Ldap,
+        "{ssha256}06$aJckFGJAB30LTe10$ohUsB7LBPlgclE3hJg9x042DLJvQyxVCX.nZZLEz/g2",
+        ForeignFault::Hash,
+    ),
+    (
+        Foreign::Ldap,
+        "{ssha256}06$aJckFGJAB30LTe10$ohUsB7LBPlgclE3hJg9x042DLJvQyxVCX.nZZLEz.h2",
+        ForeignFault::Hash,
+    ),
+    (
+        Foreign::Ldap,
+        "{ssha256}06$aJckFGJAB30LTe10$ohUsB7LBPlgclE3hJg9x042DLJvQyxVCX.nZZLEz.g=",
+        ForeignFault::Hash,
+    ),
+    (
+        Foreign::Ldap,
+        "{ssha256}06$aJckFGJAB30LTe10$ohUsB7LBPlgclE3hJg9x042DLJvQyxVCX.nZZLEz.g",
+        ForeignFault::Hash,
+    ),
+    (
+        Foreign::Ldap,
+        "{ssha256}06$aJckFGJAB30LTe10$ohUsB7LBPlgclE3hJg9x042DLJvQyxVCX.nZZLEz.g2.",
+        ForeignFault::Hash,
+    ),
+    (
+        Foreign::Ldap,
+        "{ssha1}06$bJbkFGJAB30L2e23$dCESGOsP7jaIIAJ1QAcmaGeG.l.",
+        ForeignFault::Hash,
+    ),
+    (
+        Foreign::Ldap,
+        "{ssha1}06$bJbkFGJAB30L2e23$dCESGOsP7jaIIAJ1QAcmaGeG.kr.",
+        ForeignFault::Hash,
+    ),
+    (
+        Foreign::Ldap,
+        "{SSHA512}06$bJbkFGJAB30L2e23$bXiXjyH5YGIyoWWmEVwq67nCU5t7GLy9HkCzrodRCQCx3r9VvG98o7O3V0r9cVrX3LPPGuHqT5LLn0oGCuI1..",
+        ForeignFault::Hash,
+    ),
+    (Foreign::Ldap, "{ssha512}bXiX", ForeignFault::HashLength),
+    (
+        Foreign::Ldap,
+        "{ssha384}06$bJbkFGJAB30L2e23$bXiXjyH5YGIyoWWmEVwq67nCU5t7GLy9HkCzrodRCQCx3r9VvG98o7O3V0r9cVrX3LPPGuHqT5LLn0oGCuI1..",
+        ForeignFault::Unread(Unread::Sha2),
+    ),
+    (
+        Foreign::Ldap,
+        "{ssha1}",
+        ForeignFault::Unread(Unread::Other),
+    ),
+    (
+        Foreign::Ldap,
+        "{ssha1}06",
+        ForeignFault::Unread(Unread::Other),
+    ),
+    (
+        Foreign::Passlib,
+        "$pbkdf2$f=SHA256,w=1000,l=32$pU3KGCUwux1tEyze1iN7Lg$K2oiI9e+dKs8cg/Majj0XQrh3+XFihOTaGQ/CIKqT10$",
+        ForeignFault::Form,
+    ),
+    (
+        Foreign::Passlib,
+        "$pbkdf2$f=SHA256,w=1000,l=32$pU3KGCUwux1tEyze1iN7LgK2oiI9e+dKs8cg/Majj0XQrh3+XFihOTaGQ/CIKqT10",
+        ForeignFault::Form,
+    ),
+    (
+        Foreign::Passlib,
+        "$pbkdf2$f=SHA1,w=1000,l=32$pU3KGCUwux1tEyze1iN7Lg$K2oiI9e+dKs8cg/Majj0XQrh3+XFihOTaGQ/CIKqT10",
+        ForeignFault::Unread(Unread::Other),
+    ),
+    (
+        Foreign::Passlib,
+        "$pbkdf2$f=sha256,w=1000,l=32$pU3KGCUwux1tEyze1iN7Lg$K2oiI9e+dKs8cg/Majj0XQrh3+XFihOTaGQ/CIKqT10",
+        ForeignFault::Unread(Unread::Other),
+    ),
+    (
+        Foreign::Passlib,
+        "$pbkdf2$f=SHA256,x=1000,l=32$pU3KGCUwux1tEyze1iN7Lg$K2oiI9e+dKs8cg/Majj0XQrh3+XFihOTaGQ/CIKqT10",
+        ForeignFault::Form,
+    ),
+    (
+        Foreign::Passlib,
+        "$pbkdf2$f=SHA256,w=1000$pU3KGCUwux1tEyze1iN7Lg$K2oiI9e+dKs8cg/Majj0XQrh3+XFihOTaGQ/CIKqT10",
+        ForeignFault::Form,
+    ),
+    (
+        Foreign::Passlib,
+        "$pbkdf2$f=SHA256,w=1000,m=32$pU3KGCUwux1tEyze1iN7Lg$K2oiI9e+dKs8cg/Majj0XQrh3+XFihOTaGQ/CIKqT10",
+        ForeignFault::Form,
+    ),
+    (
+        Foreign::Passlib,
+        "$pbkdf2$f=SHA256,w=1000,l=32,x=1$pU3KGCUwux1tEyze1iN7Lg$K2oiI9e+dKs8cg/Majj0XQrh3+XFihOTaGQ/CIKqT10",
+        ForeignFault::Form,
+    ),
+    (
+        Foreign::Passlib,
+        "$pbkdf2$f=SHA256,w=01000,l=32$pU3KGCUwux1tEyze1iN7Lg$K2oiI9e+dKs8cg/Majj0XQrh3+XFihOTaGQ/CIKqT10",
+        ForeignFault::Rounds,
+    ),
+    (
+        Foreign::Passlib,
+        "$pbkdf2$f=SHA256,w=4294967296,l=32$pU3KGCUwux1tEyze1iN7Lg$K2oiI9e+dKs8cg/Majj0XQrh3+XFihOTaGQ/CIKqT10",
+        ForeignFault::Rounds,
+    ),
+    (
+        Foreign::Passlib,
+        "$pbkdf2$f=SHA256,w=,l=32$pU3KGCUwux1tEyze1iN7Lg$K2oiI9e+dKs8cg/Majj0XQrh3+XFihOTaGQ/CIKqT10",
+        ForeignFault::Rounds,
+    ),
+    (
+        Foreign::Passlib,
+        "$pbkdf2$f=SHA256,w=1000,l=32$.U3KGCUwux1tEyze1iN7Lg$K2oiI9e+dKs8cg/Majj0XQrh3+XFihOTaGQ/CIKqT10",
+        ForeignFault::Salt,
+    ),
+    (
+        Foreign::Passlib,
+        "$pbkdf2$f=SHA256,w=1000,l=32$pU3KGCUw$K2oiI9e+dKs8cg/Majj0XQrh3+XFihOTaGQ/CIKqT10",
+        ForeignFault::SaltLength,
+    ),
+    (
+        Foreign::Passlib,
+        "$pbkdf2$f=SHA256,w=1000,l=32$pU3KGCUwux1tEyze1iN7Lh$K2oiI9e+dKs8cg/Majj0XQrh3+XFihOTaGQ/CIKqT10",
+        ForeignFault::Salt,
+    ),
+    (
+        Foreign::Passlib,
+        "$pbkdf2$f=SHA256,w=1000,l=32$pU3KGCUwux1tEyze1iN7Lg==$K2oiI9e+dKs8cg/Majj0XQrh3+XFihOTaGQ/CIKqT10",
+        ForeignFault::Salt,
+    ),
+    (
+        Foreign::Passlib,
+        "$pbkdf2$f=SHA256,w=1000,l=32$pU3KGCUwux1tEyze1iN7Lg$K2oiI9e.dKs8cg/Majj0XQrh3+XFihOTaGQ/CIKqT10",
+        ForeignFault::Hash,
+    ),
+    (
+        Foreign::Passlib,
+        "$pbkdf2$f=SHA256,w=1000,l=32$pU3KGCUwux1tEyze1iN7Lg$K2oiI9e+dKs8cg/Majj0XQrh3+XFihOTaGQ/CIKqT11",
+        ForeignFault::Hash,
+    ),
+    (
+        Foreign::Passlib,
+        "$pbkdf2$f=SHA256,w=1000,l=32$pU3KGCUwux1tEyze1iN7Lg$K2oiI9e+dKs8cg/Majj0XQrh3+XFihOTaGQ/CIKqT10=",
+        ForeignFault::Hash,
+    ),
+    (
+        Foreign::Passlib,
+        "$pbkdf2$f=SHA256,w=1000,l=31$pU3KGCUwux1tEyze1iN7Lg$K2oiI9e+dKs8cg/Majj0XQrh3+XFihOTaGQ/CIKqT10",
+        ForeignFault::HashLength,
+    ),
+    (
+        Foreign::Passlib,
+        "$pbkdf2$f=SHA256,w=1000,l=032$pU3KGCUwux1tEyze1iN7Lg$K2oiI9e+dKs8cg/Majj0XQrh3+XFihOTaGQ/CIKqT10",
+        ForeignFault::HashLength,
+    ),
+    (
+        Foreign::Passlib,
+        "$pbkdf2$f=SHA256,w=1000,l=32$pU3KGCUwux1tEyze1iN7Lg$K2oiI9e+dKs8",
+        ForeignFault::HashLength,
+    ),
+    (
+        Foreign::Passlib,
+        "$pbkdf2$f=",
+        ForeignFault::Unread(Unread::Other),
+    ),
+    (Foreign::Passlib, "$pbkdf2$f", ForeignFault::Form),
+    (Foreign::Passlib, "$pbkdf2$f=SHA512,", ForeignFault::Form),
+];
+
+fn faults() -> &'static [(Foreign, &'static str, ForeignFault)] {
+    FAULTS
+}
+
+#[test]
+fn first_faults_of_pbkdf2(rt: HostRuntime) {
+    for (foreign, text, fault) in faults() {
+        assert!(rt; fault_of(*foreign, text) == Some(*fault), "{text}");
+    }
+}
