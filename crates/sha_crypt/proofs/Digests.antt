@@ -15,7 +15,7 @@ use Rattle.sha2.specs.Sha512.{sha512}
 use Rattle.sha2.specs.Sha512 as long
 use Rattle.sha2.proofs.Facts256.{length-sha256}
 use Rattle.sha2.proofs.Facts512.{length-sha512}
-use Rattle.sha_crypt.specs.Digest.{after_rounds, sha_crypt_digest}
+use Rattle.sha_crypt.specs.Digest.{after_rounds, sha_crypt_digest, whole_salt_digest}
 use Rattle.sha_crypt.specs.Families.{Scheme, scheme_256, scheme_512}
 use Rattle.sha_crypt.specs.HashField.{field_bytes, hash_field, in_order, is_hash_field}
 use Rattle.sha_crypt.specs.Records.{family_scheme}
@@ -99,7 +99,7 @@ is_scheme Sha512 = is_512
 -- after some rounds the digest is one of the hash function
 of_hash : (P : List ℕ → Type 0) (H : List ℕ → List ℕ) (password salt : List ℕ) (n : ℕ) → ((m : List ℕ) → P (H m))
     → 1 ≤ n → P (sha_crypt_digest H password salt n)
-unfolding sha_crypt_digest after_rounds
+unfolding sha_crypt_digest whole_salt_digest after_rounds
 of_hash P H password salt zero all some = absurd (omega (arith, some))
 of_hash P H password salt (suc n) all some = all _
 

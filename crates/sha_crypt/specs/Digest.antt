@@ -42,12 +42,15 @@ unfoldable pub after_rounds : (List ℕ → List ℕ) → List ℕ → List ℕ 
 after_rounds H a p s zero = a
 after_rounds H a p s (suc i) = H (round_message i (after_rounds H a p s i) p s)
 
--- The digest of a password and a salt after n rounds. Of the salt the first 16 bytes count. Digest DP and
+-- The digest of a password and a salt after n rounds, where each byte of the salt counts. Digest DP and
 -- the bytes P are steps 13 to 16, digest DS and the bytes S steps 17 to 20.
-unfoldable pub sha_crypt_digest : (List ℕ → List ℕ) → List ℕ → List ℕ → ℕ → List ℕ
-sha_crypt_digest H password salt n =
-    let used = take 16 salt in
-    let a = start_digest H password used in
+unfoldable pub whole_salt_digest : (List ℕ → List ℕ) → List ℕ → List ℕ → ℕ → List ℕ
+whole_salt_digest H password salt n =
+    let a = start_digest H password salt in
     let dp = H (copies (length password) password) in
-    let ds = H (copies (16 + slice_index a 0) used) in
-    after_rounds H a (repeated_to (length password) dp) (repeated_to (length used) ds) n
+    let ds = H (copies (16 + slice_index a 0) salt) in
+    after_rounds H a (repeated_to (length password) dp) (repeated_to (length salt) ds) n
+
+-- the digest of SHA-crypt: of the salt the first 16 bytes count
+unfoldable pub sha_crypt_digest : (List ℕ → List ℕ) → List ℕ → List ℕ → ℕ → List ℕ
+sha_crypt_digest H password salt n = whole_salt_digest H password (take 16 salt) n

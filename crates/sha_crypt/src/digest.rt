@@ -1,7 +1,7 @@
 //! The digest, under any hash function.
 
 ghost use Rattle.std.specs.Prelude.{◌≡◌, ℕ, ◌+◌, ◌<◌, ◌≤◌, List, ◌++◌, length, take};
-ghost use Rattle.sha_crypt.specs.Digest.{by_digits, copies, repeated_to, sha_crypt_digest, start_digest};
+ghost use Rattle.sha_crypt.specs.Digest.{by_digits, copies, repeated_to, sha_crypt_digest, start_digest, whole_salt_digest};
 ghost use Rattle.sha_crypt.specs.Limits.{salt_max_len};
 
 use crate::SALT_MAX_LEN;
@@ -91,7 +91,25 @@ fn start_digest<const N: usize, H: Hasher<N>>(password: &[u8], salt: &[u8]) -> [
     hasher.finish()
 }
 
-/// The digest of a password and a salt after these rounds.
+/// The digest of a password and a salt of at most `N` bytes after these rounds. Each byte of the salt counts.
+pub(crate) fn whole_salt_digest<const N: usize, H: Hasher<N>>(
+    password: &[u8],
+    salt: &[u8],
+    rounds: usize,
+) -> [u8; N]
+    requires wide { 0 < N }
+    requires salt { length salt.now ≤ N }
+    ensures { result ≡ whole_salt_digest H.hash password.now salt.now rounds }
+{
+    let a = start_digest::<N, H>(password, salt);
+    let dp = digest_of_copies::<N, H>(password, password.len());
+    let ds = digest_of_copies::<N, H>(salt, 16 + a[0] as usize);
+    let s = &ds[..salt.len()];
+    after_rounds::<N, H>(&a, &dp, password.len(), s, rounds)
+}
+
+/// The digest of a password and a salt, of which the first 16 bytes count, after these rounds.
+#[tactic(auto, unfolding(crate::specs::Digest::sha_crypt_digest))]
 pub(crate) fn sha_crypt_digest<const N: usize, H: Hasher<N>>(
     password: &[u8],
     salt: &[u8],
@@ -100,10 +118,5 @@ pub(crate) fn sha_crypt_digest<const N: usize, H: Hasher<N>>(
     requires { 16 ≤ N }
     ensures { result ≡ sha_crypt_digest H.hash password.now salt.now rounds }
 {
-    let salt = used_salt(salt);
-    let a = start_digest::<N, H>(password, salt);
-    let dp = digest_of_copies::<N, H>(password, password.len());
-    let ds = digest_of_copies::<N, H>(salt, 16 + a[0] as usize);
-    let s = &ds[..salt.len()];
-    after_rounds::<N, H>(&a, &dp, password.len(), s, rounds)
+    whole_salt_digest::<N, H>(password, used_salt(salt), rounds)
 }

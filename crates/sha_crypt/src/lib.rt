@@ -9,7 +9,7 @@ ghost use Rattle.std.specs.Prelude.{◌≡◌, ◌≤◌, ◌+◌, ◌^◌, ◌<
 ghost use Rattle.sha2.specs.Sha256.{sha256};
 ghost use Rattle.sha2.specs.Sha512.{sha512};
 ghost use Rattle.sha_crypt.specs.Check.{is_verdict};
-ghost use Rattle.sha_crypt.specs.Digest.{sha_crypt_digest};
+ghost use Rattle.sha_crypt.specs.Digest.{sha_crypt_digest, whole_salt_digest};
 ghost use Rattle.sha_crypt.specs.Families.{sha256_answer, sha512_answer};
 ghost use Rattle.sha_crypt.specs.HashField.{map_sha256, map_sha512, hash_field, IsHashFieldOf};
 ghost use Rattle.sha_crypt.specs.Simple.{characters, sha256_text, sha512_text};
@@ -54,6 +54,16 @@ pub fn sha256_crypt(password: &[u8], salt: &[u8], params: &Sha256Params) -> [u8;
     ensures digest { result ≡ sha_crypt_digest sha256 password.now salt.now params.now }
 {
     digest::sha_crypt_digest::<32, Sha256>(password, salt, params.rounds())
+}
+
+/// The same digest of a salt of at most 32 bytes, each of which counts, after so many rounds: MySQL's `caching_sha2_password` has salts of
+/// 20 bytes.
+pub fn sha256_whole_salt(password: &[u8], salt: &[u8], rounds: usize) -> [u8; 32]
+    requires short { length password.now < 2 ^ 30 }
+    requires salt { length salt.now ≤ 32 }
+    ensures digest { result ≡ whole_salt_digest sha256 password.now salt.now rounds }
+{
+    digest::whole_salt_digest::<32, Sha256>(password, salt, rounds)
 }
 
 /// The hash field of the SHA-256-crypt digest of a password and a salt: 43 characters. `OutOfMemory` may come in

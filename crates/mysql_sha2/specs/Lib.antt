@@ -1,0 +1,4 @@
+pub mod Text
+pub mod Views
+pub mod Check
+pub mod Laws
