@@ -23,6 +23,7 @@ pub enum JoinAnswer {
 
 impl JoinAnswer {
     /// The word. Want of memory has none.
+    #[inline(always)]
     pub fn word(&self) -> &'static str
         requires known { self.now ≢ JoinAnswer.Checked (Err (AnyError.Stored OutOfMemory)) }
         ensures word { result.now ≡ join_word self.now }
@@ -37,6 +38,7 @@ impl JoinAnswer {
     }
 
     /// Whether this is a match.
+    #[inline(always)]
     pub fn is_match(&self) -> bool
         ensures matches { result ≡ is_join_match self.now }
     {
@@ -44,6 +46,7 @@ impl JoinAnswer {
     }
 
     /// Whether this is a match or a mismatch.
+    #[inline(always)]
     pub fn has_verdict(&self) -> bool
         ensures verdict { result ≡ join_has_verdict self.now }
     {

@@ -25,6 +25,7 @@ pub struct JoinedLines {
 
 impl JoinedLines {
     // The answer for a password and a text; none where memory is wanting.
+    #[inline(always)]
     fn checked(&self, password: &str, text: &str) -> Option<JoinAnswer>
         ensures answered { MatchOption result (given_may_lack self.now.check.limits password.now text.now ≡ true)
             (λ a. (a ≢ JoinAnswer.Checked (Err (AnyError.Stored OutOfMemory)))
@@ -37,6 +38,7 @@ impl JoinedLines {
     }
 
     // The same where the text may not be UTF-8.
+    #[inline(always)]
     fn text_answer(&self, password: &str, text: &[u8]) -> Option<JoinAnswer>
         ensures answered { MatchOption result (text_may_lack self.now.check.limits password.now text.now ≡ true)
             (λ a. (a ≢ JoinAnswer.Checked (Err (AnyError.Stored OutOfMemory)))
@@ -49,6 +51,7 @@ impl JoinedLines {
     }
 
     // The same where the password may not be UTF-8.
+    #[inline(always)]
     fn both_answer(&self, password: &[u8], text: &[u8]) -> Option<JoinAnswer>
         ensures answered { MatchOption result (both_may_lack self.now.check.limits password.now text.now ≡ true)
             (λ a. (a ≢ JoinAnswer.Checked (Err (AnyError.Stored OutOfMemory)))
@@ -61,6 +64,7 @@ impl JoinedLines {
     }
 
     // The same by the user's password, if there is one.
+    #[inline(always)]
     fn password_answer(&self, password: Option<&[u8]>, text: &[u8]) -> Option<JoinAnswer>
         ensures answered { MatchOption result (password_may_lack self.now.check.limits (option_copied password.entry) text.now ≡ true)
             (λ a. (a ≢ JoinAnswer.Checked (Err (AnyError.Stored OutOfMemory)))
@@ -74,6 +78,7 @@ impl JoinedLines {
 
     // The answer for a user and a text.
     #[tactic(auto, unfolding(crate::specs::Join::join_answer, crate::specs::Join::join_may_lack))]
+    #[inline(always)]
     fn answer_user(&self, user: &[u8], text: &[u8]) -> Option<JoinAnswer>
         ensures answered { MatchOption result
             (join_may_lack self.now.check.limits (password_in self.now.passwords user.now) text.now ≡ true)
@@ -90,6 +95,7 @@ impl JoinedLines {
     }
 
     // Puts a user and the word for the user's text; or memory is wanting, and nothing is put.
+    #[inline(always)]
     fn put_answer<K: Sink>(
         &self,
         user: &[u8],

@@ -26,6 +26,7 @@ pub enum LineAnswer {
 
 impl LineAnswer {
     /// The word. Want of memory has none.
+    #[inline(always)]
     pub fn word(&self) -> &'static str
         requires known { self.now ≢ LineAnswer.Checked (Err (AnyError.Stored OutOfMemory)) }
         ensures word { result.now ≡ answer_word self.now }
@@ -38,6 +39,7 @@ impl LineAnswer {
     }
 
     /// Whether this is a match.
+    #[inline(always)]
     pub fn is_match(&self) -> bool
         ensures matches { result ≡ is_match self.now }
     {
@@ -45,6 +47,7 @@ impl LineAnswer {
     }
 
     /// Whether this is a match or a mismatch.
+    #[inline(always)]
     pub fn has_verdict(&self) -> bool
         ensures verdict { result ≡ has_verdict self.now }
     {
@@ -53,6 +56,7 @@ impl LineAnswer {
 }
 
 // Puts the word of an answer and a line feed.
+#[inline(always)]
 fn put_word<K: Sink>(out: &mut OutputBuffer, sink: &mut K, answer: &LineAnswer)
     requires known { answer.now ≢ LineAnswer.Checked (Err (AnyError.Stored OutOfMemory)) }
     ensures puts { Puts (K.written sink.old) (K.written sink.new) (K.faults sink.old) (K.faults sink.new) out.old out.new
@@ -77,6 +81,7 @@ impl AnyLines {
         }
     }
 
+    #[inline(always)]
     fn answer_to_text(&self, text: &str) -> LineAnswer
         ensures answer { IsTextAnswer self.now.check.limits text.now result }
     {
@@ -87,6 +92,7 @@ impl AnyLines {
     }
 
     #[tactic(auto, unfolding(crate::specs::Lines::line_answer, crate::specs::Lines::line_may_lack))]
+    #[inline(always)]
     fn answer_to(&self, line: &[u8]) -> LineAnswer
         ensures answer { IsLineAnswer self.now.check.limits line.now result }
     {
@@ -100,6 +106,7 @@ impl AnyLines {
     }
 
     /// The answer of a line; none where memory is wanting.
+    #[inline(always)]
     pub fn known_answer(&self, line: &[u8]) -> Option<LineAnswer>
         ensures answered { MatchOption result (line_may_lack self.now.check.limits line.now ≡ true)
             (λ a. (a ≢ LineAnswer.Checked (Err (AnyError.Stored OutOfMemory))) × (a ≡ line_answer self.now.check.limits line.now)) }

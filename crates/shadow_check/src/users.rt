@@ -21,6 +21,7 @@ pub struct UserLines {
 
 impl UserLines {
     // Puts a user and the word of what stands behind the colon; or memory is wanting, and nothing is put.
+    #[inline(always)]
     fn answer_user<K: Sink>(
         &self,
         user: &[u8],
