@@ -43,6 +43,7 @@ TEXTS = {
     "scram-sha-256": ["$scram-sha-256$19$c2FsdHNhbHRzYWx0$yKryWWaEJIQZh+JLbGHI0L6CiAe9Z/A045jMaYLvY5Q=$m68IZJjNEbv8HGR356PYAHysNh90ZvhvCDdy6qKIKYw=",
                       "$scram-sha-256-raw$20$c2FsdHNhbHRzYWx0$RdX4ARLvYgtG49yrH5Ad+1cSP6sX3ne7wcvyE05dWd8=$nqZeGYnz3lpZ+Z9cF+fW31+zlAed1+TSM+lgpSCnf7Q="],
     "phpass": ["$P$63CSgRZlssLJbqxzpCXYPhDoROG16t0", "$H$5abcdefghRQTwXLGkACWdXkqlmTP.k1"],
+    "mysql-sha2": ["$mysql$A$005*091F0C4838086B4A107B1D52524C7B084B4C3407*3576313333324C494456316E3243426A5A594F706E4B477263396B702F73426A4145764F6B566C64565030"],
     "salted-digest": ["$smd5$eqxaag==$8HSBkgbWtU2ZNtAT/chuyA==", "$ssha$kYts+A==$N/O7ZPYFWQ9QtdpxAglBt23rONc=",
                       "$ssha$$5en6G6MezRroT3XKqkdPOmY/BfQ=", "$ssha256$3xme0w==$ROfTnljnyvDpXJG9tjcgy5mIhpPVTOREnfMvABPrZb8=",
                       "$ssha512$GvCtCYhcG9k=$J37XHP+ir/NHsU3KWxpsW1E5qI1JbYSCLMsvRp8JLWp9qGsZFRUt+FzVtKiQcbF+wArqqKP0sW6Cuqjg/K97LQ=="],

@@ -132,6 +132,9 @@ static const struct any_row {
     {"$P$63CSgRZlssLJ", PWCHECK_PHPASS_FORMAT, 12, 0},
     {"$ssha$c2FsdA$x", PWCHECK_DIGEST_B64, 12, 0},
     {"$smd5$c2FsdA==", PWCHECK_DIGEST_FORMAT, 12, 0},
+    {"$mysql$A$004*00*00", PWCHECK_MYSQL_COST, 12, 0},
+    {"$mysql$A$005*091F0C4838086B4A107B1D52524C7B084B4C3407*3576313333324C494456316E3243426A5A594F706E4B477263396B702F73426A4145764F6B566C6456502D", PWCHECK_MYSQL_B64, 12, 0},
+    {"$mysql$A$005*00", PWCHECK_MYSQL_FORMAT, 12, 0},
 };
 
 /* The limits of a program that was compiled with a shorter or a longer struct, in memory of exactly that size. */
@@ -476,7 +479,7 @@ static void words(void)
     int32_t count = 0; /* of answers: after the first number without a word, none has one */
     uint8_t none;
     while (pwcheck_word(count, &none, 0)) count++;
-    NEED(count > PWCHECK_DIGEST_FORMAT);
+    NEED(count > PWCHECK_MYSQL_FORMAT);
     for (int32_t k = -5; k < 300; k++)
         for (size_t n = 0; n <= PWCHECK_WORD_SIZE; n++) {
             uint8_t *out = room(n);

@@ -25,7 +25,7 @@ python3 checks/programs.py
 python3 checks/layers.py
 python3 checks/copies.py
 # The scheme that was added last.
-python3 checks/scheme.py salted-digest salted_digest >"$work/log" || { cat "$work/log" >&2; exit 1; }
+python3 checks/scheme.py mysql-sha2 mysql_sha2 >"$work/log" || { cat "$work/log" >&2; exit 1; }
 python3 bench/pictures.py check
 python3 bench/run.py --check
 python3 checks/dist.py

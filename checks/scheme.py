@@ -87,7 +87,7 @@ def kinds(name):
     code, row = source("crates", "scheme_list", "src", "schemes.rt"), row_of(variant)
     made = re.search(r"fn is_made\(.*?=> true,", code, re.S).group(0)
     families = re.search(r"fn family\(.*?^    \}$", code, re.M | re.S).group(0)
-    arm = next(arm for arm in re.findall(r"(Scheme::[^=]*) => CostFamily", families) if re.search(rf"::{variant}\b", arm))
+    arm = next(arm for arm in re.findall(r"(Scheme::[^=]*) =>\s+CostFamily", families) if re.search(rf"::{variant}\b", arm))
     methods = source("crates", "scheme_list", "src", "methods.rt")
     return {"made": bool(re.search(rf"::{variant}\b", made)), "method": bool(re.search(rf"::{variant}\b", methods)),
             "own": not re.search(r"\bphc\b", row), "family": "|" not in arm}

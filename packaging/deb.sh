@@ -63,7 +63,7 @@ package pwcheck "$tree" admin libpwcheck <<'TEXT'
 Description: verification of stored passwords, proved
  Programs that answer each line of a password file with one word (SHA-crypt,
  yescrypt, bcrypt, bcrypt-digest, scrypt, PBKDF2, Argon2; scram-sha-256,
- md5-crypt, sha1-crypt, phpass, salted-digest and pbkdf2-sha1 for migration),
- a table of users, wrapped Base64, and a C library of the same verdicts.
+ mysql-sha2; md5-crypt, sha1-crypt, phpass, salted-digest and pbkdf2-sha1 for
+ migration), a table of users, wrapped Base64, and a C library of the same verdicts.
  Written in Rattle; each function is proved to meet its contract.
 TEXT

@@ -79,6 +79,9 @@ class Answer(enum.IntEnum):
     PHPASS_FORMAT = 52
     DIGEST_B64 = 53
     DIGEST_FORMAT = 54
+    MYSQL_COST = 55
+    MYSQL_B64 = 56
+    MYSQL_FORMAT = 57
 
 
 class Alphabet(enum.IntEnum):

@@ -96,12 +96,18 @@ pub enum Answer {
     PhpassFormat,
     DigestB64,
     DigestFormat,
+    /// The rounds of a text `$mysql$` are none of 5,000 to 4,095,000, by three digits.
+    MysqlCost,
+    /// The hash of a text `$mysql$` is that of no digest.
+    MysqlB64,
+    /// The text `$mysql$` has another fault.
+    MysqlFormat,
     /// The answer of a later library.
     Unknown(i32),
 }
 
 /// The answers by their numbers.
-pub const ANSWERS: [Answer; 55] = [
+pub const ANSWERS: [Answer; 58] = [
     Answer::Match,
     Answer::Mismatch,
     Answer::NotUtf8,
@@ -157,6 +163,9 @@ pub const ANSWERS: [Answer; 55] = [
     Answer::PhpassFormat,
     Answer::DigestB64,
     Answer::DigestFormat,
+    Answer::MysqlCost,
+    Answer::MysqlB64,
+    Answer::MysqlFormat,
 ];
 
 impl Answer {

@@ -23,6 +23,8 @@ use Rattle.phpass_plain.specs.Check.{phpass_answer}
 use Rattle.phpass_plain.specs.declared.error.PhpassFault.{PhpassFault}
 use Rattle.salted_digest.specs.Check.{salted_answer}
 use Rattle.salted_digest.specs.declared.error.SaltedFault.{SaltedFault}
+use Rattle.mysql_sha2.specs.Check.{mysql_answer}
+use Rattle.mysql_sha2.specs.declared.error.MysqlFault.{MysqlFault}
 use Rattle.bcrypt_plain.specs.declared.error.BcryptError.{BcryptError}
 use Rattle.bcrypt_plain.specs.declared.error.BcryptError.TheVariants as of_bcrypt
 use Rattle.yescrypt_plain.specs.Check.{scrypt_answer, scrypt_matches, scrypt_verdict, yescrypt_answer, yescrypt_matches}
@@ -32,14 +34,14 @@ use Rattle.yescrypt_plain.specs.declared.error.CheckError.{CheckError}
 use Rattle.yescrypt_plain.specs.declared.error.CheckError.TheVariants as of_crypt
 use Rattle.yescrypt_plain.specs.declared.error.TextFault.{TextFault}
 use Rattle.any_check.specs.Cost.{is_costly, verdict_within}
-use Rattle.any_check.specs.Table.{any_verdict, md5_answer, md5_by, of_bcrypt_check, of_md5, of_phpass, of_salted, of_scram, of_sha1, of_scrypt_check, of_stored, of_yescrypt_check, row, scheme_answer, text_scheme}
+use Rattle.any_check.specs.Table.{any_verdict, md5_answer, md5_by, of_bcrypt_check, of_md5, of_mysql, of_phpass, of_salted, of_scram, of_sha1, of_scrypt_check, of_stored, of_yescrypt_check, row, scheme_answer, text_scheme}
 use Rattle.any_check.specs.declared.numbers.SchemeCosts.{SchemeCosts}
 use Rattle.any_check.specs.declared.error.AnyError.{AnyError}
 use Rattle.any_check.specs.declared.error.AnyError.TheVariants.{NoScheme, Stored}
 use Rattle.scheme_list.specs.declared.schemes.Scheme.{Scheme}
 use Rattle.scheme_list.specs.declared.schemes.Scheme.TheVariants.{Argon2d, Argon2i, Argon2id, Bcrypt, BcryptDigest, Md5Crypt}
 use Rattle.scheme_list.specs.declared.schemes.Scheme.TheVariants.{Pbkdf2Sha256, Pbkdf2Sha512, Scrypt, ScryptCrypt, Sha256Crypt, Sha512Crypt}
-use Rattle.scheme_list.specs.declared.schemes.Scheme.TheVariants.{Pbkdf2Sha1, Phpass, SaltedDigest, Scram, Sha1Crypt, Yescrypt}
+use Rattle.scheme_list.specs.declared.schemes.Scheme.TheVariants.{MysqlSha2, Pbkdf2Sha1, Phpass, SaltedDigest, Scram, Sha1Crypt, Yescrypt}
 
 abbrev Other : Result Bool AnyError → Type 0
 Other r = r ≢ Err (Stored OutOfMemory)
@@ -75,6 +77,10 @@ of_phpass_text (Err e) = λ h. cc
 of_salted_text : (r : Result Bool SaltedFault) → Other (of_salted r)
 of_salted_text (Ok b) = λ h. cc
 of_salted_text (Err e) = λ h. cc
+
+of_mysql_text : (r : Result Bool MysqlFault) → Other (of_mysql r)
+of_mysql_text (Ok b) = λ h. cc
+of_mysql_text (Err e) = λ h. cc
 
 of_check : (r : Result (Unit {0}) BcryptError) → Other (of_bcrypt_check r)
 of_check (Ok done) = λ h. cc
@@ -145,6 +151,7 @@ module _ (accepted : PasswordHash → List ℕ → ℕ → Bool) (tag : List ℕ
   by_row Scram = of_scram_text (scram_answer password stored)
   by_row Phpass = of_phpass_text (phpass_answer password stored)
   by_row SaltedDigest = of_salted_text (salted_answer password stored)
+  by_row MysqlSha2 = of_mysql_text (mysql_answer password stored)
   by_row Scrypt = by_stored
   by_row Pbkdf2Sha256 = by_stored
   by_row Pbkdf2Sha512 = by_stored

@@ -46,6 +46,10 @@ use Rattle.salted_digest.specs.Text.{text_hash}
 use Rattle.salted_digest.specs.declared.hash.DigestHash.{DigestHash}
 use Rattle.salted_digest.specs.declared.error.SaltedFault.{SaltedFault}
 use Rattle.salted_digest.proofs.Answers.{verdict_where_hash}
+use Rattle.mysql_sha2.specs.Check.{mysql_answer}
+use Rattle.mysql_sha2.specs.Text as mysql_text
+use Rattle.mysql_sha2.specs.declared.error.MysqlFault.{MysqlFault}
+use Rattle.mysql_sha2.proofs.Answers as mysql_laws
 use Rattle.bcrypt_plain.specs.declared.error.BcryptError.{BcryptError}
 use Rattle.bcrypt_plain.specs.declared.error.BcryptError.TheVariants.{HashMismatch, InvalidFormat, ZeroByte}
 use Rattle.bcrypt_plain.specs.declared.error.BcryptFault.{BcryptFault}
@@ -57,11 +61,11 @@ use Rattle.yescrypt_plain.specs.declared.error.CheckError.TheVariants as of_cryp
 use Rattle.yescrypt_plain.specs.declared.error.TextFault.{TextFault}
 use Rattle.any_check.specs.Cost.{is_costly, kind_costs}
 use Rattle.any_check.specs.Kinds.{asks, bcrypt_kind, is_valid, kind_by, md5_by_magic, md5_kind, phc_kind, record_costs, salted_kind}
-use Rattle.any_check.specs.Kinds.{digest_text_kind, phpass_kind, scram_kind, scrypt_kind, sha1_kind, sha_kind, text_kind, yescrypt_kind}
+use Rattle.any_check.specs.Kinds.{digest_text_kind, mysql_kind, phpass_kind, scram_kind, scrypt_kind, sha1_kind, sha_kind, text_kind, yescrypt_kind}
 use Rattle.any_check.specs.Numbers.{no_costs}
 use Rattle.any_check.specs.Laws.{CostlyIsValid, ValidIsVerdict, ValidIsVerdictOnSome, hashes}
 use Rattle.any_check.specs.Table.{any_verdict, identifier, is_record, md5_answer, md5_by, of_bcrypt_check, of_md5, of_scram, of_sha1, of_scrypt_check}
-use Rattle.any_check.specs.Table.{of_phpass, of_salted, of_stored, of_yescrypt_check, scheme_answer, sha_scheme, text_scheme}
+use Rattle.any_check.specs.Table.{of_mysql, of_phpass, of_salted, of_stored, of_yescrypt_check, scheme_answer, sha_scheme, text_scheme}
 use Rattle.any_check.specs.declared.error.AnyError.{AnyError}
 use Rattle.any_check.specs.declared.kinds.TextKind.{TextKind}
 use Rattle.any_check.specs.declared.kinds.TextKind.TheVariants.{Invalid, NoScheme, Valid}
@@ -70,7 +74,7 @@ use Rattle.scheme_list.specs.Schemes.{row_of, scheme_named}
 use Rattle.scheme_list.specs.declared.schemes.Scheme.{Scheme as StoredScheme}
 use Rattle.scheme_list.specs.declared.schemes.Scheme.TheVariants.{Argon2d, Argon2i, Argon2id, Bcrypt, BcryptDigest, Md5Crypt}
 use Rattle.scheme_list.specs.declared.schemes.Scheme.TheVariants.{Pbkdf2Sha256, Pbkdf2Sha512, Scrypt, ScryptCrypt, Sha256Crypt, Sha512Crypt}
-use Rattle.scheme_list.specs.declared.schemes.Scheme.TheVariants.{Pbkdf2Sha1, Phpass, SaltedDigest, Scram, Sha1Crypt, Yescrypt}
+use Rattle.scheme_list.specs.declared.schemes.Scheme.TheVariants.{MysqlSha2, Pbkdf2Sha1, Phpass, SaltedDigest, Scram, Sha1Crypt, Yescrypt}
 use Rattle.sha_crypt.specs.declared.errors.Family.TheVariants.{Sha256, Sha512}
 use Rattle.any_check.proofs.Bound.{mcf_of_fault, mcf_of_valid}
 use Rattle.any_check.proofs.Families.{family_if_sha, no_family, sha_same}
@@ -200,6 +204,22 @@ phpass_agree : (password stored : List ℕ)
 phpass_agree password stored =
     phpass_compared (phpass_answer password stored) ∙ verdict_where_found password stored
     ∙ phpass_costed (phpass_text.text_cost stored)
+
+-- ---- MySQL
+
+mysql_compared : (r : Result Bool MysqlFault) → is_ok (of_mysql r) ≡ is_ok r
+mysql_compared (Err e) = refl
+mysql_compared (Ok b) = refl
+
+mysql_costed : (r : Result ℕ MysqlFault) → is_ok r ≡ is_valid (mysql_kind r)
+mysql_costed (Err e) = refl
+mysql_costed (Ok rounds) = refl
+
+mysql_agree : (password stored : List ℕ)
+    → Agree (of_mysql (mysql_answer password stored)) (mysql_kind (mysql_text.text_cost stored))
+mysql_agree password stored =
+    mysql_compared (mysql_answer password stored) ∙ mysql_laws.verdict_where_rounds password stored
+    ∙ mysql_costed (mysql_text.text_cost stored)
 
 -- ---- salted digests
 
@@ -350,6 +370,7 @@ module _ (accepted : PasswordHash → List ℕ → ℕ → Bool) (tag : List ℕ
     by_row (Some Scram) is = (scram_valid password stored, λ hashed. scram_agree password stored hashed)
     by_row (Some Phpass) is = both (Some Phpass) _ _ (phpass_agree password stored)
     by_row (Some SaltedDigest) is = both (Some SaltedDigest) _ _ (salted_agree password stored)
+    by_row (Some MysqlSha2) is = both (Some MysqlSha2) _ _ (mysql_agree password stored)
     by_row (Some Scrypt) is = both (Some Scrypt) _ _ (record_row Scrypt refl is)
     by_row (Some Pbkdf2Sha256) is = both (Some Pbkdf2Sha256) _ _ (record_row Pbkdf2Sha256 refl is)
     by_row (Some Pbkdf2Sha512) is = both (Some Pbkdf2Sha512) _ _ (record_row Pbkdf2Sha512 refl is)

@@ -13,7 +13,7 @@ use Rattle.scheme_list.specs.declared.schemes.CostFamily.TheVariants as of
 use Rattle.scheme_list.specs.declared.schemes.Scheme.{Scheme}
 use Rattle.scheme_list.specs.declared.schemes.Scheme.TheVariants.{Argon2d, Argon2i, Argon2id, Bcrypt, BcryptDigest, Md5Crypt}
 use Rattle.scheme_list.specs.declared.schemes.Scheme.TheVariants.{Pbkdf2Sha256, Pbkdf2Sha512, Scrypt, ScryptCrypt, Sha256Crypt, Sha512Crypt}
-use Rattle.scheme_list.specs.declared.schemes.Scheme.TheVariants.{Pbkdf2Sha1, Phpass, SaltedDigest, Scram, Sha1Crypt, Yescrypt}
+use Rattle.scheme_list.specs.declared.schemes.Scheme.TheVariants.{MysqlSha2, Pbkdf2Sha1, Phpass, SaltedDigest, Scram, Sha1Crypt, Yescrypt}
 use Rattle.phc_kdf.specs.Numbers.{number}
 use Rattle.sha_crypt.specs.Fields.{ShaFields}
 use Rattle.sha_crypt.specs.Records.{record_of}
@@ -32,6 +32,8 @@ use Rattle.phpass_plain.specs.declared.error.PhpassFault.{PhpassFault}
 use Rattle.salted_digest.specs.Text.{text_hash}
 use Rattle.salted_digest.specs.declared.hash.DigestHash.{DigestHash}
 use Rattle.salted_digest.specs.declared.error.SaltedFault.{SaltedFault}
+use Rattle.mysql_sha2.specs.Text as of_mysql
+use Rattle.mysql_sha2.specs.declared.error.MysqlFault.{MysqlFault}
 use Rattle.yescrypt_plain.specs.Text.{scrypt_costs, yescrypt_costs}
 use Rattle.yescrypt_plain.specs.declared.error.TextFault.{TextFault}
 use Rattle.yescrypt_plain.specs.declared.params.ScryptParams.{ScryptParams}
@@ -102,6 +104,11 @@ abbrev pub digest_text_kind : Result DigestHash SaltedFault → TextKind
 digest_text_kind (Err e) = Invalid
 digest_text_kind (Ok hash) = asks SaltedDigest no_costs
 
+-- MySQL: the rounds
+abbrev pub mysql_kind : Result ℕ MysqlFault → TextKind
+mysql_kind (Err e) = Invalid
+mysql_kind (Ok rounds) = asks MysqlSha2 (of_rounds rounds)
+
 -- yescrypt: the binary logarithm of N, r and t
 abbrev pub yescrypt_kind : Result YescryptParams TextFault → TextKind
 yescrypt_kind (Err e) = Invalid
@@ -159,6 +166,7 @@ module _ (accepted : PasswordHash → List ℕ → ℕ → Bool) where
   row_kind Scram stored = scram_kind (of_scram.text_cost stored)
   row_kind Phpass stored = phpass_kind (of_phpass.text_cost stored)
   row_kind SaltedDigest stored = digest_text_kind (text_hash stored)
+  row_kind MysqlSha2 stored = mysql_kind (of_mysql.text_cost stored)
   row_kind Scrypt stored = record_kind Scrypt stored
   row_kind Pbkdf2Sha256 stored = record_kind Pbkdf2Sha256 stored
   row_kind Pbkdf2Sha512 stored = record_kind Pbkdf2Sha512 stored

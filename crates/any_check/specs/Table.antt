@@ -8,7 +8,7 @@ use Rattle.scheme_list.specs.Schemes.{row_of, scheme_named}
 use Rattle.scheme_list.specs.declared.schemes.Scheme.{Scheme}
 use Rattle.scheme_list.specs.declared.schemes.Scheme.TheVariants.{Argon2d, Argon2i, Argon2id, Bcrypt, BcryptDigest, Md5Crypt}
 use Rattle.scheme_list.specs.declared.schemes.Scheme.TheVariants.{Pbkdf2Sha256, Pbkdf2Sha512, Scrypt, ScryptCrypt, Sha256Crypt, Sha512Crypt}
-use Rattle.scheme_list.specs.declared.schemes.Scheme.TheVariants.{Pbkdf2Sha1, Phpass, SaltedDigest, Scram, Sha1Crypt, Yescrypt}
+use Rattle.scheme_list.specs.declared.schemes.Scheme.TheVariants.{MysqlSha2, Pbkdf2Sha1, Phpass, SaltedDigest, Scram, Sha1Crypt, Yescrypt}
 use Rattle.sha_crypt.specs.declared.errors.Family.{Family}
 use Rattle.sha_crypt.specs.declared.errors.Family.TheVariants.{Sha256, Sha512}
 use Rattle.phc_kdf.specs.Limits.{password_max}
@@ -37,6 +37,9 @@ use Rattle.phpass_plain.specs.declared.error.PhpassFault.TheVariants as of_phpas
 use Rattle.salted_digest.specs.Check.{salted_answer}
 use Rattle.salted_digest.specs.declared.error.SaltedFault.{SaltedFault}
 use Rattle.salted_digest.specs.declared.error.SaltedFault.TheVariants as of_salted_fault
+use Rattle.mysql_sha2.specs.Check.{mysql_answer}
+use Rattle.mysql_sha2.specs.declared.error.MysqlFault.{MysqlFault}
+use Rattle.mysql_sha2.specs.declared.error.MysqlFault.TheVariants as of_mysql_fault
 use Rattle.yescrypt_plain.specs.Check.{is_verdict, scrypt_answer, yescrypt_answer}
 use Rattle.yescrypt_plain.specs.declared.error.CheckError.{CheckError}
 use Rattle.yescrypt_plain.specs.declared.error.CheckError.TheVariants as of_crypt
@@ -97,6 +100,11 @@ abbrev pub of_salted : Result Bool SaltedFault → Result Bool AnyError
 of_salted (Ok b) = Ok b
 of_salted (Err e) = Err (cause.Salted e)
 
+-- of `mysql_check`
+abbrev pub of_mysql : Result Bool MysqlFault → Result Bool AnyError
+of_mysql (Ok b) = Ok b
+of_mysql (Err e) = Err (cause.Mysql e)
+
 -- of `bcrypt_check` and `digest_check`, for which another password is a fault
 abbrev pub of_bcrypt_check : Result (Unit {0}) BcryptError → Result Bool AnyError
 of_bcrypt_check (Ok done) = Ok true
@@ -153,6 +161,7 @@ module _ (accepted : PasswordHash → List ℕ → ℕ → Bool) (tag : List ℕ
   row Scram password stored = of_scram (scram_answer password stored)
   row Phpass password stored = of_phpass (phpass_answer password stored)
   row SaltedDigest password stored = of_salted (salted_answer password stored)
+  row MysqlSha2 password stored = of_mysql (mysql_answer password stored)
   row Scrypt password stored = stored_row password stored
   row Pbkdf2Sha256 password stored = stored_row password stored
   row Pbkdf2Sha512 password stored = stored_row password stored
@@ -191,6 +200,7 @@ module _ (accepted : PasswordHash → List ℕ → ℕ → Bool) (needs_memory :
   row_may_lack (Some Scram) password stored = false
   row_may_lack (Some Phpass) password stored = false
   row_may_lack (Some SaltedDigest) password stored = false
+  row_may_lack (Some MysqlSha2) password stored = false
   row_may_lack (Some Scrypt) password stored = may_lack_memory accepted needs_memory tag password stored
   row_may_lack (Some Pbkdf2Sha256) password stored = may_lack_memory accepted needs_memory tag password stored
   row_may_lack (Some Pbkdf2Sha512) password stored = may_lack_memory accepted needs_memory tag password stored
@@ -265,6 +275,12 @@ salted_word of_salted_fault.SaltEncoding = codes "digest-b64"
 salted_word of_salted_fault.HashEncoding = codes "digest-b64"
 salted_word fault = codes "digest-format"
 
+-- the word of a fault of a text of MySQL; the last line is for the faults of its form
+abbrev pub mysql_word : MysqlFault → List ℕ
+mysql_word of_mysql_fault.Rounds = codes "mysql-cost"
+mysql_word of_mysql_fault.HashField = codes "mysql-b64"
+mysql_word fault = codes "mysql-format"
+
 -- those of `check_stored`, and a few for each further scheme; nothing is out of memory there
 abbrev pub any_word : Result Bool AnyError → List ℕ
 any_word (Ok b) = word (Ok b)
@@ -278,5 +294,6 @@ any_word (Err (cause.Sha1 fault)) = sha1_word fault
 any_word (Err (cause.Scram fault)) = scram_word fault
 any_word (Err (cause.Phpass fault)) = phpass_word fault
 any_word (Err (cause.Salted fault)) = salted_word fault
+any_word (Err (cause.Mysql fault)) = mysql_word fault
 any_word (Err cause.ZeroByte) = codes "zero-byte"
 any_word (Err cause.TooCostly) = codes "too-costly"

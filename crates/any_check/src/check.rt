@@ -3,7 +3,7 @@
 ghost use Rattle.std.specs.Prelude.{◌≡◌, ◌≤◌, Some, length};
 ghost use Rattle.mcf.specs.Grammar.{mcf};
 ghost use Rattle.phc_kdf.specs.Limits.{password_max};
-ghost use Rattle.any_check.specs.Table.{IsAnyVerdict, any_may_lack, any_verdict, md5_answer, of_bcrypt_check, of_md5, of_phpass, of_salted, of_scram, of_scrypt_check, of_sha1, of_stored, of_yescrypt_check, row, row_may_lack, text_scheme};
+ghost use Rattle.any_check.specs.Table.{IsAnyVerdict, any_may_lack, any_verdict, md5_answer, of_bcrypt_check, of_md5, of_mysql, of_phpass, of_salted, of_scram, of_scrypt_check, of_sha1, of_stored, of_yescrypt_check, row, row_may_lack, text_scheme};
 ghost use Rattle.any_check.specs.Cost.{verdict_within, within_may_lack};
 
 use crate::cost::is_costly;
@@ -13,6 +13,7 @@ use bcrypt_digest::digest_check;
 use bcrypt_plain::{BcryptError, bcrypt_check};
 use mcf::PasswordHashRef;
 use md5_plain::{Md5Fault, magic_of, md5_verdict};
+use mysql_sha2::{MysqlFault, mysql_check};
 use phpass_plain::{PhpassFault, phpass_check};
 use salted_digest::{SaltedFault, salted_check};
 use scram_plain::{ScramFault, scram_check};
@@ -82,6 +83,16 @@ fn of_salted(answer: Result<bool, SaltedFault>) -> Result<bool, AnyError>
     match answer {
         Ok(matches) => Ok(matches),
         Err(e) => Err(AnyError::Salted(e)),
+    }
+}
+
+// An answer of `mysql_check`.
+fn of_mysql(answer: Result<bool, MysqlFault>) -> Result<bool, AnyError>
+    ensures { result ≡ of_mysql answer }
+{
+    match answer {
+        Ok(matches) => Ok(matches),
+        Err(e) => Err(AnyError::Mysql(e)),
     }
 }
 
@@ -165,6 +176,7 @@ fn checked<K: PhcKdf>(
         Scheme::Scram => of_scram(scram_check(password.as_bytes(), stored)),
         Scheme::Phpass => of_phpass(phpass_check(password.as_bytes(), stored)),
         Scheme::SaltedDigest => of_salted(salted_check(password.as_bytes(), stored)),
+        Scheme::MysqlSha2 => of_mysql(mysql_check(password.as_bytes(), stored)),
         Scheme::Sha256Crypt | Scheme::Sha512Crypt => of_stored(check_stored(
             alloc, kdf, password, stored,
         )),
@@ -181,7 +193,7 @@ fn checked<K: PhcKdf>(
 /// Checks a password against a stored text of any scheme, and answers whether it matches.
 ///
 /// What stands between the first two `$` of the text names the scheme ([`Scheme`]), and the answer is
-/// that of the scheme's own check: `md5_verdict` for md5-crypt, `bcrypt_check` for bcrypt, `digest_check` for bcrypt of a digest, `sha1_check` for sha1-crypt, `scram_check` for SCRAM, `phpass_check` for phpass, `salted_check` for salted digests, `yescrypt_check` and
+/// that of the scheme's own check: `md5_verdict` for md5-crypt, `bcrypt_check` for bcrypt, `digest_check` for bcrypt of a digest, `sha1_check` for sha1-crypt, `scram_check` for SCRAM, `phpass_check` for phpass, `salted_check` for salted digests, `mysql_check` for MySQL's, `yescrypt_check` and
 /// `scrypt_check` for `y` and `7`, in the tables that `kept` keeps, `check_stored` for SHA-crypt and for records, whose keys
 /// `kdf` derives. Only a record's key and these tables take memory.
 ///

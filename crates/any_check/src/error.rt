@@ -2,10 +2,11 @@
 
 ghost use Rattle.std.specs.Prelude.{◌≡◌, ◌≢◌, ◌≤◌, Err, length};
 ghost use Rattle.stored_check.specs.declared.error.StoredError.TheVariants.{OutOfMemory};
-ghost use Rattle.any_check.specs.Table.{any_word, bcrypt_word, phpass_word, salted_word, scram_word, scrypt_word, sha1_word, yescrypt_word};
+ghost use Rattle.any_check.specs.Table.{any_word, bcrypt_word, mysql_word, phpass_word, salted_word, scram_word, scrypt_word, sha1_word, yescrypt_word};
 
 use bcrypt_plain::BcryptFault;
 use md5_plain::Md5Fault;
+use mysql_sha2::MysqlFault;
 use phpass_plain::PhpassFault;
 use salted_digest::SaltedFault;
 use scram_plain::ScramFault;
@@ -38,6 +39,8 @@ pub enum AnyError {
     Phpass(PhpassFault),
     /// The text is no text of a salted digest that is taken, though its identifier is `smd5`, `ssha`, `ssha256` or `ssha512`.
     Salted(SaltedFault),
+    /// The text is no text of MySQL's caching_sha2_password that is taken, though its identifier is `mysql`.
+    Mysql(MysqlFault),
     /// The text is valid, and the password has a zero byte, which its scheme doesn't tell from the end.
     ZeroByte,
     /// The text is valid, and its cost is above the bound.
@@ -133,11 +136,24 @@ fn salted_word(fault: SaltedFault) -> &'static str
     }
 }
 
+// The word of a fault of a text of MySQL.
+fn mysql_word(fault: MysqlFault) -> &'static str
+    ensures word { result.now ≡ mysql_word fault }
+    ensures short { length result.now ≤ 17 }
+{
+    match fault {
+        MysqlFault::Rounds => "mysql-cost",
+        MysqlFault::HashField => "mysql-b64",
+        _ => "mysql-format",
+    }
+}
+
 /// The word of an answer of [`check_any`](crate::check_any): `pwcheck`'s words; `no-scheme`; `md5-format` for each fault of a
 /// text of md5-crypt; `bcrypt-obsolete`, `bcrypt-cost`, `bcrypt-b64` and, for each other fault of a text of bcrypt, be a digest in front or not,
 /// `bcrypt-format`; `yescrypt-flavor`, `yescrypt-cost` and `yescrypt-format`; `scrypt-cost` and `scrypt-format` for faults
 /// of a text `$7$`; `sha1-cost`, `sha1-b64` and `sha1-format`; `scram-cost`, `scram-b64`, `scram-format` and `not-ascii`;
-/// `phpass-cost`, `phpass-b64` and `phpass-format`; `digest-b64` and `digest-format`; `zero-byte`; and `too-costly`. Want of memory has none.
+/// `phpass-cost`, `phpass-b64` and `phpass-format`; `digest-b64` and `digest-format`; `mysql-cost`, `mysql-b64` and
+/// `mysql-format`; `zero-byte`; and `too-costly`. Want of memory has none.
 pub fn any_word(answer: &Result<bool, AnyError>) -> &'static str
     requires known { answer.now ≢ Err (AnyError.Stored OutOfMemory) }
     ensures word { result.now ≡ any_word answer.now }
@@ -155,6 +171,7 @@ pub fn any_word(answer: &Result<bool, AnyError>) -> &'static str
         Err(AnyError::Scram(fault)) => scram_word(fault),
         Err(AnyError::Phpass(fault)) => phpass_word(fault),
         Err(AnyError::Salted(fault)) => salted_word(fault),
+        Err(AnyError::Mysql(fault)) => mysql_word(fault),
         Err(AnyError::ZeroByte) => "zero-byte",
         Err(AnyError::TooCostly) => "too-costly",
     }

@@ -10,7 +10,7 @@ ghost use Rattle.sha_crypt.specs.Records.{record_of};
 ghost use Rattle.yescrypt_plain.specs.Text.{scrypt_costs, yescrypt_costs};
 ghost use Rattle.phc.specs.declared.password_hash.PasswordHash.{PasswordHash};
 ghost use Rattle.any_check.specs.Numbers.{no_costs};
-ghost use Rattle.any_check.specs.Kinds.{asks, bcrypt_kind, md5_fields_kind, md5_kind, phc_kind, phpass_kind, record_costs, record_kind, row_kind, salted_kind, scram_kind, scrypt_kind, sha_kind, sha1_kind, sha_text_kind, digest_text_kind, text_kind, yescrypt_kind};
+ghost use Rattle.any_check.specs.Kinds.{asks, bcrypt_kind, md5_fields_kind, md5_kind, phc_kind, phpass_kind, record_costs, record_kind, row_kind, salted_kind, scram_kind, scrypt_kind, sha_kind, sha1_kind, sha_text_kind, digest_text_kind, mysql_kind, text_kind, yescrypt_kind};
 
 use crate::md5_text::is_plain;
 use crate::{Costs, NO_COSTS, TextCosts, scheme_of_text, sha_scheme};
@@ -18,6 +18,7 @@ use bcrypt_digest::digest_cost;
 use bcrypt_plain::{BcryptFault, text_cost};
 use mcf::{Fields, PasswordHashRef};
 use md5_plain::{are_md5_fields, magic_of};
+use mysql_sha2::MysqlFault;
 use phc::PasswordHash;
 use phpass_plain::PhpassFault;
 use salted_digest::{DigestHash, SaltedFault, text_hash};
@@ -220,6 +221,16 @@ fn digest_text_kind(hash: Result<DigestHash, SaltedFault>) -> TextKind
     }
 }
 
+// A text of MySQL, by its rounds.
+fn mysql_kind(rounds: Result<u32, MysqlFault>) -> TextKind
+    ensures { result ≡ mysql_kind rounds }
+{
+    match rounds {
+        Ok(rounds) => asks(Scheme::MysqlSha2, Costs::of_rounds(rounds as u64)),
+        Err(_) => TextKind::Invalid,
+    }
+}
+
 fn yescrypt_kind(stored: &str) -> TextKind
     ensures { result ≡ yescrypt_kind (yescrypt_costs stored.now) }
 {
@@ -260,6 +271,7 @@ fn row_kind<K: PhcKdf>(kdf: &K, scheme: Scheme, stored: &str) -> TextKind
         Scheme::Scram => scram_kind(scram_plain::text_cost(stored)),
         Scheme::Phpass => phpass_kind(phpass_plain::text_cost(stored)),
         Scheme::SaltedDigest => digest_text_kind(text_hash(stored)),
+        Scheme::MysqlSha2 => mysql_kind(mysql_sha2::text_cost(stored)),
         Scheme::Scrypt
         | Scheme::Pbkdf2Sha256
         | Scheme::Pbkdf2Sha512

@@ -7,6 +7,7 @@ use any_check::{
 };
 use bcrypt_plain::BcryptFault;
 use md5_plain::Md5Fault;
+use mysql_sha2::MysqlFault;
 use phpass_plain::PhpassFault;
 use salted_digest::SaltedFault;
 use scram_plain::ScramFault;
@@ -178,6 +179,18 @@ const FAULTS: &[(&str, &str)] = &[
     ("$H$63CSgRZlssLJbqxzpCXYPhDoROG16t+", "phpass-b64"),
     ("$P$63CSgRZlssLJbqxzpCXYPhDoROG16t2", "phpass-b64"),
     ("$ssha$kYts+A==", "digest-format"),
+    (
+        "$mysql$A$005*091F0C4838086B4A107B1D52524C7B084B4C3407",
+        "mysql-format",
+    ),
+    (
+        "$mysql$A$004*091F0C4838086B4A107B1D52524C7B084B4C3407*3576313333324C494456316E3243426A5A594F706E4B477263396B702F73426A4145764F6B566C64565030",
+        "mysql-cost",
+    ),
+    (
+        "$mysql$A$005*091F0C4838086B4A107B1D52524C7B084B4C3407*3576313333324C494456316E3243426A5A594F706E4B477263396B702F73426A4145764F6B566C6456502D",
+        "mysql-b64",
+    ),
     (
         "$ssha256$kYts+A==$N/O7ZPYFWQ9QtdpxAglBt23rONc=",
         "digest-format",
@@ -457,6 +470,28 @@ const PASSED: &[(&[usize], SchemeCosts)] = &[
     ),
 ];
 
+// MySQL's text of the password `secret`, whose rounds are never fewer than 5,000: it is in no table, since the tables are gone through often.
+const MYSQL: &str =
+    "$mysql$A$005*091F0C4838086B4A107B1D52524C7B084B4C3407*3576313333324C494456316E3243426A5A594F706E4B477263396B702F73426A4145764F6B566C64565030";
+
+#[test]
+fn mysql_texts(rt: HostRuntime) {
+    let kdf = record_kdf(rt.alloc());
+    let kept = CryptKept::new(rt.alloc());
+    let dear = SchemeCosts {
+        sha_crypt: Costs {
+            rounds: 4_999,
+            ..NO_COSTS
+        },
+        ..LEAST
+    };
+    assert!(rt; check_any(rt.alloc(), &kdf, &kept, "secret", MYSQL) == Ok(true));
+    assert!(rt; check_any(rt.alloc(), &kdf, &kept, "Secret", MYSQL) == Ok(false));
+    assert!(rt; check_any_within(rt.alloc(), &kdf, &kept, &LEAST, "secret", MYSQL) == Ok(true));
+    let answer = check_any_within(rt.alloc(), &kdf, &kept, &dear, "secret", MYSQL);
+    assert!(rt; answer == Err(AnyError::TooCostly), "{answer:?}");
+}
+
 #[test]
 fn bounds_passed(rt: HostRuntime) {
     let kdf = record_kdf(rt.alloc());
@@ -517,6 +552,7 @@ const CAUSES: &[(&str, &str, AnyError)] = &[
     ),
     ("secret", "$H$5", AnyError::Phpass(PhpassFault::Length)),
     ("secret", "$ssha", AnyError::Salted(SaltedFault::NoSalt)),
+    ("secret", "$mysql$", AnyError::Mysql(MysqlFault::WrongId)),
     (
         "secret",
         "$smd5$eqxaag==$8HSBkgbWtU2ZNtAT/chuyA=",
@@ -590,6 +626,7 @@ fn schemes(rt: HostRuntime) {
         ("$H$", Scheme::Phpass),
         ("$smd5", Scheme::SaltedDigest),
         ("$ssha512$x", Scheme::SaltedDigest),
+        ("$mysql$A$005", Scheme::MysqlSha2),
         ("$scrypt$x", Scheme::Scrypt),
         ("$argon2i", Scheme::Argon2i),
         ("$pbkdf2-sha512$x", Scheme::Pbkdf2Sha512),

@@ -755,6 +755,7 @@ const NO_NAMES: &[&str] = &[
     "sha256",
     "scrypt-crypt",
     "scram-sha-256",
+    "mysql-sha2",
     "argon2d",
 ];
 

@@ -10,14 +10,16 @@ use Rattle.scram_plain.specs.declared.error.ScramFault.{ScramFault}
 use Rattle.scram_plain.specs.declared.error.ScramFault.TheVariants as of_scram
 use Rattle.phpass_plain.specs.declared.error.PhpassFault.{PhpassFault}
 use Rattle.phpass_plain.specs.declared.error.PhpassFault.TheVariants as of_phpass
+use Rattle.mysql_sha2.specs.declared.error.MysqlFault.{MysqlFault}
+use Rattle.mysql_sha2.specs.declared.error.MysqlFault.TheVariants as of_mysql
 use Rattle.salted_digest.specs.declared.error.SaltedFault.{SaltedFault}
 use Rattle.salted_digest.specs.declared.error.SaltedFault.TheVariants as of_salted
 use Rattle.yescrypt_plain.specs.declared.error.TextFault.{TextFault}
 use Rattle.yescrypt_plain.specs.declared.error.TextFault.TheVariants as of_text
-use Rattle.any_check.specs.Table.{any_word, bcrypt_word, phpass_word, salted_word, scram_word, scrypt_word, sha1_word, yescrypt_word}
+use Rattle.any_check.specs.Table.{any_word, bcrypt_word, mysql_word, phpass_word, salted_word, scram_word, scrypt_word, sha1_word, yescrypt_word}
 use Rattle.any_check.specs.declared.error.AnyError.{AnyError}
 use Rattle.any_check.specs.declared.error.AnyError.TheVariants as of_any
-use Rattle.pwcheck_c.specs.Answers.{answer_word, bcrypt_cause, cause_answer, phpass_cause, salted_cause, scram_cause, scrypt_cause, sha1_cause, yescrypt_cause}
+use Rattle.pwcheck_c.specs.Answers.{answer_word, bcrypt_cause, cause_answer, mysql_cause, phpass_cause, salted_cause, scram_cause, scrypt_cause, sha1_cause, yescrypt_cause}
 
 of_bcrypt_fault : (f : BcryptFault) → answer_word (bcrypt_cause f) ≡ bcrypt_word f
 of_bcrypt_fault of_bcrypt.NoDollar = refl
@@ -47,6 +49,10 @@ of_salted_fault : (f : SaltedFault) → answer_word (salted_cause f) ≡ salted_
 of_salted_fault of_salted.NoDollar = refl
 of_salted_fault other = refl
 
+of_mysql_fault : (f : MysqlFault) → answer_word (mysql_cause f) ≡ mysql_word f
+of_mysql_fault of_mysql.WrongId = refl
+of_mysql_fault other = refl
+
 pub any_words : (r : Result Bool AnyError) → r ≢ Err (of_any.Stored of_stored.OutOfMemory) → r ≢ Err of_any.TooCostly
     → answer_word (cause_answer r) ≡ any_word r
 any_words (Err (of_any.Stored of_stored.OutOfMemory)) known within = absurd (known refl)
@@ -57,5 +63,6 @@ any_words (Err (of_any.Sha1 f)) known within = of_sha1_fault f
 any_words (Err (of_any.Scram f)) known within = of_scram_fault f
 any_words (Err (of_any.Phpass f)) known within = of_phpass_fault f
 any_words (Err (of_any.Salted f)) known within = of_salted_fault f
+any_words (Err (of_any.Mysql f)) known within = of_mysql_fault f
 any_words (Err of_any.TooCostly) known within = absurd (within refl)
 any_words other known within = refl

@@ -20,6 +20,8 @@ use Rattle.phpass_plain.specs.declared.error.PhpassFault.{PhpassFault}
 use Rattle.phpass_plain.specs.declared.error.PhpassFault.TheVariants as of_phpass
 use Rattle.salted_digest.specs.declared.error.SaltedFault.{SaltedFault}
 use Rattle.salted_digest.specs.declared.error.SaltedFault.TheVariants as of_salted
+use Rattle.mysql_sha2.specs.declared.error.MysqlFault.{MysqlFault}
+use Rattle.mysql_sha2.specs.declared.error.MysqlFault.TheVariants as of_mysql
 use Rattle.any_check.specs.declared.error.AnyError.{AnyError}
 use Rattle.any_check.specs.declared.error.AnyError.TheVariants as of_any
 use Rattle.pwcheck_c.specs.declared.answer.Answer.{Answer}
@@ -28,7 +30,8 @@ use Rattle.pwcheck_c.specs.declared.answer.Answer.TheVariants.{BcryptB64, Bcrypt
 use Rattle.pwcheck_c.specs.declared.answer.Answer.TheVariants.{Md5Format, NoScheme, ScryptCost, ScryptFormat, YescryptCost}
 use Rattle.pwcheck_c.specs.declared.answer.Answer.TheVariants.{YescryptFlavor, YescryptFormat, ZeroByte}
 use Rattle.pwcheck_c.specs.declared.answer.Answer.TheVariants.{NotAscii, ScramB64, ScramCost, ScramFormat, Sha1B64, Sha1Cost, Sha1Format}
-use Rattle.pwcheck_c.specs.declared.answer.Answer.TheVariants.{DigestB64, DigestFormat, PhpassB64, PhpassCost, PhpassFormat}
+use Rattle.pwcheck_c.specs.declared.answer.Answer.TheVariants.{DigestB64, DigestFormat, MysqlB64, MysqlCost, MysqlFormat}
+use Rattle.pwcheck_c.specs.declared.answer.Answer.TheVariants.{PhpassB64, PhpassCost, PhpassFormat}
 
 -- ---- numbers
 
@@ -91,6 +94,9 @@ answers =
     ∷ PhpassFormat
     ∷ DigestB64
     ∷ DigestFormat
+    ∷ MysqlCost
+    ∷ MysqlB64
+    ∷ MysqlFormat
     ∷ []
 
 -- the answer of a number, if it is one's
@@ -129,6 +135,9 @@ answer_word PhpassB64 = codes "phpass-b64"
 answer_word PhpassFormat = codes "phpass-format"
 answer_word DigestB64 = codes "digest-b64"
 answer_word DigestFormat = codes "digest-format"
+answer_word MysqlCost = codes "mysql-cost"
+answer_word MysqlB64 = codes "mysql-b64"
+answer_word MysqlFormat = codes "mysql-format"
 answer_word (Checked (Err of_stored.OutOfMemory)) = codes "no-memory"
 answer_word (Checked verdict) = word verdict
 
@@ -187,6 +196,12 @@ salted_cause of_salted.SaltEncoding = DigestB64
 salted_cause of_salted.HashEncoding = DigestB64
 salted_cause fault = DigestFormat
 
+-- a fault of a text of MySQL; the last line is for the faults of its form
+abbrev pub mysql_cause : MysqlFault → Answer
+mysql_cause of_mysql.Rounds = MysqlCost
+mysql_cause of_mysql.HashField = MysqlB64
+mysql_cause fault = MysqlFormat
+
 -- what `check_any` answers; the verdicts and the causes of `check_stored` keep their numbers
 abbrev pub cause_answer : Result Bool AnyError → Answer
 cause_answer (Ok b) = Checked (Ok b)
@@ -200,5 +215,6 @@ cause_answer (Err (of_any.Sha1 fault)) = sha1_cause fault
 cause_answer (Err (of_any.Scram fault)) = scram_cause fault
 cause_answer (Err (of_any.Phpass fault)) = phpass_cause fault
 cause_answer (Err (of_any.Salted fault)) = salted_cause fault
+cause_answer (Err (of_any.Mysql fault)) = mysql_cause fault
 cause_answer (Err of_any.ZeroByte) = ZeroByte
 cause_answer (Err of_any.TooCostly) = OverCost

@@ -2,11 +2,12 @@
 
 ghost use Rattle.std.specs.Prelude.{◌≡◌, Some};
 ghost use Rattle.std.specs.List.{slice_get};
-ghost use Rattle.pwcheck_c.specs.Answers.{answer_of, answer_word, bcrypt_cause, cause_answer, phpass_cause, salted_cause, scram_cause, scrypt_cause, sha1_cause, yescrypt_cause};
+ghost use Rattle.pwcheck_c.specs.Answers.{answer_of, answer_word, bcrypt_cause, cause_answer, mysql_cause, phpass_cause, salted_cause, scram_cause, scrypt_cause, sha1_cause, yescrypt_cause};
 
 use any_check::AnyError;
 use base64ct::Error;
 use bcrypt_plain::BcryptFault;
+use mysql_sha2::MysqlFault;
 use phpass_plain::PhpassFault;
 use salted_digest::SaltedFault;
 use scram_plain::ScramFault;
@@ -73,11 +74,17 @@ pub enum Answer {
     DigestB64,
     /// The text of a salted digest has another fault.
     DigestFormat,
+    /// The rounds of a text of MySQL are none that are taken.
+    MysqlCost,
+    /// The hash of a text of MySQL is that of no digest.
+    MysqlB64,
+    /// The text of MySQL has another fault.
+    MysqlFormat,
 }
 
 /// The answers by their numbers: the verdicts, the causes of this library's own, and the others in the order in which
 /// they are found; what came later goes last.
-pub const ANSWERS: [Answer; 55] = [
+pub const ANSWERS: [Answer; 58] = [
     Answer::Checked(Ok(true)),
     Answer::Checked(Ok(false)),
     Answer::NotText,
@@ -133,6 +140,9 @@ pub const ANSWERS: [Answer; 55] = [
     Answer::PhpassFormat,
     Answer::DigestB64,
     Answer::DigestFormat,
+    Answer::MysqlCost,
+    Answer::MysqlB64,
+    Answer::MysqlFormat,
 ];
 
 // The number of a fault of the modular crypt format.
@@ -230,6 +240,9 @@ impl Answer {
             Answer::PhpassFormat => 52,
             Answer::DigestB64 => 53,
             Answer::DigestFormat => 54,
+            Answer::MysqlCost => 55,
+            Answer::MysqlB64 => 56,
+            Answer::MysqlFormat => 57,
         }
     }
 
@@ -275,6 +288,9 @@ impl Answer {
             Answer::PhpassFormat => "phpass-format",
             Answer::DigestB64 => "digest-b64",
             Answer::DigestFormat => "digest-format",
+            Answer::MysqlCost => "mysql-cost",
+            Answer::MysqlB64 => "mysql-b64",
+            Answer::MysqlFormat => "mysql-format",
             Answer::Checked(Err(StoredError::OutOfMemory)) => "no-memory",
             Answer::Checked(verdict) => word(&verdict),
         }
@@ -352,6 +368,17 @@ fn salted_cause(fault: SaltedFault) -> Answer
     }
 }
 
+// The answer for a fault of a text of MySQL.
+fn mysql_cause(fault: MysqlFault) -> Answer
+    ensures { result ≡ mysql_cause fault }
+{
+    match fault {
+        MysqlFault::Rounds => Answer::MysqlCost,
+        MysqlFault::HashField => Answer::MysqlB64,
+        _ => Answer::MysqlFormat,
+    }
+}
+
 // The answer for a fault of a text of sha1-crypt.
 fn sha1_cause(fault: Sha1Fault) -> Answer
     ensures { result ≡ sha1_cause fault }
@@ -379,6 +406,7 @@ pub fn cause_answer(answer: Result<bool, AnyError>) -> Answer
         Err(AnyError::Scram(fault)) => scram_cause(fault),
         Err(AnyError::Phpass(fault)) => phpass_cause(fault),
         Err(AnyError::Salted(fault)) => salted_cause(fault),
+        Err(AnyError::Mysql(fault)) => mysql_cause(fault),
         Err(AnyError::ZeroByte) => Answer::ZeroByte,
         Err(AnyError::TooCostly) => Answer::OverCost,
     }

@@ -141,6 +141,13 @@ const CAUSES: &[(&[u8], i32, &str)] = &[
     (b"$P$63CSgRZlssLJ", 52, "phpass-format"),
     (b"$ssha$c2FsdA$x", 53, "digest-b64"),
     (b"$smd5$c2FsdA==", 54, "digest-format"),
+    (b"$mysql$A$004*00*00", 55, "mysql-cost"),
+    (
+        b"$mysql$A$005*091F0C4838086B4A107B1D52524C7B084B4C3407*3576313333324C494456316E3243426A5A594F706E4B477263396B702F73426A4145764F6B566C6456502D",
+        56,
+        "mysql-b64",
+    ),
+    (b"$mysql$A$005*00", 57, "mysql-format"),
 ];
 
 #[test]

@@ -27,7 +27,7 @@ fn costs() -> [CostOption; 12] {
     [
         cost(
             "max-sha-rounds",
-            "SHA-crypt, sha1-crypt: rounds, 1000 to 4294967295",
+            "SHA-crypt, sha1-crypt, mysql-sha2: rounds, 1000 to 4294967295",
             1_000,
             4_294_967_295,
         ),

@@ -7,7 +7,7 @@ use Rattle.scheme_list.specs.declared.schemes.CostFamily.TheVariants as of
 use Rattle.scheme_list.specs.declared.schemes.Scheme.{Scheme}
 use Rattle.scheme_list.specs.declared.schemes.Scheme.TheVariants.{Argon2d, Argon2i, Argon2id, Bcrypt, BcryptDigest, Md5Crypt}
 use Rattle.scheme_list.specs.declared.schemes.Scheme.TheVariants.{Pbkdf2Sha256, Pbkdf2Sha512, Scrypt, ScryptCrypt, Sha256Crypt, Sha512Crypt}
-use Rattle.scheme_list.specs.declared.schemes.Scheme.TheVariants.{Pbkdf2Sha1, Phpass, SaltedDigest, Scram, Sha1Crypt, Yescrypt}
+use Rattle.scheme_list.specs.declared.schemes.Scheme.TheVariants.{MysqlSha2, Pbkdf2Sha1, Phpass, SaltedDigest, Scram, Sha1Crypt, Yescrypt}
 
 -- ---- the table
 
@@ -107,6 +107,10 @@ salted_row = record (crypt (codes "ssha") (codes "salted-digest") of.NoNumber) {
   prefixes = [];
 }
 
+-- MySQL's caching_sha2_password, in the text of hashcat: SHA-256-crypt of which each byte of the salt counts
+abbrev mysql_row : Row
+mysql_row = record (crypt (codes "mysql") (codes "mysql-sha2") of.ShaCrypt) { prefixes = [] }
+
 abbrev pub row_of : Scheme → Row
 row_of Md5Crypt = md5_row
 row_of Sha256Crypt = made (crypt (codes "5") (codes "sha256-crypt") of.ShaCrypt)
@@ -119,6 +123,7 @@ row_of Sha1Crypt = sha1_row
 row_of Scram = scram_row
 row_of Phpass = phpass_row
 row_of SaltedDigest = salted_row
+row_of MysqlSha2 = mysql_row
 row_of Scrypt = made (phc (codes "scrypt") of.Scrypt)
 row_of Pbkdf2Sha256 = made (phc (codes "pbkdf2-sha256") of.Pbkdf2Sha256)
 row_of Pbkdf2Sha512 = made (phc (codes "pbkdf2-sha512") of.Pbkdf2Sha512)
@@ -132,7 +137,7 @@ row_of Argon2id = made (phc (codes "argon2id") of.Argon2)
 abbrev pub schemes : List Scheme
 schemes =
     Md5Crypt ∷ Sha256Crypt ∷ Sha512Crypt ∷ Bcrypt ∷ Yescrypt ∷ ScryptCrypt ∷ BcryptDigest ∷ Sha1Crypt ∷ Scram
-    ∷ Phpass ∷ SaltedDigest ∷ Scrypt ∷ Pbkdf2Sha256 ∷ Pbkdf2Sha512 ∷ Pbkdf2Sha1 ∷ Argon2d ∷ Argon2i ∷ Argon2id ∷ []
+    ∷ Phpass ∷ SaltedDigest ∷ MysqlSha2 ∷ Scrypt ∷ Pbkdf2Sha256 ∷ Pbkdf2Sha512 ∷ Pbkdf2Sha1 ∷ Argon2d ∷ Argon2i ∷ Argon2id ∷ []
 
 -- the place of a scheme among them
 abbrev pub place : Scheme → ℕ
@@ -147,13 +152,14 @@ place Sha1Crypt = 7
 place Scram = 8
 place Phpass = 9
 place SaltedDigest = 10
-place Scrypt = 11
-place Pbkdf2Sha256 = 12
-place Pbkdf2Sha512 = 13
-place Pbkdf2Sha1 = 14
-place Argon2d = 15
-place Argon2i = 16
-place Argon2id = 17
+place MysqlSha2 = 11
+place Scrypt = 12
+place Pbkdf2Sha256 = 13
+place Pbkdf2Sha512 = 14
+place Pbkdf2Sha1 = 15
+place Argon2d = 16
+place Argon2i = 17
+place Argon2id = 18
 
 -- ---- which scheme has an identifier, a name, or a prefix
 

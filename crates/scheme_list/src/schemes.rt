@@ -26,6 +26,8 @@ pub enum Scheme {
     Phpass,
     /// A digest of the password and a salt, as LDAP servers keep it.
     SaltedDigest,
+    /// MySQL's caching_sha2_password: SHA-256-crypt of which each byte of the salt counts.
+    MysqlSha2,
     /// scrypt as a record in the PHC string format.
     Scrypt,
     /// PBKDF2 with HMAC-SHA-256, as a record.
@@ -41,7 +43,7 @@ pub enum Scheme {
 }
 
 /// How many schemes there are.
-pub const SCHEME_COUNT: usize = 18;
+pub const SCHEME_COUNT: usize = 19;
 
 /// The schemes, in the order in which they are told.
 pub const SCHEMES: [Scheme; SCHEME_COUNT] = [
@@ -56,6 +58,7 @@ pub const SCHEMES: [Scheme; SCHEME_COUNT] = [
     Scheme::Scram,
     Scheme::Phpass,
     Scheme::SaltedDigest,
+    Scheme::MysqlSha2,
     Scheme::Scrypt,
     Scheme::Pbkdf2Sha256,
     Scheme::Pbkdf2Sha512,
@@ -121,6 +124,7 @@ impl Scheme {
             Scheme::Scram => "scram-sha-256",
             Scheme::Phpass => "phpass",
             Scheme::SaltedDigest => "salted-digest",
+            Scheme::MysqlSha2 => "mysql-sha2",
             Scheme::Scrypt => "scrypt",
             Scheme::Pbkdf2Sha256 => "pbkdf2-sha256",
             Scheme::Pbkdf2Sha512 => "pbkdf2-sha512",
@@ -137,7 +141,8 @@ impl Scheme {
     {
         match self {
             Scheme::Md5Crypt | Scheme::SaltedDigest => CostFamily::NoNumber,
-            Scheme::Sha256Crypt | Scheme::Sha512Crypt | Scheme::Sha1Crypt => CostFamily::ShaCrypt,
+            Scheme::Sha256Crypt | Scheme::Sha512Crypt | Scheme::Sha1Crypt | Scheme::MysqlSha2 =>
+                CostFamily::ShaCrypt,
             Scheme::Bcrypt | Scheme::BcryptDigest | Scheme::Phpass => CostFamily::Bcrypt,
             Scheme::Yescrypt => CostFamily::Yescrypt,
             Scheme::ScryptCrypt | Scheme::Scrypt => CostFamily::Scrypt,
@@ -181,6 +186,7 @@ impl Scheme {
             | Scheme::Scram
             | Scheme::Phpass
             | Scheme::SaltedDigest
+            | Scheme::MysqlSha2
             | Scheme::Pbkdf2Sha1
             | Scheme::Argon2d
             | Scheme::Argon2i => false,
@@ -190,7 +196,7 @@ impl Scheme {
 
 // The scheme of a record's identifier.
 fn record_named(id: &str) -> Option<Scheme>
-    ensures scheme { result ≡ look_up (has_identifier id.now) (drop 11 schemes) }
+    ensures scheme { result ≡ look_up (has_identifier id.now) (drop 12 schemes) }
 {
     match id {
         "scrypt" => Some(Scheme::Scrypt),
@@ -220,6 +226,7 @@ pub fn scheme_named(id: &str) -> Option<Scheme>
         "scram-sha-256" | "scram-sha-256-raw" => Some(Scheme::Scram),
         "P" | "H" => Some(Scheme::Phpass),
         "smd5" | "ssha" | "ssha256" | "ssha512" => Some(Scheme::SaltedDigest),
+        "mysql" => Some(Scheme::MysqlSha2),
         _ => record_named(id),
     }
 }

@@ -15,7 +15,7 @@ struct Row {
 // A row for each scheme, in their order: an identifier of its texts, its name as `pwtool survey` tells it, the schemes whose
 // texts ask for the same numbers, whether `pwtool make` makes texts of it,
 // and whether they are weak by themselves.
-const ROWS: [Row; 18] = [
+const ROWS: [Row; 19] = [
     Row {
         id: "1",
         scheme: Scheme::Md5Crypt,
@@ -103,6 +103,14 @@ const ROWS: [Row; 18] = [
         family: CostFamily::NoNumber,
         is_made: false,
         is_weak: true,
+    },
+    Row {
+        id: "mysql",
+        scheme: Scheme::MysqlSha2,
+        name: "mysql-sha2",
+        family: CostFamily::ShaCrypt,
+        is_made: false,
+        is_weak: false,
     },
     Row {
         id: "scrypt",
@@ -201,8 +209,8 @@ fn other_identifiers(rt: HostRuntime) {
         assert!(rt; scheme_named(id) == Some(Scheme::SaltedDigest), "{id}");
     }
     for id in [
-        "", "0", "3", "2c", "55", "Y", "p", "h", "S", "sha2", "ssha384", "SSHA", "pbkdf2",
-        "argon2", "scrypt ",
+        "", "0", "3", "2c", "55", "Y", "p", "h", "S", "sha2", "ssha384", "SSHA", "MYSQL", "mysql2",
+        "pbkdf2", "argon2", "scrypt ",
     ] {
         assert!(rt; scheme_named(id) == None, "{id}");
     }

@@ -21,7 +21,7 @@ const LEAST: LeastCosts = LeastCosts {
 };
 
 // Texts of other programs, as any_check's tests have them, with their row behind the user.
-const ROWS: [(&str, &str); 43] = [
+const ROWS: [(&str, &str); 46] = [
     (
         "$1$abcdefgh$cHJi5PXp/ki/ktXzqlk6I1",
         "md5-crypt\t-\tweak: md5-crypt",
@@ -106,6 +106,18 @@ const ROWS: [(&str, &str); 43] = [
     ),
     (
         "$ssha$kYts+A==$N/O7ZPYFWQ9QtdpxAglBt23rONd=",
+        "-\t-\tinvalid",
+    ),
+    (
+        "$mysql$A$005*091F0C4838086B4A107B1D52524C7B084B4C3407*3576313333324C494456316E3243426A5A594F706E4B477263396B702F73426A4145764F6B566C64565030",
+        "mysql-sha2\trounds=5000\tok",
+    ),
+    (
+        "$mysql$A$FFF*091F0C4838086B4A107B1D52524C7B084B4C3407*3576313333324C494456316E3243426A5A594F706E4B477263396B702F73426A4145764F6B566C64565030",
+        "mysql-sha2\trounds=4095000\tok",
+    ),
+    (
+        "$mysql$A$004*091F0C4838086B4A107B1D52524C7B084B4C3407*3576313333324C494456316E3243426A5A594F706E4B477263396B702F73426A4145764F6B566C64565030",
         "-\t-\tinvalid",
     ),
     (

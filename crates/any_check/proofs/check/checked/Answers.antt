@@ -4,7 +4,8 @@ use Rattle.scram_plain.specs.Check.{scram_answer}
 use Rattle.sha1_crypt.specs.Check.{sha1_answer}
 use Rattle.phpass_plain.specs.Check.{phpass_answer}
 use Rattle.salted_digest.specs.Check.{salted_answer}
-use Rattle.any_check.specs.Table.{is_record, of_bcrypt_check, of_phpass, of_salted, of_scram, of_scrypt_check, of_sha1, of_yescrypt_check}
+use Rattle.mysql_sha2.specs.Check.{mysql_answer}
+use Rattle.any_check.specs.Table.{is_record, of_bcrypt_check, of_mysql, of_phpass, of_salted, of_scram, of_scrypt_check, of_sha1, of_yescrypt_check}
 use Rattle.any_check.proofs.Rows.{record_row, sha_row}
 use Rattle.any_check.proofs.check.checked.Goals as goal
 
@@ -58,6 +59,12 @@ returns-in-SaltedDigest g c =
     rw (c.in-SaltedDigest.is, c.of_salted.ensures)
     (inl (ap of_salted
     (c.salted_check.ensures.answer ∙ ap (λ (p : List ℕ). salted_answer p c.args.stored.now) c.as_bytes-in-SaltedDigest.ensures.value)))
+
+pub returns-in-MysqlSha2 : goal.returns-in-MysqlSha2
+returns-in-MysqlSha2 g c =
+    rw (c.in-MysqlSha2.is, c.of_mysql.ensures)
+    (inl (ap of_mysql
+    (c.mysql_check.ensures.answer ∙ ap (λ (p : List ℕ). mysql_answer p c.args.stored.now) c.as_bytes-in-MysqlSha2.ensures.value)))
 
 pub returns-in-Sha256Crypt : goal.returns-in-Sha256Crypt
 returns-in-Sha256Crypt g c = elim c.in-Sha256Crypt.is [
