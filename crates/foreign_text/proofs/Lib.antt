@@ -3,6 +3,6 @@ mod Lengths
 mod PaddedTexts
 pub mod Records
 pub mod Digested
-mod Made
+pub mod Made
 mod Spelled
-mod Itself
+pub mod Itself

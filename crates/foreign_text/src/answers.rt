@@ -13,8 +13,8 @@ use base64ct::{Base64, Base64Pbkdf2, Encoding};
 use pieces::{begins_with, ends_in};
 
 /// A part of a foreign text, where it begins with `sign`.
-pub(crate) fn as_it_is<'a>(sign: &str, rest: &'a str) -> Result<Option<&'a str>, ForeignFault>
-    ensures { (made : List ℕ) → as_answer result made ≡ as_it_is sign.now rest.now }
+pub fn as_it_is<'a>(sign: &str, rest: &'a str) -> Result<Option<&'a str>, ForeignFault>
+    ensures answer { (made : List ℕ) → as_answer result made ≡ as_it_is sign.now rest.now }
 {
     if begins_with(rest, sign) {
         Ok(Some(rest))
@@ -24,8 +24,8 @@ pub(crate) fn as_it_is<'a>(sign: &str, rest: &'a str) -> Result<Option<&'a str>,
 }
 
 /// A text that begins with `$`, which is a stored text already.
-pub(crate) fn stored_or_unread(text: &str) -> Result<Option<&str>, ForeignFault>
-    ensures { (made : List ℕ) → as_answer result made ≡ stored_or_unread text.now }
+pub fn stored_or_unread(text: &str) -> Result<Option<&str>, ForeignFault>
+    ensures answer { (made : List ℕ) → as_answer result made ≡ stored_or_unread text.now }
 {
     if begins_with(text, "$") {
         Ok(Some(text))
@@ -35,11 +35,11 @@ pub(crate) fn stored_or_unread(text: &str) -> Result<Option<&str>, ForeignFault>
 }
 
 /// Puts a text that was made.
-pub(crate) fn put_made<'a>(
+pub fn put_made<'a>(
     text: Result<MadeText, ForeignFault>,
     made: &mut MadeText,
 ) -> Result<Option<&'a str>, ForeignFault>
-    ensures { as_answer result made.new ≡ text }
+    ensures answer { as_answer result made.new ≡ text }
 {
     match text {
         Ok(text) => {

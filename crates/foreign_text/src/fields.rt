@@ -19,14 +19,14 @@ const FIELD_MAX: usize = 128;
 
 /// Two fields of a text.
 #[derive(Clone, Copy, Debug)]
-pub(crate) struct Two<'a> {
+pub struct Two<'a> {
     pub first: &'a str,
     pub second: &'a str,
 }
 
 /// Three fields of a text.
 #[derive(Clone, Copy, Debug)]
-pub(crate) struct Three<'a> {
+pub struct Three<'a> {
     pub first: &'a str,
     pub second: &'a str,
     pub third: &'a str,
@@ -34,23 +34,23 @@ pub(crate) struct Three<'a> {
 
 /// A field of a text, and three after it.
 #[derive(Clone, Copy, Debug)]
-pub(crate) struct Four<'a> {
+pub struct Four<'a> {
     pub first: &'a str,
     pub others: Three<'a>,
 }
 
 /// Two fields of a text, and three after them.
 #[derive(Clone, Copy, Debug)]
-pub(crate) struct Five<'a> {
+pub struct Five<'a> {
     pub first: &'a str,
     pub second: &'a str,
     pub others: Three<'a>,
 }
 
 /// The fields of a text that is cut at each `cut`, where there are exactly two.
-pub(crate) fn two_at(text: &str, cut: char) -> Result<Two<'_>, ForeignFault>
+pub fn two_at(text: &str, cut: char) -> Result<Two<'_>, ForeignFault>
     requires ascii { cut < 128 }
-    ensures { as_two result ≡ two_of (pieces_at cut text.now) }
+    ensures fields { as_two result ≡ two_of (pieces_at cut text.now) }
 {
     let (first, rest) = first_piece(text, cut);
     let Some(rest) = rest else {
@@ -65,9 +65,9 @@ pub(crate) fn two_at(text: &str, cut: char) -> Result<Two<'_>, ForeignFault>
 }
 
 /// The same, where there are exactly three.
-pub(crate) fn three_at(text: &str, cut: char) -> Result<Three<'_>, ForeignFault>
+pub fn three_at(text: &str, cut: char) -> Result<Three<'_>, ForeignFault>
     requires ascii { cut < 128 }
-    ensures { as_three result ≡ three_of (pieces_at cut text.now) }
+    ensures fields { as_three result ≡ three_of (pieces_at cut text.now) }
 {
     let (first, others) = first_piece(text, cut);
     let Some(others) = others else {
@@ -89,9 +89,9 @@ pub(crate) fn three_at(text: &str, cut: char) -> Result<Three<'_>, ForeignFault>
 }
 
 /// The same, where there are exactly four.
-pub(crate) fn four_at(text: &str, cut: char) -> Result<Four<'_>, ForeignFault>
+pub fn four_at(text: &str, cut: char) -> Result<Four<'_>, ForeignFault>
     requires ascii { cut < 128 }
-    ensures { as_four result ≡ four_of (pieces_at cut text.now) }
+    ensures fields { as_four result ≡ four_of (pieces_at cut text.now) }
 {
     let (first, others) = first_piece(text, cut);
     let Some(others) = others else {
@@ -104,9 +104,9 @@ pub(crate) fn four_at(text: &str, cut: char) -> Result<Four<'_>, ForeignFault>
 }
 
 /// The same, where there are exactly five.
-pub(crate) fn five_at(text: &str, cut: char) -> Result<Five<'_>, ForeignFault>
+pub fn five_at(text: &str, cut: char) -> Result<Five<'_>, ForeignFault>
     requires ascii { cut < 128 }
-    ensures { as_five result ≡ five_of (pieces_at cut text.now) }
+    ensures fields { as_five result ≡ five_of (pieces_at cut text.now) }
 {
     let (first, others) = first_piece(text, cut);
     let Some(others) = others else {
@@ -127,8 +127,8 @@ pub(crate) fn five_at(text: &str, cut: char) -> Result<Five<'_>, ForeignFault>
 }
 
 /// The plain decimal that a field is.
-pub(crate) fn number_of(field: &str) -> Option<u32>
-    ensures { result ≡ number_of field.now }
+pub fn number_of(field: &str) -> Option<u32>
+    ensures number { result ≡ number_of field.now }
 {
     let Ok(value) = Value::new(field) else {
         return None;
@@ -161,8 +161,8 @@ fn logarithm_of(n: Option<u32>) -> Option<u32>
 }
 
 /// PBKDF2 with the rounds that a field writes.
-pub(crate) fn pbkdf2_cost(hash: Pbkdf2Hash, rounds: &str) -> Result<Kdf, ForeignFault>
-    ensures { result ≡ pbkdf2_cost hash rounds.now }
+pub fn pbkdf2_cost(hash: Pbkdf2Hash, rounds: &str) -> Result<Kdf, ForeignFault>
+    ensures cost { result ≡ pbkdf2_cost hash rounds.now }
 {
     match number_of(rounds) {
         Some(rounds) => Ok(Kdf::Pbkdf2 { hash, rounds }),
@@ -171,8 +171,8 @@ pub(crate) fn pbkdf2_cost(hash: Pbkdf2Hash, rounds: &str) -> Result<Kdf, Foreign
 }
 
 /// scrypt with the N, r and p that three fields write.
-pub(crate) fn scrypt_cost(n: &str, r: &str, p: &str) -> Result<Kdf, ForeignFault>
-    ensures { result ≡ scrypt_cost n.now r.now p.now }
+pub fn scrypt_cost(n: &str, r: &str, p: &str) -> Result<Kdf, ForeignFault>
+    ensures cost { result ≡ scrypt_cost n.now r.now p.now }
 {
     let Some(ln) = logarithm_of(number_of(n)) else {
         return Err(ForeignFault::Cost);
@@ -187,8 +187,8 @@ pub(crate) fn scrypt_cost(n: &str, r: &str, p: &str) -> Result<Kdf, ForeignFault
 }
 
 /// The bytes whose encoding a field is, in at most 128 characters.
-pub(crate) fn field_bytes<E: Encoding>(field: &str) -> Option<FieldBytes>
-    ensures { result ≡ field_bytes E.alphabet field.now }
+pub fn field_bytes<E: Encoding>(field: &str) -> Option<FieldBytes>
+    ensures bytes { result ≡ field_bytes E.alphabet field.now }
 {
     if field.len() > FIELD_MAX {
         return None;
@@ -240,8 +240,8 @@ fn digit_bytes(field: &[u8]) -> Option<FieldBytes>
 }
 
 /// The same, of digits with small letters alone.
-pub(crate) fn small_hex(field: &[u8]) -> Option<FieldBytes>
-    ensures { result ≡ small_hex field.now }
+pub fn small_hex(field: &[u8]) -> Option<FieldBytes>
+    ensures bytes { result ≡ small_hex field.now }
 {
     if are_small(field) {
         digit_bytes(field)
@@ -251,8 +251,8 @@ pub(crate) fn small_hex(field: &[u8]) -> Option<FieldBytes>
 }
 
 /// The same, of digits with small or with capital letters, which aren't mixed.
-pub(crate) fn plain_hex(field: &[u8]) -> Option<FieldBytes>
-    ensures { result ≡ plain_hex field.now }
+pub fn plain_hex(field: &[u8]) -> Option<FieldBytes>
+    ensures bytes { result ≡ plain_hex field.now }
 {
     if are_small(field) || are_capital(field) {
         digit_bytes(field)

@@ -19,7 +19,7 @@ pub const TEXT_MAX: usize = 221;
 pub type MadeText = ShortBytes<TEXT_MAX>;
 
 /// Bytes that a field writes.
-pub(crate) type FieldBytes = ShortBytes<96>;
+pub type FieldBytes = ShortBytes<96>;
 
 /// The hash of a text of PBKDF2: the one that its HMAC takes.
 #[derive(Clone, Copy, Debug, PartialEq, Eq)]
@@ -147,12 +147,12 @@ fn with_salt(kdf: Kdf, salt: &[u8], key: Option<FieldBytes>) -> Result<MadeText,
 }
 
 /// The text of a cost, the bytes of a salt and those of a key, or the first fault of these.
-pub(crate) fn with_bytes(
+pub fn with_bytes(
     kdf: Result<Kdf, ForeignFault>,
     salt: &[u8],
     key: Option<FieldBytes>,
 ) -> Result<MadeText, ForeignFault>
-    ensures { result ≡ with_kdf kdf (Some salt.now) key }
+    ensures text { result ≡ with_kdf kdf (Some salt.now) key }
 {
     match kdf {
         Ok(kdf) => with_salt(kdf, salt, key),
@@ -161,12 +161,12 @@ pub(crate) fn with_bytes(
 }
 
 /// The same, of a salt that is decoded too.
-pub(crate) fn with_decoded(
+pub fn with_decoded(
     kdf: Result<Kdf, ForeignFault>,
     salt: Option<FieldBytes>,
     key: Option<FieldBytes>,
 ) -> Result<MadeText, ForeignFault>
-    ensures { result ≡ with_kdf kdf salt key }
+    ensures text { result ≡ with_kdf kdf salt key }
 {
     let kdf = match kdf {
         Ok(kdf) => kdf,
@@ -179,8 +179,8 @@ pub(crate) fn with_decoded(
 }
 
 /// Whether the number is the length of the key.
-pub(crate) fn is_size(size: Option<u32>, key: Option<FieldBytes>) -> bool
-    ensures { result ≡ is_size size key }
+pub fn is_size(size: Option<u32>, key: Option<FieldBytes>) -> bool
+    ensures size { result ≡ is_size size key }
 {
     let Some(size) = size else {
         return false;
@@ -192,11 +192,11 @@ pub(crate) fn is_size(size: Option<u32>, key: Option<FieldBytes>) -> bool
 }
 
 /// A text whose key has the length that is said, or the fault that it has another.
-pub(crate) fn if_sized(
+pub fn if_sized(
     sized: bool,
     text: Result<MadeText, ForeignFault>,
 ) -> Result<MadeText, ForeignFault>
-    ensures { result ≡ if_sized sized text }
+    ensures text { result ≡ if_sized sized text }
 {
     if sized {
         return text;

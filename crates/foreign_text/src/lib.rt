@@ -7,7 +7,7 @@
 #![tactic(auto)]
 
 mod aix;
-mod answers;
+pub mod answers;
 mod aspnet;
 mod cisco;
 mod converted;
@@ -16,7 +16,7 @@ mod django;
 mod dovecot;
 mod elasticsearch;
 mod fault;
-mod fields;
+pub mod fields;
 mod grub;
 mod kdf;
 pub mod laws;
@@ -33,4 +33,4 @@ mod werkzeug;
 
 pub use converted::{Foreign, stored_text};
 pub use fault::{ForeignFault, Unread};
-pub use kdf::{Kdf, MadeText, Pbkdf2Hash, TEXT_MAX};
+pub use kdf::{FieldBytes, Kdf, MadeText, Pbkdf2Hash, TEXT_MAX, if_sized, is_size, with_bytes, with_decoded};

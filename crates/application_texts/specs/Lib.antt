@@ -1,0 +1,7 @@
+pub mod Jenkins
+pub mod Nextcloud
+pub mod HomeAssistant
+pub mod CouchDb
+pub mod Grafana
+pub mod Makers
+pub mod Laws

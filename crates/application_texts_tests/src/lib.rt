@@ -1,0 +1,7 @@
+//! The tests of `application_texts`: texts of applications, read and refused.
+//!
+//! They are in a crate of their own, since a crate that has tests is proved twice.
+#![tactic(auto)]
+
+#[cfg(test)]
+mod tests;
