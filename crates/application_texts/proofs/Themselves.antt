@@ -142,21 +142,13 @@ jenkins_again text stored h (inr (inr made)) =
 
 -- ---- all
 
-plain_again : (read : List ℕ → Answer) → ((text stored : List ℕ) → read text ≡ Ok stored → First stored)
-    → (text stored : List ℕ) → (if begins text (codes "$") then Ok text else read text) ≡ Ok stored
-    → (if begins stored (codes "$") then Ok stored else read stored) ≡ Ok stored
-plain_again read first text stored h =
-    let begun : First stored =
-    by_test (begins text (codes "$")) (Ok text) (read text) stored (held text stored) (first text stored) h in
-    rw begun refl
-
 of_applications : (a : Application) (text stored : List ℕ) → of_application a text ≡ Ok stored → of_application a stored ≡ Ok stored
 unfolding of_application
 of_applications application.Jenkins text stored h = jenkins_again text stored h (jenkins_gives text stored h)
-of_applications application.Nextcloud text stored h = plain_again nextcloud nextcloud_first text stored h
-of_applications application.HomeAssistant text stored h = plain_again home_assistant home_assistant_first text stored h
-of_applications application.CouchDb text stored h = plain_again couchdb couchdb_first text stored h
-of_applications application.Grafana text stored h = plain_again grafana grafana_first text stored h
+of_applications application.Nextcloud text stored h = foreign.plain_again nextcloud nextcloud_first text stored h
+of_applications application.HomeAssistant text stored h = foreign.plain_again home_assistant home_assistant_first text stored h
+of_applications application.CouchDb text stored h = foreign.plain_again couchdb couchdb_first text stored h
+of_applications application.Grafana text stored h = foreign.plain_again grafana grafana_first text stored h
 
 pub themselves : (m : Maker) (text stored : List ℕ) → read_by m text ≡ Ok stored → read_by m stored ≡ Ok stored
 themselves (maker.Foreign f) text stored h = foreign.itself f text stored h

@@ -2,7 +2,7 @@
 use Rattle.std.specs.Prelude.{ℕ, Bool, ◌||◌, List, Some, Err, if◌then◌else◌, codes}
 use Rattle.pieces.specs.Pieces.{begins, behind, or_behind, pieces_at}
 use Rattle.foreign_text.specs.Answers.{Answer}
-use Rattle.foreign_text.specs.Characters.{comma}
+use Rattle.pieces.specs.Characters.{comma}
 use Rattle.foreign_text.specs.Fields.{in_three, pbkdf2_cost, small_hex, three_of}
 use Rattle.foreign_text.specs.Records.{with_kdf}
 use Rattle.foreign_text.specs.declared.fault.ForeignFault.TheVariants.{Unread}

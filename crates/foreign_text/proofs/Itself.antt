@@ -454,7 +454,7 @@ again read kept text stored h (inl same) = ap read (sym same) ∙ h
 again read kept text stored h (inr made) =
     ap read (sym made.3) ∙ kept made.0 made.1 made.2 ∙ ap given made.3
 
-plain_again : (read : List ℕ → Answer) → ((text stored : List ℕ) → read text ≡ Ok stored → First stored)
+pub plain_again : (read : List ℕ → Answer) → ((text stored : List ℕ) → read text ≡ Ok stored → First stored)
     → (text stored : List ℕ) → (if begins text (codes "$") then Ok text else read text) ≡ Ok stored
     → (if begins stored (codes "$") then Ok stored else read stored) ≡ Ok stored
 plain_again read first text stored h =

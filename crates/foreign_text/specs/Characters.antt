@@ -8,7 +8,3 @@ colon = 58
 -- `.`
 abbrev pub full_stop : ℕ
 full_stop = 46
-
--- `,`
-abbrev pub comma : ℕ
-comma = 44

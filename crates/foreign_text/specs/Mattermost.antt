@@ -4,7 +4,7 @@ use Rattle.base64ct.specs.Alphabets.{base64_unpadded}
 use Rattle.pieces.specs.Characters.{dollar}
 use Rattle.pieces.specs.Pieces.{behind, or_behind, pieces_at}
 use Rattle.foreign_text.specs.Answers.{Answer}
-use Rattle.foreign_text.specs.Characters.{comma}
+use Rattle.pieces.specs.Characters.{comma}
 use Rattle.foreign_text.specs.Fields.{Two, field_bytes, in_three, number_of, pbkdf2_cost, three_of, two_of}
 use Rattle.foreign_text.specs.Names.{begins}
 use Rattle.foreign_text.specs.Records.{if_sized, is_size, with_kdf}

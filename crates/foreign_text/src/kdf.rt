@@ -192,10 +192,7 @@ pub fn is_size(size: Option<u32>, key: Option<FieldBytes>) -> bool
 }
 
 /// A text whose key has the length that is said, or the fault that it has another.
-pub fn if_sized(
-    sized: bool,
-    text: Result<MadeText, ForeignFault>,
-) -> Result<MadeText, ForeignFault>
+pub fn if_sized(sized: bool, text: Result<MadeText, ForeignFault>) -> Result<MadeText, ForeignFault>
     ensures text { result ≡ if_sized sized text }
 {
     if sized {

@@ -33,4 +33,6 @@ mod werkzeug;
 
 pub use converted::{Foreign, stored_text};
 pub use fault::{ForeignFault, Unread};
-pub use kdf::{FieldBytes, Kdf, MadeText, Pbkdf2Hash, TEXT_MAX, if_sized, is_size, with_bytes, with_decoded};
+pub use kdf::{
+    FieldBytes, Kdf, MadeText, Pbkdf2Hash, TEXT_MAX, if_sized, is_size, with_bytes, with_decoded,
+};

@@ -12,6 +12,6 @@ by_parts : (password : List ℕ) (r : Result Parts MysqlFault)
 by_parts password (Err e) = refl
 by_parts password (Ok p) = refl
 
-pub verdict_where_rounds : VerdictWhereCost
+pub verdict_where_thousands : VerdictWhereCost
 unfolding mysql_answer
-verdict_where_rounds password text = by_parts password (text_parts text)
+verdict_where_thousands password text = by_parts password (text_parts text)
