@@ -1,5 +1,7 @@
 //! Texts of hashcat's form, and each fault.
 
+ghost use Rattle.std.specs.Prelude.{◌<◌, ◌^◌, length};
+
 use base64ct::Counts;
 use mysql_sha2::{MysqlFault, laws, mysql_check, mysql_check_counted, text_cost};
 
@@ -62,7 +64,9 @@ const PW: &str =
     "$mysql$A$005*091F0C4838086B4A107B1D52524C7B084B4C3407*632F4E743161574D6D6974366C6E4770755650555348737A374F575173632E696C315648654C554A2E5336";
 
 // Whether a password has this answer for a text, with the numbers of a verdict.
-fn is_verdict(password: &[u8], stored: &str, matches: bool) -> bool {
+fn is_verdict(password: &[u8], stored: &str, matches: bool) -> bool
+    requires { length password.now < 2 ^ 30 }
+{
     let mut counts = Counts::new();
     mysql_check_counted(password, stored, &mut counts) == Ok(matches)
         && counts.looks() == 44
