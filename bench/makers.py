@@ -415,8 +415,53 @@ def grub(text):
     return record(pbkdf2("sha512", rounds), salt, small_or_capital, key, small_or_capital)
 
 
-MAKERS = {maker.__name__: maker for maker in (django, werkzeug, passlib, ldap, elasticsearch, dovecot, spring, aspnet, cisco, mosquitto, mediawiki, grub, postgres)}
-OWN_DOLLAR = ("passlib", "cisco", "mosquitto")
+def jenkins(text):
+    if (rest := after(text, "#jbcrypt:")) is not None:
+        return as_it_is(rest, "$2")
+    if (rest := after(text, "$PBKDF2$HMACSHA512:")) is not None:
+        cost, key = cut(rest, "$", 2)
+        rounds, salt = cut(cost, ":", 2)
+        return record(pbkdf2("sha512", rounds), salt, small, key, small)
+    need(text.startswith("$"), "unsupported-scheme")
+    return text
+
+
+def nextcloud(text):
+    for front, sign in (("1|", "$2"), ("2|", "$argon2i$"), ("3|", "$argon2id$")):
+        if (rest := after(text, front)) is not None:
+            return as_it_is(rest, sign)
+    raise Fault("unsupported-scheme")
+
+
+def home_assistant(text):
+    stored = read_as(text, "foreign-form")
+    need(re.fullmatch(rb"\$2[$./0-9A-Za-z]*", stored), "foreign-form")
+    return stored.decode()
+
+
+def couchdb(text):
+    for name in ("sha256", "sha512", "sha"):
+        if (rest := after(text, f"-pbkdf2-{name},")) is not None:
+            break
+    else:
+        name = "sha"
+        need(not text.startswith(("-pbkdf2-sha224,", "-pbkdf2-sha384,")), "unsupported-sha2")
+        rest = after(text, "-pbkdf2-")
+        need(rest is not None, "unsupported-sha1" if text.startswith("-hashed-") else "unsupported-cleartext")
+    key, salt, rounds = cut(rest, ",", 3)
+    return record(pbkdf2("sha1" if name == "sha" else name, rounds), salt, characters, key, small)
+
+
+def grafana(text):
+    key, salt = cut(text, ":", 2)
+    made = record("pbkdf2-sha256$i=10000", salt, characters, key, small)
+    need(len(key) == 100, "foreign-hash-length")
+    return made
+
+
+MAKERS = {maker.__name__.replace("_", "-"): maker for maker in (django, werkzeug, passlib, ldap, elasticsearch, dovecot, spring, aspnet, cisco, mosquitto,
+                                                                mediawiki, grub, postgres, jenkins, nextcloud, home_assistant, couchdb, grafana)}
+OWN_DOLLAR = ("passlib", "cisco", "mosquitto", "jenkins")
 
 
 def converted(maker, text):

@@ -4,8 +4,8 @@ use Rattle.std.specs.List.{list_any}
 use Rattle.std.specs.Str.{is_utf8}
 use Rattle.line_io.specs.Limits.{line_max}
 use Rattle.foreign_text.specs.Answers.{Answer}
-use Rattle.foreign_text.specs.Converted.{converted}
-use Rattle.foreign_text.specs.declared.converted.Foreign.{Foreign}
+use Rattle.application_texts.specs.Makers.{read_by}
+use Rattle.application_texts.specs.declared.makers.Maker.{Maker}
 use Rattle.foreign_text.specs.declared.fault.ForeignFault.{ForeignFault}
 use Rattle.foreign_text.specs.declared.fault.ForeignFault.TheVariants.{Locked}
 use Rattle.shadow_fields.specs.Fields.{has_user, is_colon, rest_of, user_of}
@@ -32,16 +32,16 @@ by_stored user (Ok stored) = with_stored user stored
 by_stored user (Err fault) = unconverted_line user fault
 
 -- an empty text, and one of a locked account, stay
-abbrev pub stays : Foreign → List ℕ → Bool
+abbrev pub stays : Maker → List ℕ → Bool
 stays foreign text = length text == 0 || is_locked_by foreign text
 
-abbrev pub by_utf8 : Foreign → List ℕ → List ℕ → List ℕ
-by_utf8 foreign user text = if is_utf8 text then by_stored user (converted foreign text) else []
+abbrev pub by_utf8 : Maker → List ℕ → List ℕ → List ℕ
+by_utf8 foreign user text = if is_utf8 text then by_stored user (read_by foreign text) else []
 
-abbrev pub by_text : Foreign → List ℕ → List ℕ → List ℕ
+abbrev pub by_text : Maker → List ℕ → List ℕ → List ℕ
 by_text foreign user text = if stays foreign text then user_text user text else by_utf8 foreign user text
 
 -- The line with its text converted. Where there is no user, or no text that is converted, it is empty.
-unfoldable pub converted_line : Foreign → List ℕ → List ℕ
+unfoldable pub converted_line : Maker → List ℕ → List ℕ
 converted_line foreign line =
     if has_user line then by_text foreign (user_of line) (text_in foreign (rest_of line)) else []

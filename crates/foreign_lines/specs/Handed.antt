@@ -2,9 +2,9 @@
 use Rattle.std.specs.Prelude.{ℕ, Bool, false, List, [], ◌∷◌, ◌++◌, codes, length, nat_lt, Option, Some, None, Result, Ok, Err}
 use Rattle.std.specs.Prelude.{if◌then◌else◌}
 use Rattle.line_io.specs.Limits.{line_max}
-use Rattle.foreign_text.specs.Converted.{converted}
+use Rattle.application_texts.specs.Makers.{read_by}
 use Rattle.foreign_text.specs.Words.{fault_word}
-use Rattle.foreign_text.specs.declared.converted.Foreign.{Foreign}
+use Rattle.application_texts.specs.declared.makers.Maker.{Maker}
 use Rattle.foreign_text.specs.declared.fault.ForeignFault.{ForeignFault}
 use Rattle.foreign_text.specs.declared.fault.ForeignFault.TheVariants.{Locked}
 use Rattle.foreign_lines.specs.Parts.{Parts, line_with, parts_in}
@@ -37,12 +37,12 @@ by_answer form p (Err fault) = refused form p fault
 by_answer form p (Ok stored) = Ok (line_with form p stored)
 
 -- by the parts of the line
-abbrev pub by_parts : Foreign → LineForm → List ℕ → Option Parts → Handed
+abbrev pub by_parts : Maker → LineForm → List ℕ → Option Parts → Handed
 by_parts foreign form line None = Ok line
-by_parts foreign form line (Some p) = by_answer form p (converted foreign p.text)
+by_parts foreign form line (Some p) = by_answer form p (read_by foreign p.text)
 
 -- of a line; one of more than 8,192 bytes is handed on as it is
-unfoldable pub handed : Foreign → LineForm → List ℕ → Handed
+unfoldable pub handed : Maker → LineForm → List ℕ → Handed
 handed foreign form line =
     if nat_lt line_max (length line) then Ok line else by_parts foreign form line (parts_in foreign form line)
 

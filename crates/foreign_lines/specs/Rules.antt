@@ -1,7 +1,7 @@
 -- The rules of a program over lines whose stored texts are converted first.
 use Rattle.std.specs.Prelude.{ℕ, Bool, List, Ok, Err}
 use Rattle.line_program.specs.Rules.{LineRules, StateRules, each_line}
-use Rattle.foreign_text.specs.declared.converted.Foreign.{Foreign}
+use Rattle.application_texts.specs.declared.makers.Maker.{Maker}
 use Rattle.foreign_lines.specs.Handed.{Handed, by_reply, by_test, handed}
 use Rattle.foreign_lines.specs.declared.parts.LineForm.{LineForm}
 
@@ -12,7 +12,7 @@ by_after after s (Err text) = s
 
 -- By what shows the foreign spelling, the form of the lines and the program of a state, and what gives a state another
 -- program.
-abbrev pub foreign_state : {St In : Type 0} → (St → Foreign) → (St → LineForm) → (St → In) → (St → In → St)
+abbrev pub foreign_state : {St In : Type 0} → (St → Maker) → (St → LineForm) → (St → In) → (St → In → St)
     → StateRules In → StateRules St
 foreign_state foreign form inner with_inner r = record {
   reply = λ s line. by_reply (r.reply (inner s)) (handed (foreign s) (form s) line);
@@ -22,7 +22,7 @@ foreign_state foreign form inner with_inner r = record {
 }
 
 -- the same for lines that are answered each by itself
-abbrev pub foreign_each : Foreign → LineForm → (List ℕ → List ℕ) → (List ℕ → Bool) → (List ℕ → Bool) → LineRules
+abbrev pub foreign_each : Maker → LineForm → (List ℕ → List ℕ) → (List ℕ → Bool) → (List ℕ → Bool) → LineRules
 foreign_each foreign form reply is_good lacks =
     each_line (λ line. by_reply reply (handed foreign form line)) (λ line. by_test is_good (handed foreign form line))
     (λ line. by_test lacks (handed foreign form line))

@@ -2,13 +2,14 @@
 
 ghost use Rattle.std.specs.Prelude.{◌≡◌, ◌≤◌, ◌∷◌, ◌++◌, length};
 ghost use Rattle.line_io.specs.Limits.{line_max};
-ghost use Rattle.foreign_text.specs.Converted.{converted};
+ghost use Rattle.application_texts.specs.Makers.{read_by};
 ghost use Rattle.foreign_text.specs.Views.{as_answer};
 ghost use Rattle.foreign_lines.specs.Converting.{by_stored, by_text, by_utf8, converted_line, stays, unconverted_line, user_text, with_stored};
 
 use crate::lines::behind_mark;
 use crate::parts::{is_locked_by, text_in, utf8_text};
-use foreign_text::{Foreign, ForeignFault, MadeText, stored_text};
+use application_texts::{Maker, maker_text};
+use foreign_text::{ForeignFault, MadeText};
 use line_filter::LineRule;
 use line_io::LINE_MAX;
 use pieces::short_bytes::ShortBytes;
@@ -23,7 +24,7 @@ use shadow_fields::cut_user;
 #[derive(Clone, Copy, Debug, Drop)]
 pub struct ConvertedTexts {
     /// Whose spelling the texts have.
-    pub foreign: Foreign,
+    pub foreign: Maker,
 }
 
 // The line of a user and a text, where it fits.
@@ -57,11 +58,11 @@ fn with_stored(user: &[u8], stored: &[u8]) -> ShortBytes<LINE_MAX>
 }
 
 // The line of a user and a foreign text.
-fn by_stored(foreign: Foreign, user: &[u8], text: &str) -> ShortBytes<LINE_MAX>
-    ensures line { result ≡ by_stored user.now (converted foreign text.now) }
+fn by_stored(foreign: Maker, user: &[u8], text: &str) -> ShortBytes<LINE_MAX>
+    ensures line { result ≡ by_stored user.now (read_by foreign text.now) }
 {
     let mut made = MadeText::new();
-    match stored_text(foreign, text, &mut made) {
+    match maker_text(foreign, text, &mut made) {
         Ok(Some(held)) => with_stored(user, held.as_bytes()),
         Ok(None) => with_stored(user, made.as_slice()),
         Err(fault) => unconverted_line(user, fault),
@@ -69,7 +70,7 @@ fn by_stored(foreign: Foreign, user: &[u8], text: &str) -> ShortBytes<LINE_MAX>
 }
 
 // The same of a text that may be no UTF-8.
-fn by_utf8(foreign: Foreign, user: &[u8], text: &[u8]) -> ShortBytes<LINE_MAX>
+fn by_utf8(foreign: Maker, user: &[u8], text: &[u8]) -> ShortBytes<LINE_MAX>
     ensures line { result ≡ by_utf8 foreign user.now text.now }
 {
     match utf8_text(text) {
@@ -79,14 +80,14 @@ fn by_utf8(foreign: Foreign, user: &[u8], text: &[u8]) -> ShortBytes<LINE_MAX>
 }
 
 // Whether a text stays as it is.
-fn stays(foreign: Foreign, text: &[u8]) -> bool
+fn stays(foreign: Maker, text: &[u8]) -> bool
     ensures { result ≡ stays foreign text.now }
 {
     text.is_empty() || is_locked_by(foreign, text)
 }
 
 // The line of a user and any text.
-fn by_text(foreign: Foreign, user: &[u8], text: &[u8]) -> ShortBytes<LINE_MAX>
+fn by_text(foreign: Maker, user: &[u8], text: &[u8]) -> ShortBytes<LINE_MAX>
     ensures line { result ≡ by_text foreign user.now text.now }
 {
     if stays(foreign, text) {
@@ -98,7 +99,7 @@ fn by_text(foreign: Foreign, user: &[u8], text: &[u8]) -> ShortBytes<LINE_MAX>
 
 // A line with its text converted.
 #[tactic(auto, unfolding(crate::specs::Converting::converted_line))]
-fn converted_line(foreign: Foreign, line: &[u8]) -> ShortBytes<LINE_MAX>
+fn converted_line(foreign: Maker, line: &[u8]) -> ShortBytes<LINE_MAX>
     ensures line { result ≡ converted_line foreign line.now }
 {
     match cut_user(line) {

@@ -3,7 +3,7 @@
 use crate::lines::ForeignLines;
 use crate::parts::LineForm;
 use any_check::{AnyCheck, SchemeCosts};
-use foreign_text::Foreign;
+use application_texts::Maker;
 use line_io::{Sink, Source};
 use line_program::run_lines;
 use shadow_check::{JoinedLines, Joining};
@@ -17,7 +17,7 @@ use std::alloc::Global;
 #[derive(Clone, Copy)]
 pub struct ForeignJoin {
     pub alloc: Global,
-    pub foreign: Foreign,
+    pub foreign: Maker,
     pub limits: Option<SchemeCosts>,
 }
 

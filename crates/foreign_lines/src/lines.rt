@@ -3,14 +3,15 @@
 ghost use Rattle.std.specs.Prelude.{◌≡◌, ◌<◌, ◌≤◌, ◌∷◌, ◌++◌, [], IfOk, MatchOption, OnErr, OnOk, length, true};
 ghost use Rattle.line_io.specs.Limits.{line_max};
 ghost use Rattle.line_io.specs.Output.{Puts};
-ghost use Rattle.foreign_text.specs.Converted.{converted};
+ghost use Rattle.application_texts.specs.Makers.{read_by};
 ghost use Rattle.foreign_lines.specs.Handed.{by_answer, by_reply, by_test, handed, refused, surveyed_text, word_line};
 ghost use Rattle.foreign_lines.specs.Parts.{line_with};
 ghost use Rattle.foreign_lines.specs.Views.{parts_of};
 ghost use Rattle.foreign_lines.specs.Rules.{by_after};
 
 use crate::parts::{LineForm, LineParts, parts_in};
-use foreign_text::{Foreign, ForeignFault, MadeText, stored_text};
+use application_texts::{Maker, maker_text};
+use foreign_text::{ForeignFault, MadeText};
 use line_io::{LINE_MAX, OutputBuffer, Sink};
 use line_program::{Ending, Responder};
 use pieces::short_bytes::ShortBytes;
@@ -21,7 +22,7 @@ use std::alloc::AllocError;
 #[derive(Drop)]
 pub struct ForeignLines<R> {
     /// Whose spelling the texts have.
-    pub foreign: Foreign,
+    pub foreign: Maker,
     /// What a line is.
     pub form: LineForm,
     /// What answers the lines.
@@ -143,25 +144,25 @@ fn answer_refused<R: Responder, K: Sink>(
 // Answers a line whose stored text stands in these parts.
 fn answer_parts<R: Responder, K: Sink>(
     inner: &mut R,
-    foreign: Foreign,
+    foreign: Maker,
     form: LineForm,
     parts: LineParts<'_>,
     out: &mut OutputBuffer,
     sink: &mut K,
 ) -> Result<bool, AllocError>
     ensures good { IfOk result (λ good. good
-        ≡ by_test (R.rules.is_good inner.old) (by_answer form (parts_of parts.entry) (converted foreign parts.entry.text.now))) }
+        ≡ by_test (R.rules.is_good inner.old) (by_answer form (parts_of parts.entry) (read_by foreign parts.entry.text.now))) }
     ensures reply { OnOk result (Puts (K.written sink.old) (K.written sink.new) (K.faults sink.old) (K.faults sink.new) out.old out.new
-        (by_reply (R.rules.reply inner.old) (by_answer form (parts_of parts.entry) (converted foreign parts.entry.text.now)))) }
+        (by_reply (R.rules.reply inner.old) (by_answer form (parts_of parts.entry) (read_by foreign parts.entry.text.now)))) }
     ensures after { OnOk result (inner.new ≡ by_after (R.rules.after inner.old) inner.old
-        (by_answer form (parts_of parts.entry) (converted foreign parts.entry.text.now))) }
+        (by_answer form (parts_of parts.entry) (read_by foreign parts.entry.text.now))) }
     ensures wants { OnErr result (by_test (R.rules.may_lack_memory inner.old)
-        (by_answer form (parts_of parts.entry) (converted foreign parts.entry.text.now)) ≡ true) }
+        (by_answer form (parts_of parts.entry) (read_by foreign parts.entry.text.now)) ≡ true) }
     ensures nothing { OnErr result (Puts (K.written sink.old) (K.written sink.new) (K.faults sink.old) (K.faults sink.new) out.old out.new []) }
     ensures unchanged { OnErr result (inner.new ≡ inner.old) }
 {
     let mut made = MadeText::new();
-    match stored_text(foreign, parts.text, &mut made) {
+    match maker_text(foreign, parts.text, &mut made) {
         Ok(Some(held)) => answer_with(inner, form, parts, held.as_bytes(), out, sink),
         Ok(None) => answer_with(inner, form, parts, made.as_slice(), out, sink),
         Err(fault) => answer_refused(inner, form, parts, fault, out, sink),
@@ -171,7 +172,7 @@ fn answer_parts<R: Responder, K: Sink>(
 // Answers a line of at most 8,192 bytes.
 fn answer_foreign<R: Responder, K: Sink>(
     inner: &mut R,
-    foreign: Foreign,
+    foreign: Maker,
     form: LineForm,
     line: &[u8],
     out: &mut OutputBuffer,

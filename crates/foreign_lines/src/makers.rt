@@ -1,8 +1,9 @@
 //! The makers by their names.
 
 ghost use Rattle.std.specs.Prelude.{◌≡◌, IfSome};
-ghost use Rattle.foreign_lines.specs.Makers.{maker_name};
+ghost use Rattle.foreign_lines.specs.Makers.{application_name, foreign_name, maker_name};
 
+use application_texts::{Application, Maker};
 use foreign_text::Foreign;
 
 /// The names of the makers on a command line, of files of users and their texts; `ldif` is a dump of a directory.
@@ -21,11 +22,16 @@ pub const MAKERS: &[&str] = &[
     "mediawiki",
     "grub",
     "postgres",
+    "jenkins",
+    "nextcloud",
+    "home-assistant",
+    "couchdb",
+    "grafana",
 ];
 
-/// The maker that has a name.
-pub fn maker_named(name: &str) -> Option<Foreign>
-    ensures named { IfSome result (λ foreign. maker_name foreign ≡ name.now) }
+// The maker of `foreign_text` that has a name.
+fn foreign_named(name: &str) -> Option<Foreign>
+    ensures named { IfSome result (λ foreign. foreign_name foreign ≡ name.now) }
 {
     match name {
         "django" => Some(Foreign::Django),
@@ -43,5 +49,32 @@ pub fn maker_named(name: &str) -> Option<Foreign>
         "grub" => Some(Foreign::Grub),
         "postgres" => Some(Foreign::Postgres),
         _ => None,
+    }
+}
+
+// The application that has a name.
+fn application_named(name: &str) -> Option<Application>
+    ensures named { IfSome result (λ application. application_name application ≡ name.now) }
+{
+    match name {
+        "jenkins" => Some(Application::Jenkins),
+        "nextcloud" => Some(Application::Nextcloud),
+        "home-assistant" => Some(Application::HomeAssistant),
+        "couchdb" => Some(Application::CouchDb),
+        "grafana" => Some(Application::Grafana),
+        _ => None,
+    }
+}
+
+/// The maker that has a name.
+pub fn maker_named(name: &str) -> Option<Maker>
+    ensures named { IfSome result (λ maker. maker_name maker ≡ name.now) }
+{
+    match foreign_named(name) {
+        Some(foreign) => Some(Maker::Foreign(foreign)),
+        None => match application_named(name) {
+            Some(application) => Some(Maker::Application(application)),
+            None => None,
+        },
     }
 }

@@ -5,7 +5,7 @@ ghost use Rattle.std.specs.Str.{is_utf8};
 ghost use Rattle.foreign_lines.specs.Parts.{cut_parts, is_locked_by, parts_in, password_parts, text_in, text_parts, user_password_parts, user_text_parts, utf8_parts};
 ghost use Rattle.foreign_lines.specs.Views.{as_parts};
 
-use foreign_text::Foreign;
+use application_texts::Maker;
 use line_program::cut_at_last_tab;
 use pieces::text::text_of;
 use shadow_fields::{cut_field, cut_user, is_locked};
@@ -81,14 +81,14 @@ fn utf8_parts<'a>(user: &'a [u8], text: &'a [u8]) -> Option<LineParts<'a>>
 }
 
 /// Whether a text is of a locked account.
-pub(crate) fn is_locked_by(foreign: Foreign, text: &[u8]) -> bool
+pub(crate) fn is_locked_by(foreign: Maker, text: &[u8]) -> bool
     ensures { result ≡ is_locked_by foreign text.now }
 {
     !foreign.has_clear_texts() && is_locked(text)
 }
 
 // The same for a text that is there and isn't of a locked account.
-fn text_parts<'a>(foreign: Foreign, user: &'a [u8], text: &'a [u8]) -> Option<LineParts<'a>>
+fn text_parts<'a>(foreign: Maker, user: &'a [u8], text: &'a [u8]) -> Option<LineParts<'a>>
     ensures { as_parts result ≡ text_parts foreign user.now text.now }
 {
     if text.is_empty() || is_locked_by(foreign, text) {
@@ -108,7 +108,7 @@ fn user_password_parts(line: &[u8]) -> Option<LineParts<'_>>
 }
 
 /// The stored text at the front of what comes after a user.
-pub(crate) fn text_in(foreign: Foreign, rest: &[u8]) -> &[u8]
+pub(crate) fn text_in(foreign: Maker, rest: &[u8]) -> &[u8]
     ensures { result.now ≡ text_in foreign rest.now }
 {
     if foreign.has_colons() {
@@ -119,7 +119,7 @@ pub(crate) fn text_in(foreign: Foreign, rest: &[u8]) -> &[u8]
 }
 
 // The parts of a user, a colon and a stored text.
-fn user_text_parts(foreign: Foreign, line: &[u8]) -> Option<LineParts<'_>>
+fn user_text_parts(foreign: Maker, line: &[u8]) -> Option<LineParts<'_>>
     ensures { as_parts result ≡ user_text_parts foreign line.now }
 {
     match cut_user(line) {
@@ -130,7 +130,7 @@ fn user_text_parts(foreign: Foreign, line: &[u8]) -> Option<LineParts<'_>>
 
 /// The parts of a line; none where no text is converted in it.
 #[tactic(auto, unfolding(crate::specs::Parts::parts_in))]
-pub(crate) fn parts_in(foreign: Foreign, form: LineForm, line: &[u8]) -> Option<LineParts<'_>>
+pub(crate) fn parts_in(foreign: Maker, form: LineForm, line: &[u8]) -> Option<LineParts<'_>>
     ensures { as_parts result ≡ parts_in foreign form line.now }
 {
     match form {

@@ -9,7 +9,7 @@ ghost use Rattle.foreign_lines.specs.Runs.{foreign_rules, foreign_user_rules};
 use crate::lines::ForeignLines;
 use crate::parts::LineForm;
 use any_check::SchemeCosts;
-use foreign_text::Foreign;
+use application_texts::Maker;
 use line_io::{Sink, Source};
 use line_program::{run_ended, run_lines};
 use shadow_check::{AnyLines, UserLines};
@@ -23,7 +23,7 @@ use std::alloc::Global;
 /// text. Statuses and memory are those of `run_any`.
 pub fn run_foreign<S: Source, K: Sink>(
     alloc: Global,
-    foreign: Foreign,
+    foreign: Maker,
     limits: Option<SchemeCosts>,
     source: &mut S,
     sink: &mut K,
@@ -45,7 +45,7 @@ pub fn run_foreign<S: Source, K: Sink>(
 /// `shadow_check::run_users` has it.
 pub fn run_foreign_users<S: Source, K: Sink>(
     alloc: Global,
-    foreign: Foreign,
+    foreign: Maker,
     limits: Option<SchemeCosts>,
     source: &mut S,
     sink: &mut K,

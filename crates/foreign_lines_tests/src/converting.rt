@@ -1,5 +1,6 @@
 //! Lines of users and foreign texts as what sets texts gets them. The keys are hashlib's, as in `tests`.
 
+use application_texts::{Application, Maker};
 use foreign_lines::{ConvertedTexts, MAKERS, maker_named};
 use foreign_text::Foreign;
 use line_filter::MappedLines;
@@ -7,10 +8,10 @@ use line_io::{Failed, MemorySource, Source};
 use std::test::Fail;
 
 // Lines of a maker, and the lines that are given for them.
-const LINES: [(Foreign, &[u8], &[u8]); 7] = [
+const LINES: [(Maker, &[u8], &[u8]); 10] = [
     // A line that has no text, or one that isn't converted, gives an empty one; no field after the text is kept.
     (
-        Foreign::Django,
+        Maker::Foreign(Foreign::Django),
         b"ann:pbkdf2_sha256$1000$abcdefgh$GHUbOYNfzc/1XP2MWJxQ0OB83AthJA5LJEJcJ6ahzFY=\n\
         bob:bcrypt$$2b$04$abcdefghijklmnopqrstuu2r9OfJnfCsdneAXAGHnS4UpFFP8WIrW:1:2\n\
         carl:!abc\ndora:\neve:sha1$abc$def\nfay:pbkdf2_sha256$1000$seasalt$GHUbOYNfzc/1XP2MWJxQ0OB83AthJA5LJEJcJ6ahzFY=\n\
@@ -22,38 +23,53 @@ const LINES: [(Foreign, &[u8], &[u8]); 7] = [
     ),
     // The text goes on to the line's end where the maker's texts have colons, and a stored text has none.
     (
-        Foreign::Werkzeug,
+        Maker::Foreign(Foreign::Werkzeug),
         b"ann:pbkdf2:sha256:7$saltsalt$fdd683fab6b91733300fb18384a4ceff79246d4f1aaa54fd81b44ff5eedb1ed7\n\
         bob:$5$a$b:1\ncarl:*:1\ndora:pbkdf2:sha1:7$saltsalt$fdd683fab6b91733300fb18384a4ceff79246d4f\neve:$5$a$b\n",
         b"ann:$pbkdf2-sha256$i=7$c2FsdHNhbHQ$/daD+ra5FzMwD7GDhKTO/3kkbU8aqlT9gbRP9e7bHtc\n\ncarl:*:1\ndora:$pbkdf2-sha1$i=7$c2FsdHNhbHQ$/daD+ra5FzMwD7GDhKTO/3kkbU8\neve:$5$a$b\n",
     ),
     // Without a tag a text is the password itself, also one that begins with `*`.
     (
-        Foreign::Ldap,
+        Maker::Foreign(Foreign::Ldap),
         b"ann:{PBKDF2-SHA256}7$YWJjZGVmZ2g$oNzBqFb03A.goX/CUpviOBd1EZ5cZP30Ade7.vnhkhM\n\
         bob:{CRYPT}$1$abcdefgh$cHJi5PXp/ki/ktXzqlk6I1\ncarl:{CRYPT}!x\ndora:*secret\neve:{SSHA}x\n",
         b"ann:$pbkdf2-sha256$i=7$YWJjZGVmZ2g$oNzBqFb03A+goX/CUpviOBd1EZ5cZP30Ade7+vnhkhM\n\
         bob:$1$abcdefgh$cHJi5PXp/ki/ktXzqlk6I1\ncarl:!\n\n\n",
     ),
     (
-        Foreign::Ldif,
+        Maker::Foreign(Foreign::Ldif),
         b"ann:{CRYPT}$1$abcdefgh$cHJi5PXp/ki/ktXzqlk6I1:x\nbob:{crypt}*\neve:*geh:eim\n",
         b"\nbob:!\n\n",
     ),
     (
-        Foreign::Dovecot,
+        Maker::Foreign(Foreign::Dovecot),
         b"ann:{BLF-CRYPT}$2y$04$abcdefghijklmnopqrstuu2r9OfJnfCsdneAXAGHnS4UpFFP8WIrW:500:500::/home/ann\nbob:{PLAIN}x\n",
         b"ann:$2y$04$abcdefghijklmnopqrstuu2r9OfJnfCsdneAXAGHnS4UpFFP8WIrW\n\n",
     ),
     (
-        Foreign::Spring,
+        Maker::Foreign(Foreign::Spring),
         b"ann:{bcrypt}$2a$04$abcdefghijklmnopqrstuu2r9OfJnfCsdneAXAGHnS4UpFFP8WIrW\nbob:{noop}x\n",
         b"ann:$2a$04$abcdefghijklmnopqrstuu2r9OfJnfCsdneAXAGHnS4UpFFP8WIrW\n\n",
     ),
     (
-        Foreign::Passlib,
+        Maker::Foreign(Foreign::Passlib),
         b"ann:$pbkdf2-sha256$7$YWJjZGVmZ2g$oNzBqFb03A.goX/CUpviOBd1EZ5cZP30Ade7.vnhkhM\n",
         b"ann:$pbkdf2-sha256$i=7$YWJjZGVmZ2g$oNzBqFb03A+goX/CUpviOBd1EZ5cZP30Ade7+vnhkhM\n",
+    ),
+    (
+        Maker::Application(Application::Jenkins),
+        b"ann:#jbcrypt:$2a$04$abcdefghijklmnopqrstuu2r9OfJnfCsdneAXAGHnS4UpFFP8WIrW\nbob:#jbcrypt:x\ncarl:*:1\n",
+        b"ann:$2a$04$abcdefghijklmnopqrstuu2r9OfJnfCsdneAXAGHnS4UpFFP8WIrW\n\ncarl:*:1\n",
+    ),
+    (
+        Maker::Application(Application::HomeAssistant),
+        b"ann:JDJiJDA0JGFiY2RlZmdoaWprbG1ub3BxcnN0dXUycjlPZkpuZkNzZG5lQVhBR0huUzRVcEZGUDhXSXJX:x\nbob:JDJiJDA0JGE6Yg==\n",
+        b"ann:$2b$04$abcdefghijklmnopqrstuu2r9OfJnfCsdneAXAGHnS4UpFFP8WIrW\n\n",
+    ),
+    (
+        Maker::Application(Application::Grafana),
+        b"ann:51de374324297e4ac1ae6ee2528bf4284a68710d47d40eb924a792641719f87419bb20222c41b279de52ffe33abb593c3d83:saltsalt\nbob:51de374324297e4ac1ae6ee2528bf4284a68710d47d40eb924a792641719f87419bb20222c41b279de52ffe33abb593c3d83:saltsalt:\n",
+        b"ann:$pbkdf2-sha256$i=10000$c2FsdHNhbHQ$Ud43QyQpfkrBrm7iUov0KEpocQ1H1A65JKeSZBcZ+HQZuyAiLEGyed5S/+M6u1k8PYM\n\n",
     ),
 ];
 
@@ -101,7 +117,7 @@ fn lines_that_do_not_fit(rt: HostRuntime) -> Result<(), Fail> {
             lines.push(*b)?;
         }
         let texts = ConvertedTexts {
-            foreign: Foreign::Ldap,
+            foreign: Maker::Foreign(Foreign::Ldap),
         };
         let mut source = MappedLines::new(texts, MemorySource::new(&lines, 5_000, &[]));
         let mut out = Vec::new(rt.alloc());
@@ -116,7 +132,10 @@ fn makers_by_their_names(rt: HostRuntime) {
     for name in MAKERS {
         assert!(rt; maker_named(name).is_some(), "{name}");
     }
-    assert!(rt; maker_named("werkzeug") == Some(Foreign::Werkzeug));
-    assert!(rt; maker_named("ldif") == Some(Foreign::Ldif));
+    assert!(rt; maker_named("werkzeug") == Some(Maker::Foreign(Foreign::Werkzeug)));
+    assert!(rt; maker_named("ldif") == Some(Maker::Foreign(Foreign::Ldif)));
+    assert!(rt;
+        maker_named("home-assistant") == Some(Maker::Application(Application::HomeAssistant))
+    );
     assert!(rt; maker_named("Django").is_none() && maker_named("").is_none());
 }

@@ -1,6 +1,7 @@
 //! Lines of foreign texts. The texts are Django's and passlib's, of the password `secret`.
 
 use any_check::{Costs, NO_COSTS, SchemeCosts};
+use application_texts::{Application, Maker};
 use foreign_lines::{
     ForeignJoin, ForeignLines, LineForm, run_foreign, run_foreign_survey, run_foreign_users,
 };
@@ -77,7 +78,7 @@ fn lines_of_django(rt: HostRuntime) {
     let mut sink = MemorySink::new(&mut room, 256, &[]);
     let status = run_foreign(
         rt.alloc(),
-        Foreign::Django,
+        Maker::Foreign(Foreign::Django),
         None,
         &mut source,
         &mut sink,
@@ -99,7 +100,7 @@ fn a_bound_on_cost(rt: HostRuntime) {
         let limits = Some(rounds_below(most));
         let got = run_foreign(
             rt.alloc(),
-            Foreign::Passlib,
+            Maker::Foreign(Foreign::Passlib),
             limits,
             &mut source,
             &mut sink,
@@ -127,7 +128,7 @@ fn lines_with_users(rt: HostRuntime) {
     let mut sink = MemorySink::new(&mut room, 256, &[]);
     let status = run_foreign_users(
         rt.alloc(),
-        Foreign::Ldap,
+        Maker::Foreign(Foreign::Ldap),
         None,
         &mut source,
         &mut sink,
@@ -163,7 +164,7 @@ fn users_beside_passwords(rt: HostRuntime) -> Result<(), Fail> {
     let mut sink = MemorySink::new(&mut room, 256, &[]);
     let joining = ForeignJoin {
         alloc: rt.alloc(),
-        foreign: Foreign::Ldap,
+        foreign: Maker::Foreign(Foreign::Ldap),
         limits: None,
     };
     let end = run_join(
@@ -189,7 +190,7 @@ fn users_read_first(rt: HostRuntime) -> Result<(), Fail> {
     let mut sink = MemorySink::new(&mut room, 256, &[]);
     let joining = ForeignJoin {
         alloc: rt.alloc(),
-        foreign: Foreign::Ldap,
+        foreign: Maker::Foreign(Foreign::Ldap),
         limits: None,
     };
     let end = run_join_fewer(
@@ -208,32 +209,47 @@ fn users_read_first(rt: HostRuntime) -> Result<(), Fail> {
 }
 
 // A user's text goes on to the end of the line where the maker's texts have colons. The keys are hashlib's.
-const WITH_COLONS: [(Foreign, &[u8], &[u8]); 5] = [
+const WITH_COLONS: [(Maker, &[u8], &[u8]); 8] = [
     (
-        Foreign::Werkzeug,
+        Maker::Foreign(Foreign::Werkzeug),
         b"ann:pbkdf2:sha256:7$saltsalt$fdd683fab6b91733300fb18384a4ceff79246d4f1aaa54fd81b44ff5eedb1ed7\nbob:pbkdf2:sha256:7$saltsalt$fdd683fab6b91733300fb18384a4ceff79246d4f1aaa54fd81b44ff5eedb1ed7\n",
         b"ann\tmatch\nbob\tmismatch\n",
     ),
     (
-        Foreign::MediaWiki,
+        Maker::Foreign(Foreign::MediaWiki),
         b"ann::pbkdf2:sha512:9:64:c2FsdHNhbHQ=:6vUzTVFOdRhVTzjL1KkVCWtTaLGCIYFWDfDJDjaW4EiFUeq8jAZ/a3Ef74LY0iVECU0Sp22oEkAzuq5+C9jFJg==\nbob::pbkdf2:sha512:9:64:c2FsdHNhbHQ=:6vUzTVFOdRhVTzjL1KkVCWtTaLGCIYFWDfDJDjaW4EiFUeq8jAZ/a3Ef74LY0iVECU0Sp22oEkAzuq5+C9jFJg==:\n",
         b"ann\tmatch\nbob\tforeign-form\n",
     ),
     (
-        Foreign::Mosquitto,
+        Maker::Foreign(Foreign::Mosquitto),
         b"ann:secret:pbkdf2\n",
         b"ann\tunsupported-scheme\n",
     ),
     // A text of LDAP ends at a colon; in a line of a dump in LDIF it doesn't.
     (
-        Foreign::Ldap,
+        Maker::Foreign(Foreign::Ldap),
         b"ann:{CRYPT}$1$abcdefgh$cHJi5PXp/ki/ktXzqlk6I1:x\nbob:{CRYPT}*\n",
         b"ann\tmatch\nbob\tlocked\n",
     ),
     (
-        Foreign::Ldif,
+        Maker::Foreign(Foreign::Ldif),
         b"ann:{CRYPT}$1$abcdefgh$cHJi5PXp/ki/ktXzqlk6I1:x\nbob:{crypt}x\neve:*geh:eim\n",
         b"ann\tforeign-form\nbob\tlocked\neve\tunsupported-cleartext\n",
+    ),
+    (
+        Maker::Application(Application::Jenkins),
+        b"ann:$PBKDF2$HMACSHA512:7:73616c7473616c74$8deaeac1a56ee60cd648ef4d5c023c1949249428f1633fe3a6981e2cc023a15cdaea3d27af41cb3bf9ebc3fb16fd7b2f58ccb358955b0bda3d367fa3b0c39c67\nbob:$PBKDF2$HMACSHA512:7:73616c7473616c74$8deaeac1a56ee60cd648ef4d5c023c1949249428f1633fe3a6981e2cc023a15cdaea3d27af41cb3bf9ebc3fb16fd7b2f58ccb358955b0bda3d367fa3b0c39c67\neve:#jbcrypt:$6$x\n",
+        b"ann\tmatch\nbob\tmismatch\neve\tforeign-form\n",
+    ),
+    (
+        Maker::Application(Application::CouchDb),
+        b"ann:-pbkdf2-sha256,fdd683fab6b91733300fb18384a4ceff79246d4f1aaa54fd81b44ff5eedb1ed7,saltsalt,7:x\nbob:-pbkdf2-sha256,fdd683fab6b91733300fb18384a4ceff79246d4f1aaa54fd81b44ff5eedb1ed7,saltsalt,7\neve:*secret\n",
+        b"ann\tmatch\nbob\tmismatch\neve\tunsupported-cleartext\n",
+    ),
+    (
+        Maker::Application(Application::Grafana),
+        b"ann:00:x\nbob:00\n",
+        b"ann\tforeign-salt-length\nbob\tforeign-form\n",
     ),
 ];
 
@@ -276,7 +292,7 @@ fn rows_of_a_survey(rt: HostRuntime) {
     let mut source = MemorySource::new(TEXTS, 50, &[]);
     let mut sink = MemorySink::new(&mut room, 512, &[]);
     let mut lines = ForeignLines {
-        foreign: Foreign::Ldap,
+        foreign: Maker::Foreign(Foreign::Ldap),
         form: LineForm::Surveyed,
         inner: SurveyLines::new(LEAST, Format::Tabs),
     };
@@ -317,7 +333,7 @@ fn long_lines(rt: HostRuntime) {
     let mut sink = MemorySink::new(&mut room, 64, &[]);
     let status = run_foreign(
         rt.alloc(),
-        Foreign::Django,
+        Maker::Foreign(Foreign::Django),
         None,
         &mut source,
         &mut sink,

@@ -20,6 +20,11 @@ const LINE_MAKERS: &[&str] = &[
     "mediawiki",
     "grub",
     "postgres",
+    "jenkins",
+    "nextcloud",
+    "home-assistant",
+    "couchdb",
+    "grafana",
 ];
 
 /// A form without its words: its name, what it does, and what is after the options in its help.

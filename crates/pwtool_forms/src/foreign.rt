@@ -11,10 +11,10 @@ ghost use Rattle.foreign_lines.specs.Rules.{foreign_state};
 ghost use Rattle.foreign_lines.specs.Runs.{foreign_joined_rules, foreign_rules, foreign_user_rules};
 
 use any_check::SchemeCosts;
+use application_texts::Maker;
 use foreign_lines::{
     ForeignJoin, ForeignLines, run_foreign, run_foreign_survey, run_foreign_users,
 };
-use foreign_text::Foreign;
 use line_io::{INPUT_MAX, Sink, Source};
 use shadow_check::{JoinEnd, run_join, run_join_fewer};
 use shadow_survey::SurveyLines;
@@ -27,7 +27,7 @@ use std::hash::RandomState;
 /// Answers, statuses and memory are those of [`run_foreign`].
 pub fn check_foreign<S: Source, K: Sink>(
     alloc: Global,
-    foreign: Foreign,
+    foreign: Maker,
     limits: Option<SchemeCosts>,
     source: &mut S,
     sink: &mut K,
@@ -41,7 +41,7 @@ pub fn check_foreign<S: Source, K: Sink>(
 /// The same of lines that begin with a user and a colon. Statuses and memory are those of [`run_foreign_users`].
 pub fn check_foreign_users<S: Source, K: Sink>(
     alloc: Global,
-    foreign: Foreign,
+    foreign: Maker,
     limits: Option<SchemeCosts>,
     source: &mut S,
     sink: &mut K,
@@ -73,7 +73,7 @@ pub fn survey_foreign<S: Source, K: Sink>(
 pub fn join_foreign<P: Source, T: Source, K: Sink>(
     alloc: Global,
     keys: RandomState,
-    foreign: Foreign,
+    foreign: Maker,
     limits: Option<SchemeCosts>,
     passwords: &mut P,
     texts: &mut T,
@@ -99,7 +99,7 @@ pub fn join_foreign<P: Source, T: Source, K: Sink>(
 pub fn join_foreign_fewer<U: Source, P: Source, T: Source, K: Sink>(
     alloc: Global,
     keys: RandomState,
-    foreign: Foreign,
+    foreign: Maker,
     limits: Option<SchemeCosts>,
     users: &mut U,
     passwords: &mut P,

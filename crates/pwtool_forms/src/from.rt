@@ -1,8 +1,8 @@
 //! The option that says whose spelling the stored texts have.
 
+use application_texts::Maker;
 use clap::ArgMatches;
 use foreign_lines::maker_named;
-use foreign_text::Foreign;
 
 /// The word for a dump of a directory.
 const LDIF: &str = "ldif";
@@ -13,6 +13,6 @@ pub fn is_ldif(matches: &ArgMatches<'_>) -> bool {
 }
 
 /// The spelling that the command line names; none where the texts are stored ones as they are.
-pub fn foreign_of(matches: &ArgMatches<'_>) -> Option<Foreign> {
+pub fn foreign_of(matches: &ArgMatches<'_>) -> Option<Maker> {
     maker_named(matches.get_str("from")?)
 }

@@ -9,8 +9,8 @@ use Rattle.std.proofs.Math.Seq.{drop-append-add, take_at}
 use Rattle.foreign_lines.specs.Converting.{by_stored, by_text, by_utf8, converted_line, stays, user_text, with_stored}
 use Rattle.foreign_lines.specs.Parts.{text_in}
 use Rattle.foreign_text.specs.Answers.{Answer}
-use Rattle.foreign_text.specs.Converted.{converted}
-use Rattle.foreign_text.specs.declared.converted.Foreign.{Foreign}
+use Rattle.application_texts.specs.Makers.{read_by}
+use Rattle.application_texts.specs.declared.makers.Maker.{Maker}
 use Rattle.foreign_text.specs.declared.fault.ForeignFault.TheVariants.{Locked, Unread, Form, Rounds, Cost, Salt, SaltLength, Hash, HashLength}
 use Rattle.line_io.specs.Limits.{line_max}
 use Rattle.pieces.specs.Characters.{is_tab}
@@ -137,7 +137,7 @@ no_colon_in (b ∷ line) = by_colon (no_colon_in line) (is_colon b) refl
 
 -- ---- a converted line
 
-module _ (r : TableRules) (foreign : Foreign) (user given : List ℕ) (uncoloned : list_any is_colon user ≡ false) (untabbed : list_any is_tab user ≡ false)
+module _ (r : TableRules) (foreign : Maker) (user given : List ℕ) (uncoloned : list_any is_colon user ≡ false) (untabbed : list_any is_tab user ≡ false)
     (named text : List ℕ) where
   abbrev Converts : Type 0
   Converts = (named ≡ user) × IsImported foreign given text
@@ -145,7 +145,7 @@ module _ (r : TableRules) (foreign : Foreign) (user given : List ℕ) (uncoloned
   abbrev SetBy : List ℕ → Type 0
   SetBy line = command (any_texts r) (set_of line) ≡ Some (Set named text)
 
-  stored_set : (stored : List ℕ) → converted foreign given ≡ Ok stored → SetBy (with_stored user stored) → Converts
+  stored_set : (stored : List ℕ) → read_by foreign given ≡ Ok stored → SetBy (with_stored user stored) → Converts
   stored_set stored is sets = by_colon (list_any is_colon stored) refl
     where
       by_colon : (test : Bool) → list_any is_colon stored ≡ test → Converts
@@ -154,7 +154,7 @@ module _ (r : TableRules) (foreign : Foreign) (user given : List ℕ) (uncoloned
           let both = fitting_set r user stored named text uncoloned untabbed (rw none at sets) in
           (both.0, inl (is ∙ ap Ok (sym (both.1 ∙ whole_field stored none))))
 
-  by_answer : (answer : Answer) → converted foreign given ≡ answer → SetBy (by_stored user answer) → Converts
+  by_answer : (answer : Answer) → read_by foreign given ≡ answer → SetBy (by_stored user answer) → Converts
   by_answer (Ok stored) is sets = stored_set stored is sets
   by_answer (Err Locked) is sets =
       let both = fitting_set r user (codes "!") named text uncoloned untabbed sets in
@@ -172,7 +172,7 @@ module _ (r : TableRules) (foreign : Foreign) (user given : List ℕ) (uncoloned
   utf8_set sets = by_test (is_utf8 given) refl
     where
       by_test : (test : Bool) → is_utf8 given ≡ test → Converts
-      by_test true is = by_answer (converted foreign given) refl (rw is at sets)
+      by_test true is = by_answer (read_by foreign given) refl (rw is at sets)
       by_test false is = absurd (nothing_set r named text (rw is at sets))
 
   text_set : SetBy (by_text foreign user given) → Converts
@@ -184,7 +184,7 @@ module _ (r : TableRules) (foreign : Foreign) (user given : List ℕ) (uncoloned
           (both.0, inr (inr (is, both.1)))
       by_test false is = utf8_set (rw is at sets)
 
-pub converted_set : (r : TableRules) (foreign : Foreign) (line user text : List ℕ)
+pub converted_set : (r : TableRules) (foreign : Maker) (line user text : List ℕ)
     → command (any_texts r) (set_of (converted_line foreign line)) ≡ Some (Set user text)
     → (has_user line ≡ true) × ((user ≡ user_of line) × IsImported foreign (text_in foreign (rest_of line)) text)
 unfolding converted_line

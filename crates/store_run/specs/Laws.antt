@@ -2,8 +2,8 @@
 use Rattle.std.specs.Prelude.{◌≡◌, ◌⊎◌, ◌<◌, ℕ, List, codes, false, length, true, Err, None, Ok, Some}
 use Rattle.foreign_lines.specs.Converting.{converted_line, stays}
 use Rattle.foreign_lines.specs.Parts.{text_in}
-use Rattle.foreign_text.specs.Converted.{converted}
-use Rattle.foreign_text.specs.declared.converted.Foreign.{Foreign}
+use Rattle.application_texts.specs.Makers.{read_by}
+use Rattle.application_texts.specs.declared.makers.Maker.{Maker}
 use Rattle.foreign_text.specs.declared.fault.ForeignFault.TheVariants.{Locked}
 use Rattle.line_io.specs.Limits.{line_max}
 use Rattle.pw_file.specs.Commands.{Set, command}
@@ -28,13 +28,13 @@ NoUserNoChange = (r : TableRules) (s : State) (line : List ℕ) → has_user lin
 
 -- What is set for a text of another maker: the converted one; `!` where the account is locked in the maker's own way; or an empty
 -- text or a locked one as it is, up to a colon.
-abbrev pub IsImported : Foreign → List ℕ → List ℕ → Type 0
+abbrev pub IsImported : Maker → List ℕ → List ℕ → Type 0
 IsImported foreign given text =
-    (converted foreign given ≡ Ok text)
-    ⊎ (((converted foreign given ≡ Err Locked) × (text ≡ codes "!")) ⊎ ((stays foreign given ≡ true) × (text ≡ first_field given)))
+    (read_by foreign given ≡ Ok text)
+    ⊎ (((read_by foreign given ≡ Err Locked) × (text ≡ codes "!")) ⊎ ((stays foreign given ≡ true) × (text ≡ first_field given)))
 
 -- A converted line that is a command sets such a text for its user.
 abbrev pub ImportsConverted : Type 0
-ImportsConverted = (r : TableRules) (foreign : Foreign) (line user text : List ℕ)
+ImportsConverted = (r : TableRules) (foreign : Maker) (line user text : List ℕ)
     → command (any_texts r) (set_of (converted_line foreign line)) ≡ Some (Set user text)
     → (has_user line ≡ true) × ((user ≡ user_of line) × IsImported foreign (text_in foreign (rest_of line)) text)

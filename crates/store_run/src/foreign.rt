@@ -13,8 +13,8 @@ ghost use Rattle.pw_store.specs.Stored.{IsSound, device_of, rows_of, size_of, ta
 ghost use Rattle.set_lines.specs.Sets.{set_text};
 
 use crate::table::import_users;
+use application_texts::Maker;
 use foreign_lines::ConvertedTexts;
-use foreign_text::Foreign;
 use line_filter::MappedLines;
 use line_io::{Sink, Source};
 use line_log::Device;
@@ -25,7 +25,7 @@ use shadow_table::{AnyTexts, TableRuled};
 /// that of [`import_users`] for the lines that [`ConvertedTexts`] gives. A line whose text isn't converted sets nothing.
 pub fn import_foreign<T: TableRuled, D: Device, S: Source + Drop, K: Sink>(
     store: &mut Store<D, AnyTexts<T>>,
-    foreign: Foreign,
+    foreign: Maker,
     source: S,
     sink: &mut K,
 ) -> u8

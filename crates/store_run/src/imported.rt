@@ -12,6 +12,7 @@ use crate::noted::Noted;
 use crate::opened::{STANDARD_INPUT, store_at, tell};
 use crate::status::NO_FILE;
 use crate::table::import_users;
+use application_texts::Maker;
 use file_device::{FileDevice, is_standard};
 use foreign_lines::maker_named;
 use foreign_text::Foreign;
@@ -76,7 +77,7 @@ const OF_DUMP: LineForms = LineForms {
 // Sets the users of the lines that a source gives, or of a dump of a directory, in whatever spelling the texts are.
 fn import_given<T: TableRuled, D: Device, S: Source + Drop, K: Sink>(
     store: &mut Store<D, AnyTexts<T>>,
-    from: Option<Foreign>,
+    from: Option<Maker>,
     source: S,
     sink: &mut K,
 ) -> u8
@@ -86,9 +87,9 @@ fn import_given<T: TableRuled, D: Device, S: Source + Drop, K: Sink>(
 {
     match from {
         None => import_users(store, source, sink),
-        Some(Foreign::Ldif) => {
+        Some(Maker::Foreign(Foreign::Ldif)) => {
             let dump = LdifLines::new(FileForm::Ldif, Filtered::new(OF_DUMP, source));
-            import_foreign(store, Foreign::Ldif, dump, sink)
+            import_foreign(store, Maker::Foreign(Foreign::Ldif), dump, sink)
         }
         Some(foreign) => import_foreign(store, foreign, source, sink),
     }
@@ -99,7 +100,7 @@ fn import_store<'a, T: TableRuled, R: Read + Drop>(
     rt: &'a HostRuntime,
     speaker: &Speaker<'_>,
     store: Store<FileDevice<'a>, AnyTexts<T>>,
-    from: Option<Foreign>,
+    from: Option<Maker>,
     name: &str,
     reader: R,
 ) -> u8
@@ -133,7 +134,7 @@ fn import_store<'a, T: TableRuled, R: Read + Drop>(
 #[derive(Clone, Copy)]
 struct Import<'a> {
     users: &'a str,
-    from: Option<Foreign>,
+    from: Option<Maker>,
 }
 
 // Sets the users of the lines that a reader gives, in the table of a file.
@@ -141,7 +142,7 @@ fn import_from<T: TableRuled, R: Read + Drop>(
     rt: &HostRuntime,
     speaker: &Speaker<'_>,
     rules: TableRules,
-    from: Option<Foreign>,
+    from: Option<Maker>,
     name: &str,
     reader: R,
 ) -> u8
@@ -185,7 +186,7 @@ pub fn import_file(
     program: &str,
     file: &str,
     users: &str,
-    from: Option<Foreign>,
+    from: Option<Maker>,
     rules: TableRules,
 ) -> u8
     ensures statuses { IsTableStatus result }

@@ -1,6 +1,7 @@
 //! Files that are taken, refused, made, and made anew.
 
 use crate::helpers::{ANEW, EMPTY, NONE_FAILS, THREE, TWO, memory, opened};
+use application_texts::Maker;
 use foreign_text::Foreign;
 use line_log::{MemoryDevice, OpenError};
 use shadow_table::PLAIN_RULES;
@@ -301,7 +302,7 @@ fn users_of_another_maker(rt: HostRuntime) {
                 "pwstore",
                 name,
                 users,
-                Some(Foreign::Ldap),
+                Some(Maker::Foreign(Foreign::Ldap)),
                 PLAIN_RULES
             ) == 0
     );

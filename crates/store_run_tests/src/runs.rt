@@ -1,6 +1,7 @@
 //! Commands over files in memory: replies, groups, faults.
 
 use crate::helpers::{ANEW, ANN, EMPTY, GONE, NONE_FAILS, THREE, TWO, leaves_one, opened};
+use application_texts::Maker;
 use foreign_text::Foreign;
 use line_io::{Failed, MemorySink, MemorySource, Sink, Source};
 use std::cell::Cell;
@@ -274,21 +275,21 @@ fn users_of_lines(rt: HostRuntime) {
 }
 
 // Lines of three makers, and the file that they leave. The texts are those of `foreign_lines_tests`.
-const FOREIGN: [(Foreign, &[u8], &[u8], &[u8]); 3] = [
+const FOREIGN: [(Maker, &[u8], &[u8], &[u8]); 3] = [
     (
-        Foreign::Django,
+        Maker::Foreign(Foreign::Django),
         b"ann:pbkdf2_sha256$1000$abcdefgh$GHUbOYNfzc/1XP2MWJxQ0OB83AthJA5LJEJcJ6ahzFY=\nbob:sha1$a$b\ncarl:!x\ndora\n",
         b"ok\nbad-command\nok\nbad-command\n",
         b"#pwstore 1\nset\tann\t$pbkdf2-sha256$i=1000$YWJjZGVmZ2g$GHUbOYNfzc/1XP2MWJxQ0OB83AthJA5LJEJcJ6ahzFY\nset\tcarl\t!x\n#",
     ),
     (
-        Foreign::Werkzeug,
+        Maker::Foreign(Foreign::Werkzeug),
         b"ann:pbkdf2:sha256:7$saltsalt$fdd683fab6b91733300fb18384a4ceff79246d4f1aaa54fd81b44ff5eedb1ed7\nbob:$5$a:b\n",
         b"ok\nbad-command\n",
         b"#pwstore 1\nset\tann\t$pbkdf2-sha256$i=7$c2FsdHNhbHQ$/daD+ra5FzMwD7GDhKTO/3kkbU8aqlT9gbRP9e7bHtc\n#",
     ),
     (
-        Foreign::Ldap,
+        Maker::Foreign(Foreign::Ldap),
         b"ann:{PBKDF2-SHA256}7$YWJjZGVmZ2g$oNzBqFb03A.goX/CUpviOBd1EZ5cZP30Ade7.vnhkhM\nbob:{CRYPT}!x\neve:{SSHA}x\n\xff:{CRYPT}$5$a$b\n",
         b"ok\nok\nbad-command\nbad-command\n",
         b"#pwstore 1\nset\tann\t$pbkdf2-sha256$i=7$YWJjZGVmZ2g$oNzBqFb03A+goX/CUpviOBd1EZ5cZP30Ade7+vnhkhM\nset\tbob\t!\n#",
