@@ -56,7 +56,7 @@ ROWS = [Row(*row) for row in (
     ("made_any.py", "compare", "", 3, None, "texts of `pwtool make`, asked of libxcrypt, hashlib and libargon2"),
     ("made_c.py", "compare", "gcc", 3, None, "texts of the C library, asked of the same"),
     ("made_texts.py", "compare", "rt", 3, None, "texts of SHA-crypt and scrypt, asked of others"),
-    ("maker_texts.py", "compare", "", 2, None, "texts of 21 makers, asked of `pwtool --from`, and damaged ones by their first fault"),
+    ("maker_texts.py", "compare", "", 2, None, "texts of 28 makers, asked of `pwtool --from`, and damaged ones by their first fault"),
     ("normal_texts.py", "compare", "", 1, None, "`pwcheck normalize` beside its definition"),
     ("scram.py", "compare", "pg_ctlcluster", 1, None, "the definitions of SCRAM in Python beside a server of PostgreSQL"),
     ("sha1_crypt.py", "compare", "", 1, None, "the definitions of sha1-crypt in Python beside libxcrypt and passlib"),
