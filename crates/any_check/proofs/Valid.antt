@@ -218,7 +218,7 @@ mysql_costed (Ok rounds) = refl
 mysql_agree : (password stored : List ℕ)
     → Agree (of_mysql (mysql_answer password stored)) (mysql_kind (mysql_text.text_cost stored))
 mysql_agree password stored =
-    mysql_compared (mysql_answer password stored) ∙ mysql_laws.verdict_where_rounds password stored
+    mysql_compared (mysql_answer password stored) ∙ mysql_laws.verdict_where_thousands password stored
     ∙ mysql_costed (mysql_text.text_cost stored)
 
 -- ---- salted digests

@@ -1,5 +1,5 @@
 -- The laws of the answer.
-use Rattle.std.proofs.Common.{◌≡◌, ℕ, Bool, true, List, refl, sym, ap, ◌∙◌, Result, Ok, Err}
+use Rattle.std.proofs.Common.{◌≡◌, ℕ, List, refl, Result, Ok, Err}
 use Rattle.std.specs.Prelude.{is_ok, nat_eq}
 use Rattle.std.specs.Cmp.Lexicographic.{pointwise}
 use Rattle.mysql_sha2.specs.Check.{answer_by, mysql_answer}
@@ -12,6 +12,6 @@ by_parts : (password : List ℕ) (r : Result Parts MysqlFault)
 by_parts password (Err e) = refl
 by_parts password (Ok p) = refl
 
-pub verdict_where_rounds : VerdictWhereCost
+pub verdict_where_thousands : VerdictWhereCost
 unfolding mysql_answer
-verdict_where_rounds password text = by_parts password (text_parts text)
+verdict_where_thousands password text = by_parts password (text_parts text)

@@ -19,19 +19,19 @@ use Rattle.mysql_sha2.specs.declared.error.MysqlFault.TheVariants.{SaltLength, S
 abbrev pub star : ℕ
 star = 42
 
--- the texts of the rounds, of a salt and of a hash
+-- the texts of the thousands of rounds, of a salt and of a hash
 pub record Fields : Type 0 where
-  pub rounds : List ℕ
+  pub thousands : List ℕ
   pub salt : List ℕ
   pub hash : List ℕ
 
 -- exactly these three
 abbrev pub split_fields : List (List ℕ) → Result Fields MysqlFault
 split_fields [] = Err NoSalt
-split_fields (rounds ∷ []) = Err NoSalt
-split_fields (rounds ∷ (salt ∷ [])) = Err NoHash
-split_fields (rounds ∷ (salt ∷ (hash ∷ more))) =
-    if is_empty more then Ok (record { rounds = rounds; salt = salt; hash = hash }) else Err Trailing
+split_fields (thousands ∷ []) = Err NoSalt
+split_fields (thousands ∷ (salt ∷ [])) = Err NoHash
+split_fields (thousands ∷ (salt ∷ (hash ∷ more))) =
+    if is_empty more then Ok (record { thousands = thousands; salt = salt; hash = hash }) else Err Trailing
 
 -- by what follows the front
 abbrev pub from_front : Option (List ℕ) → Result Fields MysqlFault
@@ -111,7 +111,7 @@ by_rounds (Some rounds) salt hash = by_salt rounds (salt_of salt) hash
 -- by the fields
 abbrev pub parts_of : Result Fields MysqlFault → Result Parts MysqlFault
 parts_of (Err e) = Err e
-parts_of (Ok f) = by_rounds (rounds_of f.rounds) f.salt f.hash
+parts_of (Ok f) = by_rounds (rounds_of f.thousands) f.salt f.hash
 
 -- the parts of a text, or its first fault
 unfoldable pub text_parts : List ℕ → Result Parts MysqlFault

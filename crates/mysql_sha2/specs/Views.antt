@@ -7,7 +7,7 @@ use Rattle.mysql_sha2.specs.declared.error.MysqlFault.{MysqlFault}
 
 -- the fields as lists
 abbrev pub fields_of : MysqlFields → Fields
-fields_of f = record { rounds = f.rounds.now; salt = f.salt.now; hash = f.hash.now }
+fields_of f = record { thousands = f.thousands.now; salt = f.salt.now; hash = f.hash.now }
 
 -- the same of an answer
 abbrev pub as_fields : Result MysqlFields MysqlFault → Result Fields MysqlFault

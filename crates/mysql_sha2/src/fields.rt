@@ -8,10 +8,10 @@ ghost use Rattle.mysql_sha2.specs.Views.{as_fields};
 use crate::MysqlFault;
 use pieces::{behind, first_piece, is_end};
 
-/// The texts of the rounds, of a salt and of a hash.
+/// The texts of the thousands, of a salt and of a hash.
 #[derive(Clone, Copy, Debug)]
 pub(crate) struct MysqlFields<'a> {
-    pub rounds: &'a str,
+    pub thousands: &'a str,
     pub salt: &'a str,
     pub hash: &'a str,
 }
@@ -20,7 +20,7 @@ pub(crate) struct MysqlFields<'a> {
 fn split_fields(text: &str) -> Result<MysqlFields<'_>, MysqlFault>
     ensures { as_fields result ≡ split_fields (pieces_at star text.now) }
 {
-    let (rounds, others) = first_piece(text, '*');
+    let (thousands, others) = first_piece(text, '*');
     let Some(text) = others else {
         return Err(MysqlFault::NoSalt);
     };
@@ -32,7 +32,11 @@ fn split_fields(text: &str) -> Result<MysqlFields<'_>, MysqlFault>
     if !is_end(more) {
         return Err(MysqlFault::Trailing);
     }
-    Ok(MysqlFields { rounds, salt, hash })
+    Ok(MysqlFields {
+        thousands,
+        salt,
+        hash,
+    })
 }
 
 /// The fields of a text, or the first fault of its form.

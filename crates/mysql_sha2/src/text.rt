@@ -92,7 +92,7 @@ pub(crate) fn text_parts(text: &str, counts: &mut Counts) -> Result<MysqlParts, 
         Ok(fields) => fields,
         Err(e) => return Err(e),
     };
-    let Some(rounds) = rounds_of(fields.rounds.as_bytes()) else {
+    let Some(rounds) = rounds_of(fields.thousands.as_bytes()) else {
         return Err(MysqlFault::Rounds);
     };
     let salt = match salt_of(fields.salt.as_bytes()) {
