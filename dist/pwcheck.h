@@ -118,7 +118,7 @@ enum pwcheck_answer {
     PWCHECK_OVER_COST = 30,         /* no verdict: the text is valid, and its cost is above the bound;
                                      * pwcheck_check_limited and pwcheck_check_any alone */
 
-    /* 31 to 54, from version 1.1 on: pwcheck_check_any alone */
+    /* 31 to 57, from version 1.1 on: pwcheck_check_any alone */
     PWCHECK_NO_SCHEME = 31,         /* no scheme has the identifier of the text */
     PWCHECK_MD5_FORMAT = 32,        /* the text of md5-crypt has a fault */
     PWCHECK_BCRYPT_OBSOLETE = 33,   /* $2$ or $2x$, which are obsolete */
@@ -143,7 +143,10 @@ enum pwcheck_answer {
     PWCHECK_PHPASS_FORMAT = 52,     /* the text $P$ or $H$ has another fault */
     PWCHECK_DIGEST_B64 = 53,        /* the salt of a text $smd5$, $ssha$, $ssha256$ or $ssha512$ is no Base64 with padding,
                                      * or the hash is that of no digest */
-    PWCHECK_DIGEST_FORMAT = 54      /* such a text has another fault */
+    PWCHECK_DIGEST_FORMAT = 54,     /* such a text has another fault */
+    PWCHECK_MYSQL_COST = 55,        /* the rounds of a text $mysql$ are none of 5,000 to 4,095,000, by three digits */
+    PWCHECK_MYSQL_B64 = 56,         /* the hash of a text $mysql$ is that of no digest */
+    PWCHECK_MYSQL_FORMAT = 57       /* the text $mysql$ has another fault */
 };
 
 /* What the other calls answer. */
