@@ -355,7 +355,7 @@ def compare_python(lib):
     need(pwcheck.same(b"abc", b"abc") and not pwcheck.same(b"abc", b"abd") and not pwcheck.same(b"abc", b"ab"), "same")
     for number in (-1, max(pwcheck.Answer) + 1, 1 << 30, 1 << 32, -1 << 31):
         refused(pwcheck.word, number)
-    need(len({pwcheck.word(answer) for answer in pwcheck.Answer}) == 49, "not the words of the header")
+    need(len({pwcheck.word(answer) for answer in pwcheck.Answer}) == 52, "not the words of the header")
     print("Python: scrypt, Base64 and SHA-crypt as its own library has them")
     compare_memory(pwcheck)
     print("Python: out of memory is answered")
