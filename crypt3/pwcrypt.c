@@ -107,8 +107,8 @@ char *crypt_ra(const char *phrase, const char *setting, void **data, int *size)
         *data = whole;
         *size = sizeof(struct crypt_data);
     }
-    struct crypt_data *whole = *data;
-    return write_text(phrase, setting, whole) ? whole->output : NULL;
+    /* The last call takes the place of this one, so that it has the whole stack. */
+    return crypt_rn(phrase, setting, *data, *size);
 }
 
 /* The new setting in `setting`, of which *length is told; or an answer other than 0, the number of errno. */
