@@ -72,6 +72,16 @@ def padded(data):
     return base64.b64encode(data).decode()
 
 
+# The characters of crypt(3) by their values.
+CRYPT = "./0123456789ABCDEFGHIJKLMNOPQRSTUVWXYZabcdefghijklmnopqrstuvwxyz"
+
+
+def in_aix(key):
+    """64 bytes as AIX writes them: three are a number of 24 bits, whose lowest six bits come first. No bit of the last byte is written."""
+    numbers = [int.from_bytes(key[place : place + 3], "big") for place in range(0, 63, 3)]
+    return "".join(CRYPT[number >> shift & 63] for number in numbers for shift in (0, 6, 12, 18)) + ".."
+
+
 def scrypt_key(ln, r, p, salt, length=64):
     return hashlib.scrypt(b"secret", salt=salt, n=2 ** ln, r=r, p=p, dklen=length, maxmem=2 ** 28)
 
@@ -79,8 +89,7 @@ def scrypt_key(ln, r, p, salt, length=64):
 def in_crypt(data):
     """RFC 4648's Base64 in the characters of crypt(3)."""
     plain = "ABCDEFGHIJKLMNOPQRSTUVWXYZabcdefghijklmnopqrstuvwxyz0123456789+/"
-    crypt = "./0123456789ABCDEFGHIJKLMNOPQRSTUVWXYZabcdefghijklmnopqrstuvwxyz"
-    return b64(data).translate(str.maketrans(plain, crypt))
+    return b64(data).translate(str.maketrans(plain, CRYPT))
 
 
 # Texts of `secret` in the spelling of a maker: the maker, the text, the scheme and the costs that a survey tells.
@@ -128,6 +137,17 @@ MAKERS = [
     ("mediawiki", f":pbkdf2:sha512:1000:64:{padded(b'saltsalt')}:{padded(pbkdf2('sha512', b'secret', 1000))}", "pbkdf2-sha512", "rounds=1000"),
     ("mediawiki", f":pbkdf2:sha256:1000:32:{padded(b'saltsalt')}:{padded(pbkdf2('sha256', b'secret', 1000))}", "pbkdf2-sha256", "rounds=1000"),
     ("grub", f"grub.pbkdf2.sha512.1000.{b'saltsalt'.hex().upper()}.{pbkdf2('sha512', b'secret', 1000).hex().upper()}", "pbkdf2-sha512", "rounds=1000"),
+    ("passlib", f"$pbkdf2$f=SHA256,w=1000,l=32${b64(b'saltsalt')}${b64(pbkdf2('sha256', b'secret', 1000))}", "pbkdf2-sha256", "rounds=1000"),
+    ("passlib", f"$pbkdf2$f=SHA512,w=1000,l=64${b64(b'saltsalt')}${b64(pbkdf2('sha512', b'secret', 1000))}", "pbkdf2-sha512", "rounds=1000"),
+    ("ldap", f"{{ssha512}}06$saltsalt${in_aix(pbkdf2('sha512', b'secret', 64))}", "pbkdf2-sha512", "rounds=64"),
+    ("jenkins", f"#jbcrypt:{BCRYPT}", "bcrypt", "cost=4"),
+    ("jenkins", f"$PBKDF2$HMACSHA512:1000:{b'saltsalt'.hex()}${pbkdf2('sha512', b'secret', 1000).hex()}", "pbkdf2-sha512", "rounds=1000"),
+    ("nextcloud", f"1|{BCRYPT}", "bcrypt", "cost=4"),
+    ("nextcloud", f"3|{ARGON2ID}", "argon2id", "m=8"),
+    ("home-assistant", padded(BCRYPT.encode()), "bcrypt", "cost=4"),
+    ("couchdb", f"-pbkdf2-sha256,{pbkdf2('sha256', b'secret', 1000).hex()},saltsalt,1000", "pbkdf2-sha256", "rounds=1000"),
+    ("couchdb", f"-pbkdf2-{SHA1_KEY.hex()},saltsalt,1000", "pbkdf2-sha1", "rounds=1000"),
+    ("grafana", f"{hashlib.pbkdf2_hmac('sha256', b'secret', b'saltsalt', 10000, 50).hex()}:saltsalt", "pbkdf2-sha256", "rounds=10000"),
     ("postgres", "SCRAM-SHA-256$4096:KKuwZV6QTiARVwYpYRdEYA==$mzeyc9wh1vO3fszeKs/ZRrWSBYkiSD6EsahtoLJMark=:ARZ3AEQM7sKRkXahGQ6nE9PZKKhYG/fuFpDLcFlPaO4=", "scram-sha-256", "rounds=4096"),
     ("dovecot", "{SCRAM-SHA-256}4096,eT2ALwn9J59lS3e95d5cLA==,j/FIwttGABb6lm2Kv4iqJL899KAtCC0OrWnpsjzb6Pg=,MTJUwcrMkj9kd8P1ZtdphHl8Zd/6MgTytFkP1bRsy94=", "scram-sha-256", "rounds=4096"),
 ]
@@ -259,7 +279,7 @@ class Tool:
 def scheme_of(text):
     """The scheme for which an option bounds a text."""
     name = text.split("$")[1]
-    return {"1": "md5", "apr1": "md5", "5": "sha", "6": "sha", "sha1": "sha", "7": "scrypt", "P": "2", "H": "2"}.get(name) or name[:6].rstrip("aby")
+    return {"1": "md5", "apr1": "md5", "5": "sha", "6": "sha", "sha1": "sha", "mysql": "sha", "7": "scrypt", "P": "2", "H": "2"}.get(name) or name[:6].rstrip("aby")
 
 
 def checks(tool):
