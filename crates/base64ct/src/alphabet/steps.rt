@@ -1,9 +1,8 @@
-//! The masked steps from a character to its value, on words of 16 bits, and those back, on bytes.
+//! The masked steps from a character to its value and back, on words of 16 bits.
 
-ghost use Rattle.std.specs.Prelude.{◌≡◌, [], ◌∷◌, ℕ};
-ghost use Rattle.std.specs.Int.{w8, w16, cast_unsigned};
-ghost use Rattle.base64ct.specs.Steps.{decode_step, in_range, at_one, past_value, past_sum};
-ghost use Rattle.base64ct.specs.ByteSteps.{byte_add, byte_sign, byte_sub, encode_bytes};
+ghost use Rattle.std.specs.Prelude.{◌≡◌, ◌%◌, [], ◌∷◌, ℕ};
+ghost use Rattle.std.specs.Int.{w16, cast_unsigned};
+ghost use Rattle.base64ct.specs.Steps.{decode_step, encode_from, in_range, at_one, past_value, past_sum, word_add};
 
 // What the step of a range adds for `c`: `c` and an offset where the range has it, and else 0.
 #[inline(always)]
@@ -25,34 +24,34 @@ pub(crate) fn one_step(c: u8, one: u8, value: i16) -> i16
     same >> 8 & value
 }
 
-// All ones where `bound` is below `number`, and else 0, for numbers of which neither is above the other by 128.
+// The sum that the steps from `value` to its character begin with.
 #[inline(always)]
-fn past(bound: u8, number: u8) -> u8
-    ensures { result ≡ byte_sign (byte_sub bound number) }
+pub(crate) fn first_sum(value: u8, base: u8) -> i16
+    ensures { cast_unsigned w16 result ≡ word_add value base }
 {
-    (bound.wrapping_sub(number).cast_signed() >> 7).cast_unsigned()
-}
-
-// The sum that the steps from `value` to its character begin with. It is a byte, as all that follow are.
-#[inline(always)]
-pub(crate) fn first_sum(value: u8, base: u8) -> u8
-    ensures { result ≡ byte_add value base }
-{
-    value.wrapping_add(base)
+    (value as i16).wrapping_add(base as i16)
 }
 
 // A sum, and `n` more where `bound` is below the value.
 #[inline(always)]
-pub(crate) fn add_past_value(sum: u8, value: u8, bound: u8, n: i8) -> u8
-    ensures { result ≡ encode_bytes sum value (past_value bound (cast_unsigned w8 n) ∷ []) }
+pub(crate) fn add_past_value(sum: i16, value: u8, bound: u8, n: i16) -> i16
+    ensures { cast_unsigned w16 result ≡ encode_from (cast_unsigned w16 sum) value (past_value bound (cast_unsigned w16 n) ∷ []) }
 {
-    sum.wrapping_add(past(bound, value) & n.cast_unsigned())
+    sum.wrapping_add((bound as i16).wrapping_sub(value as i16) >> 8 & n)
 }
 
 // A sum, and `n` more where `bound` is below the sum.
 #[inline(always)]
-pub(crate) fn add_past_sum(sum: u8, bound: u8, n: i8) -> u8
-    ensures { (v : ℕ) → result ≡ encode_bytes sum v (past_sum bound (cast_unsigned w8 n) ∷ []) }
+pub(crate) fn add_past_sum(sum: i16, bound: u8, n: i16) -> i16
+    ensures { (v : ℕ) → cast_unsigned w16 result ≡ encode_from (cast_unsigned w16 sum) v (past_sum bound (cast_unsigned w16 n) ∷ []) }
 {
-    sum.wrapping_add(past(bound, sum) & n.cast_unsigned())
+    sum.wrapping_add((bound as i16).wrapping_sub(sum) >> 8 & n)
+}
+
+// The low byte of a sum.
+#[inline(always)]
+pub(crate) fn low_byte(sum: i16) -> u8
+    ensures { result ≡ cast_unsigned w16 sum % 256 }
+{
+    (sum & 255) as u8
 }

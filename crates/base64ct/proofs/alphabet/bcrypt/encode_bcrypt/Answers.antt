@@ -1,13 +1,17 @@
 use Rattle.std.proofs.Common.{ℕ, refl, arith}
 use Rattle.base64ct.specs.Alphabets.{base64_bcrypt, base64_bcrypt_steps}
-use Rattle.base64ct.specs.ByteSteps.{base64_bcrypt_bytes_agree}
+use Rattle.base64ct.specs.StepsAgree.{base64_bcrypt_agrees}
 use Rattle.base64ct.proofs.StepLaws.{next_sum, last_sum}
 use Rattle.base64ct.proofs.alphabet.bcrypt.encode_bcrypt.Goals as goal
 
 pub returns : goal.returns
 returns c =
     let v : ℕ = c.args.value in let next = next_sum base64_bcrypt_steps v in
-    let first = next 0 c.first_sum-sum.result c.add_past_sum-sum.result c.first_sum-sum.ensures (c.add_past_sum-sum.ensures v) in
-    let second = next 1 c.add_past_sum-sum.result c.add_past_sum-sum-2.result first (c.add_past_sum-sum-2.ensures v) in
-    let third = next 2 c.add_past_sum-sum-2.result c.add_past_sum.result second (c.add_past_sum.ensures v) in
-    last_sum base64_bcrypt base64_bcrypt_steps v _ 3 base64_bcrypt_bytes_agree (omega arith) refl third
+    let first = next 0 c.first_sum-sum.result c.add_past_sum-sum.result c.first_sum-sum.ensures
+    c.first_sum-sum.type_inv (c.add_past_sum-sum.ensures v) in
+    let second = next 1 c.add_past_sum-sum.result c.add_past_sum-sum-2.result first
+    c.add_past_sum-sum.type_inv (c.add_past_sum-sum-2.ensures v) in
+    let third = next 2 c.add_past_sum-sum-2.result c.add_past_sum-sum-3.result second
+    c.add_past_sum-sum-2.type_inv (c.add_past_sum-sum-3.ensures v) in
+    last_sum base64_bcrypt base64_bcrypt_steps v _ 3 c.add_past_sum-sum-3.result refl base64_bcrypt_agrees (omega arith)
+    refl third c.add_past_sum-sum-3.type_inv c.low_byte.ensures
