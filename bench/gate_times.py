@@ -1,11 +1,11 @@
 #!/usr/bin/env python3
-"""Runs the gate's proofs and prints what they spend, crate by crate, as a table in Markdown.
+"""Runs the gate and prints what it spends, crate by crate, as a table in Markdown.
 
-The gate's proofs are `rt ci` and then checks/wrong_bodies.py, which tries the edits in sets. The provers that they start are sampled four times a second: which crate, and whether it proves the crate, the crate with its tests,
+The provers that `rt ci` starts are sampled four times a second: which crate, and whether it proves the crate, the crate with its tests,
 or an edit. The last line is the processor time of all that the gate started, as the kernel counts it, so what a sample misses is in it.
 
 usage: bench/gate_times.py [CPUS] [NAME..]
-       (CPUS as taskset has them, such as 0,1, or - for all; NAME as `rt ci` has them, and then no edits in sets are tried; the report goes to standard output, rt's to gate.log
+       (CPUS as taskset has them, such as 0,1, or - for all; NAME as `rt ci` has them; the report goes to standard output, rt's to gate.log
        in the folder of temporary files)
 
 For a gate from nothing the kit's store has to be empty: a mount over /opt/rattle-kept, as root, makes it so for one run.
@@ -37,8 +37,7 @@ def provers():
                 numbers = file.read().rsplit(")", 1)[1].split()
         except (OSError, IndexError):
             continue
-        is_edit = "/rt-edit-" in folder or any("/wrong-bodies-" in word for word in words)
-        kind = "edits" if is_edit else "tests" if "--test" in words else "proof"
+        kind = "edits" if "/rt-edit-" in folder else "tests" if "--test" in words else "proof"
         yield (pid, numbers[19]), (words[words.index("--crate-name") + 1], kind, (int(numbers[11]) + int(numbers[12])) / TICKS)
 
 
@@ -68,19 +67,13 @@ def printed(seconds, total, clock):
 
 def main():
     cpus, names = (sys.argv[1] if len(sys.argv) > 1 else "-"), sys.argv[2:]
-    chosen = [] if cpus == "-" else ["taskset", "-c", cpus]
-    steps = [["rt", "ci", *names]] + ([] if names else [["python3", os.path.join(TOP, "checks", "wrong_bodies.py")]])
-    begin, seconds, status = time.time(), collections.defaultdict(collections.Counter), 0
-    with open(os.path.join(tempfile.gettempdir(), "gate.log"), "wb") as log:
-        for step in steps:
-            with subprocess.Popen([*chosen, *step], cwd=TOP, stdout=log, stderr=log) as child:
-                for crate, by_kind in sampled(child).items():
-                    seconds[crate].update(by_kind)
-            status = status or child.returncode
-            print(f"{' '.join(step[:2])}: status {child.returncode} after {(time.time() - begin) / 60:.1f} minutes", file=sys.stderr, flush=True)
+    words = [*([] if cpus == "-" else ["taskset", "-c", cpus]), "rt", "ci", *names]
+    begin = time.time()
+    with open(os.path.join(tempfile.gettempdir(), "gate.log"), "wb") as log, subprocess.Popen(words, cwd=TOP, stdout=log, stderr=log) as child:
+        seconds = sampled(child)
     spent = resource.getrusage(resource.RUSAGE_CHILDREN)
     printed(seconds, spent.ru_utime + spent.ru_stime, time.time() - begin)
-    return status
+    return child.returncode
 
 
 if __name__ == "__main__":

@@ -1,18 +1,19 @@
 #!/usr/bin/env python3
-"""Tries the wrong bodies of crates that the prover has to refuse, several of one crate in one check. The gate calls this script after `rt ci`.
+"""Tries the wrong bodies of crates, which the prover has to refuse, several of one crate in one check.
 
-    checks/wrong_bodies.py [CHECKOUT] [NAME..]     (this checkout, and each crate that has such wrong bodies, if left out)
+    checks/wrong_bodies.py [CHECKOUT] [NAME..]     (this checkout, and each crate that has wrong bodies, if left out)
 
-A wrong body is a file crates/NAME/must-fail/in-sets/*.edit: lines `file:`, and then pairs of `old:` and `new:`. CHECKOUT is one in which
+A wrong body is a file crates/NAME/must-fail/*.edit: lines `file:`, and then pairs of `old:` and `new:`. CHECKOUT is one in which
 `rt ci` has proved the libraries (crates/*/out/rlib). First the crate is proved as it is. Then the edits of different functions are put
 into one copy of the crate, over what that check kept. An edit counts as refused where the prover says of a function that it turns that
 this function isn't proved for a reason of its own, and not only for what it calls. The others are tried again without those. Where no
 edit of a set is refused so, one is tried alone, and the crate has to be refused. The script ends with 1 where an edit is not refused,
-where its text is not there once, or where it doesn't compile. Its last line counts the edits.
+where its text is not there once, or where it doesn't compile.
 
-The edit of a crate that is right in must-fail/ is the one that tells most of what the crate is for. `rt ci` tries that one for itself.
+This is a quick look before the gate and no verdict: the verdict is `rt ci`, which tries each edit for itself, over a proof from nothing. But
+`rt ci` passes by an edit that doesn't compile, and this script doesn't.
 
-RT_JOBS is how many crates are tried at once, as for `rt ci`; all processors that the script may use if it isn't set.
+RT_JOBS is how many crates are tried at once, as for `rt ci`; all processors if it isn't set.
 """
 import collections
 import concurrent.futures
@@ -28,7 +29,7 @@ TOP = os.path.dirname(os.path.dirname(os.path.abspath(__file__)))
 sys.path.insert(0, os.path.join(TOP, "packaging"))
 from newer import STATIC, below, used  # noqa: E402
 
-FOLDER = os.path.join("must-fail", "in-sets")
+FOLDER = "must-fail"
 Edit = collections.namedtuple("Edit", "name changes")
 Change = collections.namedtuple("Change", "file old new")
 FUNCTION = re.compile(r"^( *)(?:pub(?:\([a-z]+\))? )?(?:final )?(?:unsafe )?(?:extern \"C\" )?fn (\w+)", re.M)
@@ -139,7 +140,7 @@ class Crate:
         """What the prover says of the crate with these edits."""
         with tempfile.TemporaryDirectory(dir=self.work) as place:
             copy, kept = os.path.join(place, self.name), os.path.join(place, "kept")
-            shutil.copytree(self.folder, copy, ignore=shutil.ignore_patterns("out", "must-fail"))
+            shutil.copytree(self.folder, copy, ignore=shutil.ignore_patterns("out", FOLDER))
             shutil.copytree(self.kept, kept, copy_function=linked)
             for edit in edits:
                 for change in edit.changes:
@@ -162,7 +163,8 @@ class Crate:
     def faults(self):
         """The edits that aren't refused, each with what is to be said."""
         begin = time.time()
-        edits = self.edits()
+        edits = sorted(os.listdir(os.path.join(self.folder, FOLDER)))
+        edits = [read_edit(os.path.join(self.folder, FOLDER, name)) for name in edits if name.endswith(".edit")]
         said = self.check(self.folder, self.kept)
         if "logic=proved" not in said:
             return [f"{self.name}: the crate itself isn't proved: {said.strip()[-200:]}"]
@@ -185,11 +187,6 @@ class Crate:
         print(f"{self.name}: {len(edits)} edits in {checks} checks{last}, {len(edits) - len(found)} refused, {time.time() - begin:.0f} s", flush=True)
         return found
 
-    def edits(self):
-        """The crate's edits that are tried in sets."""
-        folder = os.path.join(self.folder, FOLDER)
-        return [read_edit(os.path.join(folder, name)) for name in sorted(os.listdir(folder)) if name.endswith(".edit")]
-
 
 def main():
     words = sys.argv[1:]
@@ -197,18 +194,15 @@ def main():
     kit = os.path.dirname(subprocess.run(["rt", "doc"], capture_output=True, text=True, check=True).stdout.strip())
     names = words or sorted(name for name in os.listdir(os.path.join(top, "crates")) if os.path.isdir(os.path.join(top, "crates", name, FOLDER)))
     def faults(name):
-        with tempfile.TemporaryDirectory(prefix="wrong-bodies-") as work:
-            crate = Crate(top, kit, name, work)
-            return len(crate.edits()), crate.faults()
+        with tempfile.TemporaryDirectory() as work:
+            return Crate(top, kit, name, work).faults()
 
     # The crates with most wrong bodies first, so that none of them is left to the end.
     names.sort(key=lambda name: -len(os.listdir(os.path.join(top, "crates", name, FOLDER))))
-    with concurrent.futures.ThreadPoolExecutor(int(os.environ.get("RT_JOBS") or len(os.sched_getaffinity(0)))) as jobs:
-        results = list(jobs.map(faults, names))
-    found = [line for _, lines in results for line in lines]
+    with concurrent.futures.ThreadPoolExecutor(int(os.environ.get("RT_JOBS") or os.cpu_count())) as jobs:
+        found = [line for lines in jobs.map(faults, names) for line in lines]
     for line in found:
         print(line)
-    print(f"wrong_bodies.py: {sum(count for count, _ in results)} edits, {len(found)} not refused")
     sys.exit(1 if found else 0)
 
 
