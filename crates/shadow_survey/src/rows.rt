@@ -276,6 +276,7 @@ fn put_words<K: Sink>(judgement: &Judgement, out: &mut OutputBuffer, sink: &mut 
 }
 
 // Puts a judgement's scheme, costs and words with these marks.
+#[inline(always)]
 fn put_cells<K: Sink>(
     format: Format,
     marks: &Marks<'_>,
