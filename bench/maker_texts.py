@@ -1,5 +1,5 @@
 #!/usr/bin/env python3
-"""Asks `pwtool --from` about texts of eighteen makers: those of their own programs (corpus/maker_texts.tsv), and the same with damage.
+"""Asks `pwtool --from` about texts of nineteen makers: those of their own programs (corpus/maker_texts.tsv), and the same with damage.
 
 Each text that is read gets `match` for its password and `mismatch` for another by `check`, `match` by `join`, and its scheme by `survey`;
 each other one gets the word of its first fault as makers.py, a transcription in Python, has it. Then 1,000 damaged texts of each maker:
@@ -37,7 +37,7 @@ BOUNDS = ["--max-pbkdf2-rounds", "2000", "--max-scrypt-ln", "10", "--max-scrypt-
 
 # Identifiers that are read. passlib keeps others too, as `$scram$`: such a text is kept as it is, and has no scheme here.
 READ = {"1", "5", "6", "7", "2a", "2b", "2y", "bcrypt-sha256", "bcrypt-sha256-hex", "wp", "y", "scrypt", "argon2i", "argon2d", "argon2id", "pbkdf2-sha256",
-        "pbkdf2-sha512", "pbkdf2-sha1", "sha1", "scram-sha-256", "scram-sha-256-raw", "smd5", "ssha", "ssha256", "ssha512", "P", "H"}
+        "pbkdf2-sha512", "pbkdf2-sha1", "sha1", "scram-sha-256", "scram-sha-256-raw", "smd5", "ssha", "ssha256", "ssha512", "P", "H", "mysql"}
 
 
 def ask(words, lines):
@@ -77,13 +77,13 @@ def vectors(count, faults):
             with open(passwords, "wb") as file:
                 file.write(b"".join(user.encode() + b":" + password + b"\n" for user, (password, *_) in zip(users, told)))
             texts = [f"{user}:{text}".encode() for user, (_, text, *_) in zip(users, told)]
-            wanted = [f"{user}\t{'locked' if text[:1] in '!*' else answer}"
+            wanted = [f"{user}\t{'locked' if text[:1] in '!*' and maker != 'mysql' else answer}"
                       for user, (_, text, scheme, answer) in zip(users, told)]
             compare(maker, "join", texts, wanted, ask(["join", "--quiet", "--from", maker, "-", passwords], texts), count, faults)
         got = [row[1] for row in csv.reader(ask(["survey", "--quiet", "--csv", "--from", maker], texts))][1:]
         names = {"1": "md5-crypt", "5": "sha256-crypt", "6": "sha512-crypt", "2a": "bcrypt", "2b": "bcrypt", "2y": "bcrypt",
                  "bcrypt-sha256": "bcrypt-digest", "bcrypt-sha256-hex": "bcrypt-digest", "wp": "bcrypt-digest", "y": "yescrypt", "sha1": "sha1-crypt", "scram-sha-256-raw": "scram-sha-256",
-                 "P": "phpass", "H": "phpass", **dict.fromkeys(makers.DIGESTS, "salted-digest"), None: ""}
+                 "P": "phpass", "H": "phpass", "mysql": "mysql-sha2", **dict.fromkeys(makers.DIGESTS, "salted-digest"), None: ""}
         compare(maker, "survey", texts, [names.get(scheme, scheme) for _, _, scheme, _ in told], got, count, faults)
 
 

@@ -459,8 +459,21 @@ def grafana(text):
     return made
 
 
+def mysql(text):
+    digits = text[2:] if text.startswith("0x") else text
+    need(digits.startswith("244124"), "unsupported-sha1" if digits.startswith(("*", "2A", "2a")) else "unsupported-scheme")
+    # a character that isn't ASCII is as many as it has bytes
+    rest = digits[6:].encode().decode("latin-1")
+    need(len(rest) >= 48 and rest[6:8] == "24", "foreign-form")
+    need(re.fullmatch("(3[0-9]|4[1-6]){3}", rest[:6]), "foreign-rounds")
+    need(re.fullmatch("[0-9a-fA-F]{40}", rest[8:48]), "foreign-salt")
+    need(re.fullmatch("[0-9a-fA-F]*", rest[48:]), "foreign-hash")
+    need(len(rest) == 134, "foreign-hash-length")
+    return f"$mysql$A${bytes.fromhex(rest[:6]).decode()}*{rest[8:48].upper()}*{rest[48:].upper()}"
+
+
 MAKERS = {maker.__name__.replace("_", "-"): maker for maker in (django, werkzeug, passlib, ldap, elasticsearch, dovecot, spring, aspnet, cisco, mosquitto,
-                                                                mediawiki, grub, postgres, jenkins, nextcloud, home_assistant, couchdb, grafana)}
+                                                                mediawiki, grub, postgres, jenkins, nextcloud, home_assistant, couchdb, grafana, mysql)}
 OWN_DOLLAR = ("passlib", "cisco", "mosquitto", "jenkins")
 
 

@@ -1,8 +1,9 @@
 -- What a maker's text is read as is read as itself.
-use Rattle.std.proofs.Common.{◌≡◌, ◌⊎◌, ℕ, Bool, true, false, List, [], ◌∷◌, refl, ap, ◌∙◌, sym, inl, inr, Ok, Err, arith}
+use Rattle.std.proofs.Common.{◌≡◌, ◌⊎◌, ℕ, Bool, true, false, List, [], ◌∷◌, length, refl, ap, ◌∙◌, sym, inl, inr, Ok, Err, arith}
 use Rattle.std.proofs.lemmas.Bool.{and_parts}
 use Rattle.std.proofs.lemmas.Bool.Decides.{nat_tests}
-use Rattle.std.specs.Prelude.{codes, take, nat_eq, ◌&&◌, Option, Some, None, Result, if◌then◌else◌}
+use Rattle.std.specs.Prelude.{codes, take, drop, nat_eq, nat_le, ◌==◌, ◌&&◌, Option, Some, None, Result, if◌then◌else◌}
+use Rattle.std.specs.Char.{is_ascii_hexdigit}
 use Rattle.std.specs.List.{list_all}
 use Rattle.std.specs.Cmp.Lexicographic.{pointwise}
 use Rattle.base64ct.specs.Alphabets.{base64}
@@ -24,6 +25,7 @@ use Rattle.application_texts.specs.Grafana.{grafana, grafana_fields}
 use Rattle.application_texts.specs.HomeAssistant.{home_assistant, home_assistant_bytes, is_bcrypt_text, is_text_byte}
 use Rattle.application_texts.specs.Jenkins.{jenkins, jenkins_fields, jenkins_halves, jenkins_pbkdf2}
 use Rattle.application_texts.specs.Makers.{of_application, read_by}
+use Rattle.application_texts.specs.MySql.{has_salt, is_thousands, mysql, mysql_bytes, mysql_digits, mysql_hash, mysql_parts, mysql_rounds, mysql_salt, mysql_text}
 use Rattle.application_texts.specs.Nextcloud.{nextcloud}
 use Rattle.application_texts.specs.declared.makers.Application.{Application}
 use Rattle.application_texts.specs.declared.makers.Application.TheVariants as application
@@ -88,6 +90,41 @@ module _ (text stored : List ℕ) where
       (λ k s i. with_kdf_made (Ok (Pbkdf2 Sha256 10000)) (Some s) (small_hex k) stored
       (sized_made (is_size (Some 50) (small_hex k)) (with_kdf (Ok (Pbkdf2 Sha256 10000)) (Some s) (small_hex k)) i)) h)
 
+  -- the text of MySQL begins with `$`
+  mysql_text_first : (t s k : List ℕ) → given (mysql_text t s k) ≡ Ok stored → First stored
+  unfolding mysql_text
+  mysql_text_first t s k h = held (mysql_text t s k) stored refl h
+
+  mysql_hash_first : (t s k : List ℕ) → mysql_hash t s k ≡ Ok stored → First stored
+  mysql_hash_first t s k =
+      by_test (list_all is_ascii_hexdigit k) _ _ stored
+      (λ i. by_test (length k == 86) _ _ stored (λ j. mysql_text_first t s k) (λ h. no_ok _ stored h))
+      (λ h. no_ok _ stored h)
+
+  mysql_salt_first : (t s k : List ℕ) → mysql_salt t s k ≡ Ok stored → First stored
+  mysql_salt_first t s k = by_test (list_all is_ascii_hexdigit s) _ _ stored (λ i. mysql_hash_first t s k) (λ h. no_ok _ stored h)
+
+  mysql_rounds_first : (t : Option (List ℕ)) (s k : List ℕ) → mysql_rounds t s k ≡ Ok stored → First stored
+  mysql_rounds_first None s k h = no_ok _ stored h
+  mysql_rounds_first (Some t) s k h = by_test (is_thousands t) _ _ stored (λ i. mysql_salt_first t s k) (λ h. no_ok _ stored h) h
+
+  mysql_parts_first : (t others : List ℕ) → mysql_parts t others ≡ Ok stored → First stored
+  mysql_parts_first t others =
+      by_test (has_salt others) _ _ stored
+      (λ i. mysql_rounds_first (small_hex t) (take 40 (drop 2 others)) (drop 40 (drop 2 others))) (λ h. no_ok _ stored h)
+
+  mysql_digits_first : (rest : List ℕ) → mysql_digits rest ≡ Ok stored → First stored
+  mysql_digits_first rest =
+      by_test (nat_le 6 (length rest)) _ _ stored (λ i. mysql_parts_first (take 6 rest) (drop 6 rest)) (λ h. no_ok _ stored h)
+
+  mysql_bytes_first : (digits : List ℕ) → mysql_bytes digits ≡ Ok stored → First stored
+  mysql_bytes_first digits =
+      by_front mysql_digits (behind digits (codes "244124")) _ stored mysql_digits_first (λ h. no_ok _ stored h)
+
+  mysql_first : mysql text ≡ Ok stored → First stored
+  unfolding mysql
+  mysql_first = by_front mysql_bytes (behind text (codes "0x")) _ stored mysql_bytes_first (mysql_bytes_first text)
+
 -- ---- Jenkins: bcrypt's text is there, a text stays, or one is made
 
 same_number : (a b : ℕ) → nat_eq a b ≡ true → b ≡ a
@@ -149,6 +186,7 @@ of_applications application.Nextcloud text stored h = foreign.plain_again nextcl
 of_applications application.HomeAssistant text stored h = foreign.plain_again home_assistant home_assistant_first text stored h
 of_applications application.CouchDb text stored h = foreign.plain_again couchdb couchdb_first text stored h
 of_applications application.Grafana text stored h = foreign.plain_again grafana grafana_first text stored h
+of_applications application.MySql text stored h = foreign.plain_again mysql mysql_first text stored h
 
 pub themselves : (m : Maker) (text stored : List ℕ) → read_by m text ≡ Ok stored → read_by m stored ≡ Ok stored
 themselves (maker.Foreign f) text stored h = foreign.itself f text stored h

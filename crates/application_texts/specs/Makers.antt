@@ -7,6 +7,7 @@ use Rattle.application_texts.specs.CouchDb.{couchdb}
 use Rattle.application_texts.specs.Grafana.{grafana}
 use Rattle.application_texts.specs.HomeAssistant.{home_assistant}
 use Rattle.application_texts.specs.Jenkins.{jenkins}
+use Rattle.application_texts.specs.MySql.{mysql}
 use Rattle.application_texts.specs.Nextcloud.{nextcloud}
 use Rattle.application_texts.specs.declared.makers.Application.{Application}
 use Rattle.application_texts.specs.declared.makers.Application.TheVariants as application
@@ -20,6 +21,7 @@ by_application application.Nextcloud = nextcloud
 by_application application.HomeAssistant = home_assistant
 by_application application.CouchDb = couchdb
 by_application application.Grafana = grafana
+by_application application.MySql = mysql
 
 -- an application's own texts begin with `$`
 abbrev pub has_own_dollar : Application → Bool
@@ -28,6 +30,7 @@ has_own_dollar application.Nextcloud = false
 has_own_dollar application.HomeAssistant = false
 has_own_dollar application.CouchDb = false
 has_own_dollar application.Grafana = false
+has_own_dollar application.MySql = false
 
 -- an application's own texts have colons
 abbrev pub application_has_colons : Application → Bool
@@ -36,6 +39,7 @@ application_has_colons application.Nextcloud = false
 application_has_colons application.HomeAssistant = false
 application_has_colons application.CouchDb = false
 application_has_colons application.Grafana = true
+application_has_colons application.MySql = false
 
 -- a text of an application; one that begins with `$` is a stored text already, but where the application has such texts of its own
 unfoldable pub of_application : Application → List ℕ → Answer
@@ -50,13 +54,14 @@ abbrev pub has_colons : makers.Maker → Bool
 has_colons (maker.Foreign f) = foreign.has_colons f
 has_colons (maker.Application a) = application_has_colons a
 
--- of CouchDB's file a text that isn't hashed yet is the password itself
+-- of CouchDB's file a text that isn't hashed yet is the password itself; MySQL's older digests begin with `*`
 abbrev pub is_clear_of : Application → Bool
 is_clear_of application.Jenkins = false
 is_clear_of application.Nextcloud = false
 is_clear_of application.HomeAssistant = false
 is_clear_of application.CouchDb = true
 is_clear_of application.Grafana = false
+is_clear_of application.MySql = true
 
 abbrev pub has_clear_texts : makers.Maker → Bool
 has_clear_texts (maker.Foreign f) = foreign.has_clear_texts f

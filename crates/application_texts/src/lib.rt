@@ -10,6 +10,7 @@ mod home_assistant;
 mod jenkins;
 pub mod laws;
 mod makers;
+mod mysql;
 mod nextcloud;
 
 pub use makers::{Application, Maker, maker_text};

@@ -9,6 +9,7 @@ use crate::couchdb::couchdb;
 use crate::grafana::grafana;
 use crate::home_assistant::home_assistant;
 use crate::jenkins::jenkins;
+use crate::mysql::mysql;
 use crate::nextcloud::nextcloud;
 use foreign_text::{Foreign, ForeignFault, MadeText, stored_text};
 use pieces::begins_with;
@@ -26,6 +27,8 @@ pub enum Application {
     CouchDb,
     /// Grafana: `KEY:SALT`.
     Grafana,
+    /// MySQL: the bytes of caching_sha2_password's `$A$005$` with salt and hash in hexadecimal digits, with or without `0x` before them.
+    MySql,
 }
 
 impl Application {
@@ -49,12 +52,12 @@ impl Application {
         }
     }
 
-    // Whether a text of the application may be the password itself.
+    // Whether a text of the application may be the password itself, or an older digest of MySQL's, which begins with `*`.
     fn is_clear(self) -> bool
         ensures { result ≡ is_clear_of self }
     {
         match self {
-            Application::CouchDb => true,
+            Application::CouchDb | Application::MySql => true,
             _ => false,
         }
     }
@@ -80,7 +83,8 @@ impl Maker {
         }
     }
 
-    /// Whether a text of the maker may be the password itself, so that none which begins with `*` or `!` is of a locked account.
+    /// Whether a text of the maker may be the password itself, or a digest that begins with `*`: then none which begins with `*` or `!` is of
+    /// a locked account.
     pub fn has_clear_texts(self) -> bool
         ensures clear { result ≡ has_clear_texts self }
     {
@@ -105,6 +109,7 @@ fn by_application<'a>(
         Application::HomeAssistant => home_assistant(text, made),
         Application::CouchDb => couchdb(text, made),
         Application::Grafana => grafana(text, made),
+        Application::MySql => mysql(text, made),
     }
 }
 

@@ -27,6 +27,7 @@ pub const MAKERS: &[&str] = &[
     "home-assistant",
     "couchdb",
     "grafana",
+    "mysql",
 ];
 
 // The maker of `foreign_text` that has a name.
@@ -62,6 +63,7 @@ fn application_named(name: &str) -> Option<Application>
         "home-assistant" => Some(Application::HomeAssistant),
         "couchdb" => Some(Application::CouchDb),
         "grafana" => Some(Application::Grafana),
+        "mysql" => Some(Application::MySql),
         _ => None,
     }
 }

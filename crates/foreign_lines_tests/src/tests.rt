@@ -209,7 +209,7 @@ fn users_read_first(rt: HostRuntime) -> Result<(), Fail> {
 }
 
 // A user's text goes on to the end of the line where the maker's texts have colons. The keys are hashlib's.
-const WITH_COLONS: [(Maker, &[u8], &[u8]); 8] = [
+const WITH_COLONS: [(Maker, &[u8], &[u8]); 9] = [
     (
         Maker::Foreign(Foreign::Werkzeug),
         b"ann:pbkdf2:sha256:7$saltsalt$fdd683fab6b91733300fb18384a4ceff79246d4f1aaa54fd81b44ff5eedb1ed7\nbob:pbkdf2:sha256:7$saltsalt$fdd683fab6b91733300fb18384a4ceff79246d4f1aaa54fd81b44ff5eedb1ed7\n",
@@ -250,6 +250,11 @@ const WITH_COLONS: [(Maker, &[u8], &[u8]); 8] = [
         Maker::Application(Application::Grafana),
         b"ann:00:x\nbob:00\n",
         b"ann\tforeign-salt-length\nbob\tforeign-form\n",
+    ),
+    (
+        Maker::Application(Application::MySql),
+        b"ann:*2470C0C06DEE42FD1618BB99005ADCA2EC9D1E19\nbob:244124:x\n",
+        b"ann\tunsupported-sha1\nbob\tforeign-form\n",
     ),
 ];
 

@@ -25,6 +25,7 @@ const LINE_MAKERS: &[&str] = &[
     "home-assistant",
     "couchdb",
     "grafana",
+    "mysql",
 ];
 
 /// A form without its words: its name, what it does, and what is after the options in its help.
