@@ -15,6 +15,7 @@ import json
 import os
 import re
 import resource
+import shutil
 import subprocess
 import sys
 import tempfile
@@ -486,6 +487,23 @@ KINDS = {"md5": "md5-crypt\t-\tweak: md5-crypt", "sha2": "-\t-\tunsupported: sha
          "form": "-\t-\tunsupported: foreign text with a fault"}
 
 
+def realms(tool):
+    """A realm's export of Keycloak, as examples/keycloak.jq writes it. The keys are hashlib's and those of the program argon2."""
+    if not shutil.which("jq"):
+        print("pwtool_cases.py: jq isn't here, so examples/keycloak.jq isn't run")
+        return
+    words = ["jq", "-r", "-f", os.path.join(TOP, "examples/keycloak.jq"), os.path.join(TOP, "examples/keycloak-realm.json")]
+    lines = subprocess.run(words, capture_output=True, check=True).stdout
+    texts = tool.file("texts", lines)
+    passwords = tool.file("passwords", "".join(f"{user}:secret-{user}\n" for user in ("alice", "bob", "carol", "dora")))
+    others = tool.file("others", "alice:secret-bob\nbob:secret-alice\ncarol:secret\ndora:secret-dora\n")
+    tool.case(["join", texts, passwords], "", "alice\tmatch\nbob\tmatch\ncarol\tmatch\ndora\tmatch\n", 0)
+    tool.case(["join", texts, others], "", "alice\tmismatch\nbob\tmismatch\ncarol\tmismatch\ndora\tmatch\n", 1)
+    rows = ("alice\tpbkdf2-sha256\trounds=27500\tweak: 27500 rounds\nbob\tpbkdf2-sha512\trounds=30000\tweak: 30000 rounds\n"
+            "carol\tpbkdf2-sha1\trounds=20000\tweak: pbkdf2-sha1\ndora\targon2id\tm=7168,t=5,p=1\tok\n\n")
+    tool.case(["survey", texts], "", lambda got: got.startswith(rows), 1)
+
+
 def directories(tool):
     """A dump of a directory, and what LDAP calls a locked account."""
     for dump, rows in DUMPS:
@@ -805,7 +823,7 @@ def main():
     begin = time.time()
     with tempfile.TemporaryDirectory() as folder:
         tool = Tool(os.path.abspath(program), folder)
-        for part in (checks, joins, surveys, brought, directories, statuses, makes, streams, tables, told, progresses, faults):
+        for part in (checks, joins, surveys, brought, directories, realms, statuses, makes, streams, tables, told, progresses, faults):
             part(tool)
     print("\n".join(f"pwtool_cases.py: {fault}" for fault in tool.faults) or f"pwtool_cases.py: {tool.count} cases, {time.time() - begin:.0f} s")
     return 1 if tool.faults else 0

@@ -54,6 +54,7 @@ fi
 checks/c_faces.sh "$made"
 python3 checks/abi.py "$made" changed
 checks/release_try.sh "$made"
+command -v jq >/dev/null 2>&1 || apt-get install -y jq >/dev/null 2>&1 || true
 python3 checks/pwtool_cases.py "$tried/pwtool"
 python3 checks/blocks.py "$tried"
 python3 checks/man_examples.py "$tried"
