@@ -1,5 +1,5 @@
 #!/usr/bin/env python3
-"""Asks `pwtool --from` about texts of nineteen makers: those of their own programs (corpus/maker_texts.tsv), and the same with damage.
+"""Asks `pwtool --from` about texts of twenty makers: those of their own programs (corpus/maker_texts.tsv), and the same with damage.
 
 Each text that is read gets `match` for its password and `mismatch` for another by `check`, `match` by `join`, and its scheme by `survey`;
 each other one gets the word of its first fault as makers.py, a transcription in Python, has it. Then 1,000 damaged texts of each maker:

@@ -472,8 +472,38 @@ def mysql(text):
     return f"$mysql$A${bytes.fromhex(rest[:6]).decode()}*{rest[8:48].upper()}*{rest[48:].upper()}"
 
 
+def raw_or_small(field):
+    return field.encode() if len(field.encode()) == 10 else small(field)
+
+
+def gitea(text):
+    front, size = None, "50"
+    for name, rounds in (("pbkdf2", 10000), ("pbkdf2_v1", 10000), ("pbkdf2_v2", 50000), ("pbkdf2_hi", 320000)):
+        if (rest := after(text, f"{name}:")) is not None:
+            (key, salt), front = cut(rest, ":", 2), f"pbkdf2-sha256$i={rounds}"
+    if (rest := after(text, "scrypt:")) is not None:
+        (key, salt), front = cut(rest, ":", 2), "scrypt$ln=16,r=16,p=2"
+    if (rest := after(text, "pbkdf2$")) is not None:
+        numbers, key, salt = cut(rest, ":", 3)
+        rounds, size = cut(numbers, "$", 2)
+        front = pbkdf2("sha256", rounds)
+    if (rest := after(text, "scrypt$")) is not None:
+        numbers, key, salt = cut(rest, ":", 3)
+        n, r, p, size = cut(numbers, "$", 4)
+        front = scrypt(n, r, p)
+    if (rest := after(text, "bcrypt:")) is not None:
+        return as_it_is(cut(rest, ":", 2)[0], "$2")
+    if (rest := after(text, "bcrypt$")) is not None:
+        return as_it_is(cut(rest, ":", 3)[1], "$2")
+    need(front, "unsupported-scheme")
+    made = record(front, salt, raw_or_small, key, small)
+    need(number(size, "foreign-hash-length") == len(small(key)), "foreign-hash-length")
+    return made
+
+
 MAKERS = {maker.__name__.replace("_", "-"): maker for maker in (django, werkzeug, passlib, ldap, elasticsearch, dovecot, spring, aspnet, cisco, mosquitto,
-                                                                mediawiki, grub, postgres, jenkins, nextcloud, home_assistant, couchdb, grafana, mysql)}
+                                                                mediawiki, grub, postgres, jenkins, nextcloud, home_assistant, couchdb, grafana, mysql,
+                                                                gitea)}
 OWN_DOLLAR = ("passlib", "cisco", "mosquitto", "jenkins")
 
 

@@ -151,6 +151,9 @@ MAKERS = [
     ("grafana", f"{hashlib.pbkdf2_hmac('sha256', b'secret', b'saltsalt', 10000, 50).hex()}:saltsalt", "pbkdf2-sha256", "rounds=10000"),
     ("mysql", "24412430303524303132333435363738396162636465666768696A447A785739547671597A576C75492E633054454B476976315746327A7074567363696743326450654B5032", "mysql-sha2", "rounds=5000"),
     ("mysql", "0x24412430303524303132333435363738396162636465666768696a447a785739547671597a576c75492e633054454b476976315746327a7074567363696743326450654b5032", "mysql-sha2", "rounds=5000"),
+    ("gitea", f"pbkdf2:{hashlib.pbkdf2_hmac('sha256', b'secret', b'saltsaltsa', 10000, 50).hex()}:saltsaltsa", "pbkdf2-sha256", "rounds=10000"),
+    ("gitea", f"pbkdf2$1000$32:{pbkdf2('sha256', b'secret', 1000).hex()}:{b'saltsalt'.hex()}", "pbkdf2-sha256", "rounds=1000"),
+    ("gitea", f"bcrypt:{BCRYPT}:saltsaltsa", "bcrypt", "cost=4"),
     ("postgres", "SCRAM-SHA-256$4096:KKuwZV6QTiARVwYpYRdEYA==$mzeyc9wh1vO3fszeKs/ZRrWSBYkiSD6EsahtoLJMark=:ARZ3AEQM7sKRkXahGQ6nE9PZKKhYG/fuFpDLcFlPaO4=", "scram-sha-256", "rounds=4096"),
     ("dovecot", "{SCRAM-SHA-256}4096,eT2ALwn9J59lS3e95d5cLA==,j/FIwttGABb6lm2Kv4iqJL899KAtCC0OrWnpsjzb6Pg=,MTJUwcrMkj9kd8P1ZtdphHl8Zd/6MgTytFkP1bRsy94=", "scram-sha-256", "rounds=4096"),
 ]
@@ -169,6 +172,7 @@ REFUSED = [
     ("mediawiki", f":pbkdf2:sha512:1:64:{padded(b'saltsalt')}:{padded(bytes(32))}", "foreign-hash-length"),
     ("grub", "grub.pbkdf2.sha512.1." + "00" * 64 + ".00", "foreign-salt-length"),
     ("mysql", "*14E65567ABDB5135D0CFD9A70B3032C179A49EE7", "unsupported-sha1"), ("mysql", "244124303035", "foreign-form"),
+    ("gitea", "argon2$2$65536$8$50:00:saltsaltsa", "unsupported-scheme"), ("gitea", "pbkdf2:00:saltsaltsa", "foreign-hash-length"),
 ]
 
 ARGON2ID_16 = "$argon2id$v=19$m=16,t=2,p=2$c2FsdHNhbHQ$cYIhcX/yw9+Fe/LRiNi1ZfO+iCwlvV9r7DJCySU9t5M"

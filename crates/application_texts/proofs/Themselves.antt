@@ -10,7 +10,7 @@ use Rattle.base64ct.specs.Alphabets.{base64}
 use Rattle.phc.specs.Record.{record_text}
 use Rattle.pieces.specs.Pieces.{begins, behind, pieces_at}
 use Rattle.foreign_text.specs.Answers.{Answer, as_it_is}
-use Rattle.foreign_text.specs.Fields.{Two, field_bytes, in_two, pbkdf2_cost, small_hex, three_of, two_of}
+use Rattle.foreign_text.specs.Fields.{Four, Three, Two, field_bytes, four_of, in_four, in_three, in_two, number_of, pbkdf2_cost, scrypt_cost, small_hex, three_of, two_of}
 use Rattle.foreign_text.specs.Records.{if_sized, is_size, made_text, with_kdf}
 use Rattle.foreign_text.specs.declared.fault.ForeignFault.{ForeignFault}
 use Rattle.foreign_text.specs.declared.fault.ForeignFault.TheVariants.{Form}
@@ -21,6 +21,8 @@ use Rattle.foreign_text.specs.declared.kdf.Pbkdf2Hash.TheVariants.{Sha1, Sha256,
 use Rattle.foreign_text.proofs.Itself as foreign
 use Rattle.foreign_text.proofs.Made.{First, IsMade, by_front, by_test, given, held, made_first, no_ok, same_ok, signed, stays, three_made, with_kdf_made}
 use Rattle.application_texts.specs.CouchDb.{couchdb, couchdb_fields, couchdb_pbkdf2, has_other_hash}
+use Rattle.application_texts.specs.Gitea.{bcrypt_cost, bcrypt_plain, bcrypt_three, bcrypt_two, gitea, gitea_bcrypt, gitea_made, gitea_others, gitea_pbkdf2}
+use Rattle.application_texts.specs.Gitea.{gitea_plain, gitea_salt, gitea_scrypt, pbkdf2_fields, pbkdf2_numbers, scrypt_fields, scrypt_numbers}
 use Rattle.application_texts.specs.Grafana.{grafana, grafana_fields}
 use Rattle.application_texts.specs.HomeAssistant.{home_assistant, home_assistant_bytes, is_bcrypt_text, is_text_byte}
 use Rattle.application_texts.specs.Jenkins.{jenkins, jenkins_fields, jenkins_halves, jenkins_pbkdf2}
@@ -37,6 +39,12 @@ two_made : (read : List ℕ → List ℕ → Answer) (f : Result Two ForeignFaul
     → ((a b : List ℕ) → read a b ≡ Ok stored → IsMade stored) → in_two read f ≡ Ok stored → IsMade stored
 two_made read (Err e) stored made h = no_ok _ stored h
 two_made read (Ok f) stored made h = made f.first f.second h
+
+-- the same of four
+four_made : (read : List ℕ → List ℕ → List ℕ → List ℕ → Answer) (f : Result Four ForeignFault) (stored : List ℕ)
+    → ((a b c d : List ℕ) → read a b c d ≡ Ok stored → IsMade stored) → in_four read f ≡ Ok stored → IsMade stored
+four_made read (Err e) stored made h = no_ok _ stored h
+four_made read (Ok f) stored made h = made f.first f.others.first f.others.second f.others.third h
 
 -- ---- applications whose own texts don't begin with `$`
 
@@ -125,6 +133,60 @@ module _ (text stored : List ℕ) where
   unfolding mysql
   mysql_first = by_front mysql_bytes (behind text (codes "0x")) _ stored mysql_bytes_first (mysql_bytes_first text)
 
+  -- Gitea: a record is made, or bcrypt's text is there
+  gitea_is_made : (kdf : Result Kdf ForeignFault) (size : Option ℕ) (k s : List ℕ) → gitea_made kdf size k s ≡ Ok stored → IsMade stored
+  gitea_is_made kdf size k s h =
+      with_kdf_made kdf (gitea_salt s) (small_hex k) stored
+      (sized_made (is_size size (small_hex k)) (with_kdf kdf (gitea_salt s) (small_hex k)) h)
+
+  plain_first : (kdf : Kdf) (rest : List ℕ) → gitea_plain kdf rest ≡ Ok stored → First stored
+  plain_first kdf rest h =
+      made_first stored (two_made (gitea_made (Ok kdf) (Some 50)) (two_of (pieces_at 58 rest)) stored
+      (λ k s. gitea_is_made (Ok kdf) (Some 50) k s) h)
+
+  gitea_pbkdf2_first : (rest : List ℕ) → gitea_pbkdf2 rest ≡ Ok stored → First stored
+  gitea_pbkdf2_first rest h =
+      made_first stored (three_made pbkdf2_fields (three_of (pieces_at 58 rest)) stored
+      (λ c k s. two_made (pbkdf2_numbers k s) (two_of (pieces_at 36 c)) stored
+      (λ r n. gitea_is_made (pbkdf2_cost Sha256 r) (number_of n) k s)) h)
+
+  gitea_scrypt_first : (rest : List ℕ) → gitea_scrypt rest ≡ Ok stored → First stored
+  gitea_scrypt_first rest h =
+      made_first stored (three_made scrypt_fields (three_of (pieces_at 58 rest)) stored
+      (λ c k s. four_made (scrypt_numbers k s) (four_of (pieces_at 36 c)) stored
+      (λ n r p l. gitea_is_made (scrypt_cost n r p) (number_of l) k s)) h)
+
+  bcrypt_two_first : (f : Result Two ForeignFault) → in_two bcrypt_two f ≡ Ok stored → First stored
+  bcrypt_two_first (Err e) h = no_ok _ stored h
+  bcrypt_two_first (Ok f) h = signed (codes "2") f.first stored Form h
+
+  bcrypt_three_first : (f : Result Three ForeignFault) → in_three bcrypt_three f ≡ Ok stored → First stored
+  bcrypt_three_first (Err e) h = no_ok _ stored h
+  bcrypt_three_first (Ok f) h = signed (codes "2") f.second stored Form h
+
+  gitea_bcrypt_first : gitea_bcrypt text ≡ Ok stored → First stored
+  unfolding gitea_bcrypt
+  gitea_bcrypt_first =
+      by_front bcrypt_plain (behind text (codes "bcrypt:")) _ stored (λ rest. bcrypt_two_first (two_of (pieces_at 58 rest)))
+      (by_front bcrypt_cost (behind text (codes "bcrypt$")) _ stored (λ rest. bcrypt_three_first (three_of (pieces_at 58 rest)))
+      (λ h. no_ok _ stored h))
+
+  gitea_others_first : gitea_others text ≡ Ok stored → First stored
+  unfolding gitea_others
+  gitea_others_first =
+      by_front gitea_pbkdf2 (behind text (codes "pbkdf2$")) _ stored gitea_pbkdf2_first
+      (by_front gitea_scrypt (behind text (codes "scrypt$")) _ stored gitea_scrypt_first
+      (by_front (gitea_plain (Scrypt 16 16 2)) (behind text (codes "scrypt:")) _ stored (plain_first (Scrypt 16 16 2)) gitea_bcrypt_first))
+
+  gitea_first : gitea text ≡ Ok stored → First stored
+  unfolding gitea
+  gitea_first =
+      by_front (gitea_plain (Pbkdf2 Sha256 10000)) (behind text (codes "pbkdf2:")) _ stored (plain_first (Pbkdf2 Sha256 10000))
+      (by_front (gitea_plain (Pbkdf2 Sha256 10000)) (behind text (codes "pbkdf2_v1:")) _ stored (plain_first (Pbkdf2 Sha256 10000))
+      (by_front (gitea_plain (Pbkdf2 Sha256 50000)) (behind text (codes "pbkdf2_v2:")) _ stored (plain_first (Pbkdf2 Sha256 50000))
+      (by_front (gitea_plain (Pbkdf2 Sha256 320000)) (behind text (codes "pbkdf2_hi:")) _ stored (plain_first (Pbkdf2 Sha256 320000))
+      gitea_others_first)))
+
 -- ---- Jenkins: bcrypt's text is there, a text stays, or one is made
 
 same_number : (a b : ℕ) → nat_eq a b ≡ true → b ≡ a
@@ -187,6 +249,7 @@ of_applications application.HomeAssistant text stored h = foreign.plain_again ho
 of_applications application.CouchDb text stored h = foreign.plain_again couchdb couchdb_first text stored h
 of_applications application.Grafana text stored h = foreign.plain_again grafana grafana_first text stored h
 of_applications application.MySql text stored h = foreign.plain_again mysql mysql_first text stored h
+of_applications application.Gitea text stored h = foreign.plain_again gitea gitea_first text stored h
 
 pub themselves : (m : Maker) (text stored : List ℕ) → read_by m text ≡ Ok stored → read_by m stored ≡ Ok stored
 themselves (maker.Foreign f) text stored h = foreign.itself f text stored h

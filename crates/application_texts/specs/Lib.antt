@@ -4,5 +4,6 @@ pub mod HomeAssistant
 pub mod CouchDb
 pub mod Grafana
 pub mod MySql
+pub mod Gitea
 pub mod Makers
 pub mod Laws

@@ -4,6 +4,7 @@ use Rattle.pieces.specs.Pieces.{begins}
 use Rattle.foreign_text.specs.Answers.{Answer}
 use Rattle.foreign_text.specs.Converted as foreign
 use Rattle.application_texts.specs.CouchDb.{couchdb}
+use Rattle.application_texts.specs.Gitea.{gitea}
 use Rattle.application_texts.specs.Grafana.{grafana}
 use Rattle.application_texts.specs.HomeAssistant.{home_assistant}
 use Rattle.application_texts.specs.Jenkins.{jenkins}
@@ -22,6 +23,7 @@ by_application application.HomeAssistant = home_assistant
 by_application application.CouchDb = couchdb
 by_application application.Grafana = grafana
 by_application application.MySql = mysql
+by_application application.Gitea = gitea
 
 -- an application's own texts begin with `$`
 abbrev pub has_own_dollar : Application → Bool
@@ -31,6 +33,7 @@ has_own_dollar application.HomeAssistant = false
 has_own_dollar application.CouchDb = false
 has_own_dollar application.Grafana = false
 has_own_dollar application.MySql = false
+has_own_dollar application.Gitea = false
 
 -- an application's own texts have colons
 abbrev pub application_has_colons : Application → Bool
@@ -40,6 +43,7 @@ application_has_colons application.HomeAssistant = false
 application_has_colons application.CouchDb = false
 application_has_colons application.Grafana = true
 application_has_colons application.MySql = false
+application_has_colons application.Gitea = true
 
 -- a text of an application; one that begins with `$` is a stored text already, but where the application has such texts of its own
 unfoldable pub of_application : Application → List ℕ → Answer
@@ -62,6 +66,7 @@ is_clear_of application.HomeAssistant = false
 is_clear_of application.CouchDb = true
 is_clear_of application.Grafana = false
 is_clear_of application.MySql = true
+is_clear_of application.Gitea = false
 
 abbrev pub has_clear_texts : makers.Maker → Bool
 has_clear_texts (maker.Foreign f) = foreign.has_clear_texts f

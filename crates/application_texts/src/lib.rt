@@ -5,6 +5,7 @@
 #![tactic(auto)]
 
 mod couchdb;
+mod gitea;
 mod grafana;
 mod home_assistant;
 mod jenkins;

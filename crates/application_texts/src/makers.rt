@@ -6,6 +6,7 @@ ghost use Rattle.application_texts.specs.Makers.{application_has_colons, by_appl
 ghost use Rattle.application_texts.specs.Makers.{of_application, read_by};
 
 use crate::couchdb::couchdb;
+use crate::gitea::gitea;
 use crate::grafana::grafana;
 use crate::home_assistant::home_assistant;
 use crate::jenkins::jenkins;
@@ -29,6 +30,8 @@ pub enum Application {
     Grafana,
     /// MySQL: the bytes of caching_sha2_password's `$A$005$` with salt and hash in hexadecimal digits, with or without `0x` before them.
     MySql,
+    /// Gitea and Forgejo: `ALGORITHM:KEY:SALT` with PBKDF2, scrypt or bcrypt; Argon2's aren't read.
+    Gitea,
 }
 
 impl Application {
@@ -47,7 +50,7 @@ impl Application {
         ensures { result ≡ application_has_colons self }
     {
         match self {
-            Application::Jenkins | Application::Grafana => true,
+            Application::Jenkins | Application::Grafana | Application::Gitea => true,
             _ => false,
         }
     }
@@ -110,6 +113,7 @@ fn by_application<'a>(
         Application::CouchDb => couchdb(text, made),
         Application::Grafana => grafana(text, made),
         Application::MySql => mysql(text, made),
+        Application::Gitea => gitea(text, made),
     }
 }
 

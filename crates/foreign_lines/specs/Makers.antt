@@ -30,6 +30,7 @@ application_name application.HomeAssistant = codes "home-assistant"
 application_name application.CouchDb = codes "couchdb"
 application_name application.Grafana = codes "grafana"
 application_name application.MySql = codes "mysql"
+application_name application.Gitea = codes "gitea"
 
 abbrev pub maker_name : Maker → List ℕ
 maker_name (maker.Foreign f) = foreign_name f

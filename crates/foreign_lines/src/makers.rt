@@ -28,6 +28,7 @@ pub const MAKERS: &[&str] = &[
     "couchdb",
     "grafana",
     "mysql",
+    "gitea",
 ];
 
 // The maker of `foreign_text` that has a name.
@@ -64,6 +65,7 @@ fn application_named(name: &str) -> Option<Application>
         "couchdb" => Some(Application::CouchDb),
         "grafana" => Some(Application::Grafana),
         "mysql" => Some(Application::MySql),
+        "gitea" => Some(Application::Gitea),
         _ => None,
     }
 }

@@ -8,7 +8,7 @@ use line_io::{Failed, MemorySource, Source};
 use std::test::Fail;
 
 // Lines of a maker, and the lines that are given for them.
-const LINES: [(Maker, &[u8], &[u8]); 11] = [
+const LINES: [(Maker, &[u8], &[u8]); 12] = [
     // A line that has no text, or one that isn't converted, gives an empty one; no field after the text is kept.
     (
         Maker::Foreign(Foreign::Django),
@@ -75,6 +75,11 @@ const LINES: [(Maker, &[u8], &[u8]); 11] = [
         Maker::Application(Application::MySql),
         b"ann:0x244124303035242a7a143354070a6a450d2f4b0875411c050c383659354d664e394f3749794856716a414537432e386b7048704e4c396f546c465854324d5179357734594930\nbob:244124303035242A7A143354070A6A450D2F4B0875411C050C383659354D664E394F3749794856716A414537432E386B7048704E4C396F546C465854324D5179357734594930\ncarl:244124303035242a7a143354070a6a450d2f4b0875411c050c383659354d664e394f3749794856716a414537432e386b7048704e4c396f546c465854324d51793577345949300\n",
         b"ann:$mysql$A$005*2A7A143354070A6A450D2F4B0875411C050C3836*59354D664E394F3749794856716A414537432E386B7048704E4C396F546C465854324D5179357734594930\nbob:$mysql$A$005*2A7A143354070A6A450D2F4B0875411C050C3836*59354D664E394F3749794856716A414537432E386B7048704E4C396F546C465854324D5179357734594930\n\n",
+    ),
+    (
+        Maker::Application(Application::Gitea),
+        b"ann:pbkdf2$7$32:3fdf0ad2b32fccca5795b91dd7e36a96c2ae5ca86352879964c4482d5b738efc:saltsaltsa\nbob:argon2:3fdf0ad2b32fccca5795b91dd7e36a96c2ae5ca86352879964c4482d5b738efc:saltsaltsa\n",
+        b"ann:$pbkdf2-sha256$i=7$c2FsdHNhbHRzYQ$P98K0rMvzMpXlbkd1+NqlsKuXKhjUoeZZMRILVtzjvw\n\n",
     ),
 ];
 

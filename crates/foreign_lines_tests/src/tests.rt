@@ -209,7 +209,7 @@ fn users_read_first(rt: HostRuntime) -> Result<(), Fail> {
 }
 
 // A user's text goes on to the end of the line where the maker's texts have colons. The keys are hashlib's.
-const WITH_COLONS: [(Maker, &[u8], &[u8]); 9] = [
+const WITH_COLONS: [(Maker, &[u8], &[u8]); 10] = [
     (
         Maker::Foreign(Foreign::Werkzeug),
         b"ann:pbkdf2:sha256:7$saltsalt$fdd683fab6b91733300fb18384a4ceff79246d4f1aaa54fd81b44ff5eedb1ed7\nbob:pbkdf2:sha256:7$saltsalt$fdd683fab6b91733300fb18384a4ceff79246d4f1aaa54fd81b44ff5eedb1ed7\n",
@@ -255,6 +255,11 @@ const WITH_COLONS: [(Maker, &[u8], &[u8]); 9] = [
         Maker::Application(Application::MySql),
         b"ann:*2470C0C06DEE42FD1618BB99005ADCA2EC9D1E19\nbob:244124:x\n",
         b"ann\tunsupported-sha1\nbob\tforeign-form\n",
+    ),
+    (
+        Maker::Application(Application::Gitea),
+        b"ann:pbkdf2$7$32:3fdf0ad2b32fccca5795b91dd7e36a96c2ae5ca86352879964c4482d5b738efc:saltsaltsa\nbob:pbkdf2$7$32:3fdf0ad2b32fccca5795b91dd7e36a96c2ae5ca86352879964c4482d5b738efc:saltsaltsa\neve:argon2:00:x\n",
+        b"ann\tmatch\nbob\tmismatch\neve\tunsupported-scheme\n",
     ),
 ];
 

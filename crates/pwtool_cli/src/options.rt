@@ -26,6 +26,7 @@ const LINE_MAKERS: &[&str] = &[
     "couchdb",
     "grafana",
     "mysql",
+    "gitea",
 ];
 
 /// A form without its words: its name, what it does, and what is after the options in its help.
