@@ -6,4 +6,8 @@
 #[cfg(test)]
 mod fault_tests;
 #[cfg(test)]
+mod gitea_tests;
+#[cfg(test)]
+mod mysql_tests;
+#[cfg(test)]
 mod tests;
